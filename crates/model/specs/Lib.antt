@@ -1,0 +1,5 @@
+pub mod Stages
+pub mod States
+pub mod Actions
+pub mod Answers
+pub mod Facts

@@ -1,0 +1,54 @@
+// The declared types of the lock. What they mean, and every definition that a contract cites, stands in `specs/`,
+// one file for each section of document 01; this crate has no function.
+
+// A place of document 01. The six timed locations carry the time since which the process is there, its arrival.
+pub enum Location {
+    Remainder,
+    Testing(u64),
+    Setting(u64),
+    Checking(u64),
+    Entering(u64),
+    // "selling"
+    Critical,
+    Resetting(u64),
+    Leaving(u64),
+}
+
+// A window entry.
+pub struct Process {
+    pub location: Location,
+}
+
+// The table of windows: process p, from 1, has the entry p - 1.
+pub struct State {
+    // how many of the entries are processes
+    pub n: u64,
+    // the limits: a step takes at most a, but a check at least b and at most c
+    pub a: u64,
+    pub b: u64,
+    pub c: u64,
+    pub clock: u64,
+    // the shared word: 0 where it is free, else a process
+    pub word: u64,
+    pub processes: [Process; 96],
+}
+
+// A row of the acts table at a state, a process and a time: the stage that it leaves, where it leads, and the word after it.
+pub struct Transition {
+    pub from: u64,
+    pub to: Location,
+    pub word: u64,
+}
+
+// An answer of the box: its number, a window and a moment.
+pub struct Answer {
+    pub code: u64,
+    pub process: u64,
+    pub time: u64,
+}
+
+// What a call gives back.
+pub struct Outcome {
+    pub answer: Answer,
+    pub state: State,
+}

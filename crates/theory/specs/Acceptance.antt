@@ -1,0 +1,84 @@
+-- Which acts the algorithm allows, in plain facts, and what they change: the acts table as two relations, its columns "From"
+-- and "Effect". `stepOf` accepts exactly these, and a refused step gives the state back. Assumes nothing.
+use Prim.Native.Nat.{ℕ, _+_, _≤_}
+use mathlib.Core.Path.{_≡_}
+use mathlib.Core.Logic.{_⊎_, _≢_, _↔_}
+use mathlib.Core.Bool.{true}
+use lib.ListN.{length}
+use Rattle.model.specs.declared.Location.{Location}
+use Rattle.model.specs.declared.Location.the-variants.{Remainder, Testing, Setting, Checking, Entering, Critical, Resetting, Leaving}
+use Rattle.model.specs.declared.State.{State}
+use Rattle.model.specs.States.{lastTime, entryOf, soundOf}
+use Rattle.model.specs.Answers.{stepOf}
+use Rattle.model.specs.Facts.{Accepted, HasDeadline}
+
+-- The column "From": the acts that a process may take in a location at the time m. Only a check waits for its earliest moment.
+pub data From (b m : ℕ) : ℕ → Location → Type 0 where
+  try : From b m 1 Remainder
+  test : {t : ℕ} → From b m 2 (Testing t)
+  set : {t : ℕ} → From b m 3 (Setting t)
+  check : {t : ℕ} → t + b ≤ m → From b m 4 (Checking t)
+  crit : {t : ℕ} → From b m 5 (Entering t)
+  exit : From b m 6 Critical
+  reset : {t : ℕ} → From b m 7 (Resetting t)
+  rem : {t : ℕ} → From b m 8 (Leaving t)
+
+-- The column "Effect": where an act of process p at the time m leads at the word w, and the word after it.
+pub data Effect (p m : ℕ) : ℕ → ℕ → Location → ℕ → Type 0 where
+  try : {w : ℕ} → Effect p m 1 w (Testing m) w
+  test-free : Effect p m 2 0 (Setting m) 0
+  test-taken : {w : ℕ} → w ≢ 0 → Effect p m 2 w (Testing m) w
+  set : {w : ℕ} → Effect p m 3 w (Checking m) p
+  check-own : Effect p m 4 p (Entering m) p
+  check-other : {w : ℕ} → w ≢ p → Effect p m 4 w (Testing m) w
+  crit : {w : ℕ} → Effect p m 5 w Critical w
+  exit : {w : ℕ} → Effect p m 6 w (Resetting m) w
+  reset : {w : ℕ} → Effect p m 7 w (Leaving m) 0
+  rem : {w : ℕ} → Effect p m 8 w Remainder w
+
+-- a wait, which is of no process
+pub record Waits (act p : ℕ) : Type 0 where
+  pub wait : act ≡ 0
+  pub nobody : p ≡ 0
+
+-- a process from 1 to n in the act's place
+pub record Acts (s : State) (act p m : ℕ) : Type 0 where
+  pub some : 1 ≤ p
+  pub most : p ≤ s .n
+  pub from : From (s .b) m act (entryOf s p .location)
+
+-- the algorithm allows the act of process p at the time m
+pub record Allowed (s : State) (act p m : ℕ) : Type 0 where
+  pub forward : s .clock ≤ m
+  pub within : m ≤ lastTime
+  -- no process is late, whoever acts
+  pub in-time : (i d : ℕ) → HasDeadline s i d → m ≤ d
+  pub turn : Waits act p ⊎ Acts s act p m
+
+abbrev pub AcceptedIffAllowed : Type 0
+AcceptedIffAllowed = (s : State) → soundOf s ≡ true → (act p m : ℕ) → Accepted (stepOf s act p m) ↔ Allowed s act p m
+
+-- s′ is s after the act of process p at the time m: it differs in the clock, in p's entry and in the word only
+pub record Changed (s : State) (act p m : ℕ) (s′ : State) : Type 0 where
+  pub n-stays : s′ .n ≡ s .n
+  pub a-stays : s′ .a ≡ s .a
+  pub b-stays : s′ .b ≡ s .b
+  pub c-stays : s′ .c ≡ s .c
+  pub size-stays : length (s′ .processes) ≡ length (s .processes)
+  pub clock-is : s′ .clock ≡ m
+  pub others-stay : (i : ℕ) → 1 ≤ i → i ≢ p → entryOf s′ i ≡ entryOf s i
+  pub wait-keeps : act ≡ 0 → s′ .word ≡ s .word
+  pub effect : 1 ≤ act → Effect p m act (s .word) (entryOf s′ p .location) (s′ .word)
+
+-- for a state of 96 entries, as each of the code is
+abbrev pub NextIsChanged : Type 0
+NextIsChanged = (s : State) → length (s .processes) ≡ 96 → (act p m : ℕ) → Accepted (stepOf s act p m)
+    → Changed s act p m (stepOf s act p m .state)
+
+-- "A refusal leaves the table [..] unchanged"
+abbrev pub RefusedStays : Type 0
+RefusedStays = (s : State) (act p m : ℕ) → stepOf s act p m .answer .code ≢ 0 → stepOf s act p m .state ≡ s
+
+-- "A wait at the clock's own moment changes nothing in the table."
+abbrev pub WaitNowChangesNothing : Type 0
+WaitNowChangesNothing = (s : State) → stepOf s 0 0 (s .clock) .state ≡ s

@@ -1,0 +1,40 @@
+-- Answer 8: it names the smallest missed deadline and the lowest process that has it, and it is given exactly where one is
+-- missed and none of 1 to 7 applies. Assumes nothing.
+use Prim.Native.Nat.{ℕ, _≤_, _<_}
+use mathlib.Core.Path.{_≡_}
+use mathlib.Core.Logic.{_≢_, _↔_}
+use mathlib.Core.Bool.{true, false}
+use Rattle.model.specs.declared.State.{State}
+use Rattle.model.specs.States.{soundOf}
+use Rattle.model.specs.Answers.{backward, beyond, unknown, misnamed, lateOf, stepOf}
+use Rattle.model.specs.Facts.{HasDeadline}
+
+-- "the smallest such, then the lowest window": process p has missed the deadline d at the time m
+pub record FirstMissed (s : State) (m p d : ℕ) : Type 0 where
+  pub has : HasDeadline s p d
+  pub missed : d < m
+  pub smallest : (i e : ℕ) → HasDeadline s i e → d ≤ e
+  pub lowest : (i : ℕ) → HasDeadline s i d → p ≤ i
+
+abbrev pub LateNamesTheFirst : Type 0
+LateNamesTheFirst = (s : State) (act p m : ℕ) → stepOf s act p m .answer .code ≡ 8
+    → FirstMissed s m (stepOf s act p m .answer .process) (stepOf s act p m .answer .time)
+
+-- every deadline is kept at the time m
+abbrev pub AllInTime : State → ℕ → Type 0
+AllInTime s m = (i d : ℕ) → HasDeadline s i d → m ≤ d
+
+-- the search finds none exactly where every deadline is kept
+abbrev pub NoneFoundIffAllInTime : Type 0
+NoneFoundIffAllInTime = (s : State) (m : ℕ) → (lateOf s m .code ≢ 8) ↔ AllInTime s m
+
+-- none of the answers 1 to 7 applies
+pub record Due (s : State) (act p m : ℕ) : Type 0 where
+  pub sound : soundOf s ≡ true
+  pub forward : backward s m ≡ false
+  pub within : beyond m ≡ false
+  pub known : unknown act ≡ false
+  pub named : misnamed s act p ≡ false
+
+abbrev pub NotLateIffAllInTime : Type 0
+NotLateIffAllInTime = (s : State) (act p m : ℕ) → Due s act p m → (stepOf s act p m .answer .code ≢ 8) ↔ AllInTime s m

@@ -1,0 +1,4 @@
+pub mod Soundness
+pub mod Acceptance
+pub mod Lateness
+pub mod Lowest
