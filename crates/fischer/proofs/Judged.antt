@@ -1,0 +1,188 @@
+-- The step of the model goes with the answer that the code judges on numbers, condition by condition; and the two exits of the
+-- function give that step. Assumes nothing.
+use Prim.Native.Nat.{ℕ, _+_, _-_, _≤_, _<_}
+use mathlib.Core.Path.{_≡_, refl, sym, ap, _∙_}
+use mathlib.Core.Logic.{_≢_}
+use mathlib.Core.Bool.{Bool, true, false, cond, not, _&&_, _||_}
+use mathlib.Core.List.{List}
+use native.Mathlib.Omega.{arith}
+use lib.Dec.{leb, ltb, eqb}
+use lib.ListN.{length, getD, set}
+use lib.Seq.{set-getD}
+use borrow.Author.Tests.{ltb-false, leb-true, lt-ltb, le-ltb, eq-eqb, ne-eqb, eqb-true, eqb-false, not-false}
+use Rattle.model.specs.declared.Location.{Location}
+use Rattle.model.specs.declared.Process.{Process}
+use Rattle.model.specs.declared.State.{State}
+use Rattle.model.specs.declared.Transition.{Transition}
+use Rattle.model.specs.declared.Answer.{Answer}
+use Rattle.model.specs.declared.Outcome.{Outcome}
+use Rattle.model.specs.Stages.{checking}
+use Rattle.model.specs.States.{idle, stageOf, sinceOf, release, soundOf, entryOf}
+use Rattle.model.specs.Actions.{row, transitionOf, changed, waited, moved, effect}
+use Rattle.model.specs.Answers.{answerOf, answers, backward, beyond, unknown, misnamed, lateOf, misplaced, early, criticalOf, accepts, stepOf}
+use Rattle.fischer.specs.declared.survey.Survey.{Survey}
+use Rattle.fischer.specs.Survey.{numbersOf}
+use Rattle.fischer.specs.Judging.{lowestOf, turnJudged, judged}
+use Rattle.model.proofs.Soundness.{sound-count}
+use Rattle.model.proofs.Tests.{by-test, if-eq, and-left, or-left, or-right}
+use Rattle.fischer.proofs.Critical.{othersFrom, others-all, others-moved}
+use Rattle.fischer.proofs.Pass.{Whole, Surveyed, faulty, whole}
+
+-- The outcome o of the model goes with the answer j of the code
+pub data Goes (s : State) (act p m : ℕ) (o : Outcome) (j : Answer) : Type 0 where
+  refuses : o ≡ record { answer = j; state = s } → j .code ≢ 0 → Goes s act p m o j
+  waits : act ≡ 0 → p ≡ 0 → o ≡ record { answer = j; state = waited s m } → j .code ≡ 0 → Goes s act p m o j
+  moves : 1 ≤ act → act ≤ 8 → 1 ≤ p → p ≤ 96 → o ≡ record { answer = j; state = moved s p m (transitionOf s act p m) } → j .code ≡ 0
+      → Goes s act p m o j
+
+by-cond : {s : State} {act p m : ℕ} {o o′ : Outcome} {j j′ : Answer} (t u : Bool) → t ≡ u
+    → (u ≡ true → Goes s act p m o j) → (u ≡ false → Goes s act p m o′ j′) → Goes s act p m (cond t o o′) (cond u j j′)
+by-cond t true e f g = rw e (f refl)
+by-cond t false e f g = rw e (g refl)
+
+-- A refusal names itself
+refusal : {s : State} {act p m : ℕ} {j : Answer} → j .code ≢ 0 → Goes s act p m (record { answer = j; state = s }) j
+refusal n = refuses refl n
+
+module _ (s : State) (act p m : ℕ) (f : Survey) (found : Whole s p m f) (size : length (s .processes) ≡ 96) where
+  -- An action of a process from 1 to 96 that nobody is late for
+
+  module _ (some : 1 ≤ act) (known : act ≤ 8) (from : 1 ≤ p) (to : p ≤ 96) where
+    moves-on : Goes s act p m (accepts (effect s act p m)) (answerOf 0 (lowestOf (f .critical) p (transitionOf s act p m .to)) m)
+    unfolding effect criticalOf
+    moves-on = rw (ne-eqb act 0 (λ z. omega arith))
+        (moves some known from to
+        (rw (others-moved p 1 (s .processes) (p - 1) (transitionOf s act p m .to) (omega arith) (omega arith) (omega arith), found .critical))
+        refl)
+
+    -- a check leaves checking, and there its release is b after its arrival
+    check-from : act ≡ 4 → transitionOf s act p m .from ≡ checking
+    unfolding transitionOf
+    check-from e = rw e
+
+    module _ (placed : stageOf (entryOf s p .location) ≡ transitionOf s act p m .from) where
+      check-release : act ≡ 4 → release s (entryOf s p) ≡ sinceOf (entryOf s p .location) + s .b
+      check-release e = simp (eq-eqb (stageOf (entryOf s p .location)) checking (placed ∙ check-from e))
+
+      early-is : early s act p m ≡ eqb act 4 && ltb m (sinceOf (entryOf s p .location) + s .b)
+      early-is = by-test (eqb act 4) (λ e. rw (check-release (eqb-true act 4 e))) (λ e. simp e)
+
+    turn-goes : Goes s act p m
+        (cond (misplaced s act p m) (answers 9 p 0 s)
+        (cond (early s act p m) (answers 10 p (release s (entryOf s p)) s) (accepts (effect s act p m))))
+        (turnJudged (f .critical) (s .b) (entryOf s p .location) (transitionOf s act p m) act p m)
+    unfolding turnJudged
+    turn-goes =
+        by-cond (misplaced s act p m) _ (simp (ne-eqb act 0 (λ z. omega arith))) (λ _. refusal (λ z. omega arith))
+        (λ e. let placed : stageOf (entryOf s p .location) ≡ transitionOf s act p m .from = eqb-true _ _ (not-false _ e) in
+        by-cond (early s act p m) _ (early-is placed)
+        (λ h. rw (check-release placed (eqb-true act 4 (and-left _ _ h))) (refusal (λ z. omega arith)))
+        (λ _. moves-on))
+
+  -- The conditions in their order
+
+  late-is : eqb (lateOf s m .code) 8 ≡ ltb (f .left) (m - s .clock)
+  late-is = rw (found .late) (by-test (ltb (f .left) (m - s .clock)) (λ e. simp e) (λ e. simp e))
+
+  late-goes : ltb (f .left) (m - s .clock) ≡ true
+      → Goes s act p m (record { answer = lateOf s m; state = s }) (answerOf 8 (f .process) (s .clock + f .left))
+  late-goes e = refuses (rw (found .late) (simp e)) (λ z. omega arith)
+
+  wait-goes : act ≡ 0 → p ≡ 0 → Goes s act p m (accepts (effect s act p m)) (answerOf 0 (f .critical) m)
+  unfolding effect criticalOf
+  wait-goes e z = rw (eq-eqb act 0 e) (waits e z (rw (others-all p 1 (s .processes) (omega arith), found .critical)) refl)
+
+  module _ (own : Location) (t : Transition)
+      (own-is : 1 ≤ p → p ≤ 96 → own ≡ entryOf s p .location)
+      (t-is : 1 ≤ act → act ≤ 8 → t ≡ transitionOf s act p m)
+      (few : s .n ≤ 96) where
+    -- past the refusals up to 8: a wait, or an action of a process
+    past-late : act ≤ 8 → misnamed s act p ≡ false → Goes s act p m
+        (cond (misplaced s act p m) (answers 9 p 0 s)
+        (cond (early s act p m) (answers 10 p (release s (entryOf s p)) s) (accepts (effect s act p m))))
+        (cond (eqb act 0) (answerOf 0 (f .critical) m) (turnJudged (f .critical) (s .b) own t act p m))
+    past-late known named = if-eq act 0
+        (λ e. rw (eq-eqb act 0 e, ne-eqb act 4 (λ (q : act ≡ 4). omega arith))
+        (wait-goes e (eqb-true p 0 (not-false (eqb p 0) (rw (eq-eqb act 0 e) at named)))))
+        (λ n. acts (omega arith) (rw (ne-eqb act 0 n) at named))
+      where
+        acts : 1 ≤ act → eqb p 0 || ltb (s .n) p ≡ false → Goes s act p m
+            (cond (misplaced s act p m) (answers 9 p 0 s)
+            (cond (early s act p m) (answers 10 p (release s (entryOf s p)) s) (accepts (effect s act p m))))
+            (cond (eqb act 0) (answerOf 0 (f .critical) m) (turnJudged (f .critical) (s .b) own t act p m))
+        acts some h =
+            let z : p ≡ 0 → ⊥ = eqb-false p 0 (or-left (eqb p 0) (ltb (s .n) p) h) in
+            let from : 1 ≤ p = omega arith in
+            let to : p ≤ 96 = omega (arith, ltb-false (s .n) p (or-right (eqb p 0) (ltb (s .n) p) h)) in
+            let n : eqb act 0 ≡ false = ne-eqb act 0 (λ (q : act ≡ 0). omega arith) in
+            rw (n, own-is from to, t-is some known) (rw n at (turn-goes some known from to))
+
+    -- the answers table, row by row
+    sound-goes : Goes s act p m (stepOf s act p m) (judged f (numbersOf s) own t act p m)
+    unfolding stepOf judged
+    sound-goes =
+        by-cond (not (soundOf s)) (not (eqb (f .faults) 0)) (ap not (found .sound ∙ sym (eq-eqb _ 0 (found .none))))
+        (λ _. refusal (λ z. omega arith))
+        (λ _. by-cond (backward s m) _ refl (λ _. refusal (λ z. omega arith))
+        (λ _. by-cond (beyond m) _ refl (λ _. refusal (λ z. omega arith))
+        (λ _. by-cond (unknown act) _ refl (λ _. refusal (λ z. omega arith))
+        (λ known. by-cond (misnamed s act p) _ refl (λ _. refusal (λ z. omega arith))
+        (λ named. by-cond (eqb (lateOf s m .code) 8) _ late-is late-goes
+        (λ _. past-late (ltb-false 8 act known) named))))))
+
+unsound-goes : (s : State) (act p m : ℕ) (f : Survey) (own : Location) (t : Transition) → soundOf s ≡ false → f .faults ≢ 0
+    → Goes s act p m (stepOf s act p m) (judged f (numbersOf s) own t act p m)
+unfolding stepOf judged
+unsound-goes s act p m f own t e n = rw (e, ne-eqb (f .faults) 0 n) (refusal (λ z. omega arith))
+
+pub goes : (s : State) (act p m : ℕ) (f : Survey) (own : Location) (t : Transition)
+    → Surveyed s p m f → length (s .processes) ≡ 96
+    → (1 ≤ p → p ≤ 96 → own ≡ entryOf s p .location) → (1 ≤ act → act ≤ 8 → t ≡ transitionOf s act p m)
+    → Goes s act p m (stepOf s act p m) (judged f (numbersOf s) own t act p m)
+goes s act p m f own t (faulty e n) size own-is t-is = unsound-goes s act p m f own t e n
+goes s act p m f own t (whole w) size own-is t-is = sound-goes s act p m f w size own t own-is t-is (sound-count s (w .sound))
+
+-- The exits of the function
+
+-- the transition that the function takes: none for a wait and for an unknown action
+unfoldable pub chosen : State → Location → ℕ → ℕ → ℕ → Transition
+chosen s own act p m = cond (eqb act 0 || ltb 8 act) (row (stageOf own) own (s .word)) (transitionOf s act p m)
+
+pub chosen-known : (s : State) (own : Location) (act p m : ℕ) → 1 ≤ act → act ≤ 8 → chosen s own act p m ≡ transitionOf s act p m
+unfolding chosen
+chosen-known s own act p m some known = rw (ne-eqb act 0 (λ z. omega arith), le-ltb 8 act known)
+
+chosen-wait : (s : State) (own : Location) (act p m : ℕ) → act ≡ 0 → chosen s own act p m ≡ row (stageOf own) own (s .word)
+unfolding chosen
+chosen-wait s own act p m e = rw (eq-eqb act 0 e)
+
+pub chosen-unknown : (s : State) (own : Location) (act p m : ℕ) → 8 < act → chosen s own act p m ≡ row (stageOf own) own (s .word)
+unfolding chosen
+chosen-unknown s own act p m h = rw (ne-eqb act 0 (λ z. omega arith), lt-ltb 8 act h)
+
+pub exit-refused : (s : State) (act p m : ℕ) (o : Outcome) (j : Answer) → Goes s act p m o j → j .code ≢ 0
+    → record { answer = j; state = s } ≡ o
+exit-refused s act p m o j (refuses e n) h = sym e
+exit-refused s act p m o j (waits a z e h′) h = absurd (h h′)
+exit-refused s act p m o j (moves some known from to e h′) h = absurd (h h′)
+
+module _ (s : State) (act p m slot : ℕ) (own : Location) (t : Transition) (o : Outcome) (j : Answer)
+    (slot-is : p ≤ 96 → slot ≡ p - 1) (own-is : own ≡ getD (s .processes) slot idle .location) (t-is : t ≡ chosen s own act p m) where
+  -- the state is changed in place
+  abbrev stored : State
+  stored = record {
+    n = s .n;
+    a = s .a;
+    b = s .b;
+    c = s .c;
+    clock = m;
+    word = t .word;
+    processes = set (s .processes) slot (record { location = t .to });
+  }
+
+  pub exit-accepted : Goes s act p m o j → j .code ≡ 0 → record { answer = j; state = stored } ≡ o
+  exit-accepted (refuses e n) h = absurd (n h)
+  exit-accepted (waits a z e h′) h =
+      rw (t-is, chosen-wait s own act p m a, own-is)
+      (ap (λ (l : List Process). record { answer = j; state = changed s m (s .word) l }) (set-getD (s .processes) slot idle) ∙ sym e)
+  exit-accepted (moves some known from to e h′) h = rw (t-is, chosen-known s own act p m some known, slot-is to) (sym e)

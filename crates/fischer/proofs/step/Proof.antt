@@ -1,0 +1,248 @@
+use Prim.Native.Nat.{ℕ, _+_, _-_, _≤_, _<_}
+use mathlib.Core.Path.{_≡_, refl, sym, ap, _∙_}
+use mathlib.Core.Logic.{⊎-elim}
+use native.Mathlib.Omega.{arith}
+use borrow.Author.Needs.{needs}
+use lib.ListN.{length, getD}
+use Rattle.model.specs.declared.Location.{Location}
+use Rattle.model.specs.declared.Process.{Process}
+use Rattle.model.specs.States.{idle, entryOf}
+use Rattle.model.specs.Stages.{testing, checking}
+use Rattle.model.specs.Actions.{row, transitionOf}
+use Rattle.model.specs.Answers.{stepOf}
+use Rattle.fischer.specs.Survey.{numbersOf}
+use Rattle.fischer.specs.Judging.{judged}
+use Rattle.fischer.proofs.Laws.{length-mapped, none-below}
+use Rattle.fischer.proofs.Pass.{Passed, Surveyed, faulty, whole, open-fault, open-passed, turn-fault, turn-passed, passed-whole, surveyed-fits}
+use Rattle.fischer.proofs.Judged.{Goes, chosen, chosen-known, chosen-unknown, goes, exit-refused, exit-accepted}
+use Rattle.fischer.proofs.step.Statement.{statement}
+use Rattle.fischer.proofs.step.Tie as tie
+use Rattle.fischer.proofs.step.Reads as reads
+use Rattle.fischer.proofs.step.Lts as lts
+use Rattle.fischer.proofs.actions.checked.Reads as checked-reads
+use Rattle.fischer.proofs.actions.row.Reads as row-reads
+use Rattle.fischer.proofs.actions.stay.Reads as stay-reads
+use Rattle.fischer.proofs.actions.tested.Reads as tested-reads
+use Rattle.fischer.proofs.answers.judge.Reads as judge-reads
+use Rattle.fischer.proofs.slot_of.Reads as slot-of-reads
+use Rattle.fischer.proofs.survey.note.Reads as note-reads
+use Rattle.fischer.proofs.survey.open.Reads as open-reads
+
+abbrev Inv-loop : tie.InvT-loop
+Inv-loop action process time state numbers found₀ i₀ found i = Passed state process time i found
+
+abbrev μ-loop : tie.MeasureT-loop
+μ-loop action process time state numbers found₀ i₀ found i = 96 - i
+
+-- src/lib.rt:87:9
+open-requires : tie.Need-open-requires Inv-loop μ-loop
+open-requires c κs = search needs
+
+-- src/lib.rt:90:9
+loop-holds : tie.Need-loop-holds Inv-loop μ-loop
+loop-holds c =
+    open-passed (c .before .before .before .args .t1) (c .before .before .before .args .process) (c .before .before .before .args .time)
+    (c .before .before .«open» .result) (c .before .before .«open» .ensures) (search (needs, length-mapped)) (search needs) (c .if1 .taken)
+
+-- src/lib.rt:91:25
+mul-entry : tie.Need-mul-entry Inv-loop μ-loop
+mul-entry c = search needs
+
+-- src/lib.rt:91:25
+element-copy-out-entry : tie.Need-element-copy-out-entry Inv-loop μ-loop
+element-copy-out-entry c = search needs
+
+-- src/lib.rt:93:59
+add-note : tie.Need-add-note Inv-loop μ-loop
+add-note c = search needs
+
+-- src/lib.rt:93:13
+note-requires : tie.Need-note-requires Inv-loop μ-loop
+note-requires c κs = search needs
+
+-- src/lib.rt:97:13
+add-i : tie.Need-add-i Inv-loop μ-loop
+add-i c = search needs
+
+-- src/lib.rt:90:9
+loop-less : tie.Need-loop-less Inv-loop μ-loop
+loop-less c = search needs
+
+-- src/lib.rt:90:9
+loop-again : tie.Need-loop-again Inv-loop μ-loop
+loop-again c =
+    let a = c .before .before .before .before .before .before .before .before .before .args in
+    let v = c .before .before .before .before .before .loop in
+    turn-passed (a .t1) (a .process) (a .time) (v .i) (v .found) (v .inv) (c .before .before .before .before .loop-test .taken)
+    idle (c .before .before .note .result) (c .before .before .note .ensures) (c .if2 .left)
+
+-- src/lib.rt:100:9
+slot-of-requires : tie.Need-slot-of-requires Inv-loop μ-loop
+slot-of-requires c κs = search needs
+
+-- src/lib.rt:101:21
+mul-own-entry : tie.Need-mul-own-entry Inv-loop μ-loop
+mul-own-entry c = search needs
+
+-- src/lib.rt:101:21
+element-copy-out-own-entry : tie.Need-element-copy-out-own-entry Inv-loop μ-loop
+element-copy-out-own-entry c = search needs
+
+-- src/lib.rt:105:14
+stay-requires : tie.Need-stay-requires Inv-loop μ-loop
+stay-requires c κs = search needs
+
+-- src/lib.rt:106:14
+row-requires : tie.Need-row-requires Inv-loop μ-loop
+row-requires c κs = search needs
+
+-- src/lib.rt:107:44
+tested-requires : tie.Need-tested-requires Inv-loop μ-loop
+tested-requires c κs = search needs
+
+-- src/lib.rt:107:14
+row-requires-2 : tie.Need-row-requires-2 Inv-loop μ-loop
+row-requires-2 c κs = search needs
+
+-- src/lib.rt:108:14
+row-requires-3 : tie.Need-row-requires-3 Inv-loop μ-loop
+row-requires-3 c κs = search needs
+
+-- src/lib.rt:109:45
+checked-requires : tie.Need-checked-requires Inv-loop μ-loop
+checked-requires c κs = search needs
+
+-- src/lib.rt:109:14
+row-requires-4 : tie.Need-row-requires-4 Inv-loop μ-loop
+row-requires-4 c κs = search needs
+
+-- src/lib.rt:110:14
+row-requires-5 : tie.Need-row-requires-5 Inv-loop μ-loop
+row-requires-5 c κs = search needs
+
+-- src/lib.rt:111:14
+row-requires-6 : tie.Need-row-requires-6 Inv-loop μ-loop
+row-requires-6 c κs = search needs
+
+-- src/lib.rt:112:14
+row-requires-7 : tie.Need-row-requires-7 Inv-loop μ-loop
+row-requires-7 c κs = search needs
+
+-- src/lib.rt:113:14
+row-requires-8 : tie.Need-row-requires-8 Inv-loop μ-loop
+row-requires-8 c κs = search needs
+
+-- src/lib.rt:114:37
+stay-requires-2 : tie.Need-stay-requires-2 Inv-loop μ-loop
+stay-requires-2 c κs = search needs
+
+-- what the pass told, where its ways out and the numbers that do not stand meet
+surveyed : (c : tie.Joined1 Inv-loop μ-loop)
+    → Surveyed (c .before .before .before .args .t1) (c .before .before .before .args .process) (c .before .before .before .args .time) (c .if1 .found)
+surveyed c =
+    let a = c .before .before .before .args in
+    ⊎-elim (λ w. rw (w .3) (whole (passed-whole (a .t1) (a .process) (a .time) (w .1 .i) (w .1 .found) (w .1 .inv) (w .2 .left))))
+    (⊎-elim (λ w. rw (w .7) (faulty (turn-fault (a .t1) (a .process) (a .time) (w .1 .i) (w .1 .found) (w .1 .inv) (w .2 .taken)
+    idle (w .4 .result) (w .4 .ensures) (w .6 .taken)) (w .6 .taken)))
+    (λ w. rw (w .1) (faulty (open-fault (a .t1) (a .process) (a .time) (c .before .before .«open» .result) (c .before .before .«open» .ensures) (w .0 .left)) (w .0 .left))))
+    (c .if1 .came)
+
+-- the acting process's location
+own : tie.After-own-entry Inv-loop μ-loop → Location
+own c = getD (c .before .before .before .before .before .args .t1 .processes) (c .before .slot-of .result) idle .location
+
+-- the transition, where the arms of the match on the action meet
+is-chosen : (c : tie.At-match-came Inv-loop μ-loop)
+    → (let a = c .before .before .before .before .before .before .args in
+    c .match .transition ≡ chosen (a .t1) (own (c .before)) (a .action) (a .process) (a .time))
+unfolding own chosen transitionOf
+is-chosen c =
+    let a = c .before .before .before .before .before .before .args in
+    let at : (k : ℕ) → a .action ≡ k → chosen (a .t1) (own (c .before)) k (a .process) (a .time) ≡ chosen (a .t1) (own (c .before)) (a .action) (a .process) (a .time) =
+        λ k e. ap (λ (x : ℕ). chosen (a .t1) (own (c .before)) x (a .process) (a .time)) (sym e) in
+    ⊎-elim (λ w. w .2 ∙ w .1 .ensures ∙ at 0 (w .0 .keys1))
+    (⊎-elim (λ w. w .2 ∙ w .1 .ensures ∙ at 1 (w .0 .keys2))
+    (⊎-elim (λ w. w .3 ∙ w .2 .ensures ∙ ap (λ (l : Location). row testing l (a .t1 .word)) (w .1 .ensures) ∙ at 2 (w .0 .keys3))
+    (⊎-elim (λ w. w .2 ∙ w .1 .ensures ∙ at 3 (w .0 .keys4))
+    (⊎-elim (λ w. w .3 ∙ w .2 .ensures ∙ ap (λ (l : Location). row checking l (a .t1 .word)) (w .1 .ensures) ∙ at 4 (w .0 .keys5))
+    (⊎-elim (λ w. w .2 ∙ w .1 .ensures ∙ at 5 (w .0 .keys6))
+    (⊎-elim (λ w. w .2 ∙ w .1 .ensures ∙ at 6 (w .0 .keys7))
+    (⊎-elim (λ w. w .2 ∙ w .1 .ensures ∙ at 7 (w .0 .keys8))
+    (⊎-elim (λ w. w .2 ∙ w .1 .ensures ∙ at 8 (w .0 .keys9))
+    (λ w. w .2 ∙ w .1 .ensures ∙ sym (chosen-unknown (a .t1) (own (c .before)) (a .action) (a .process) (a .time) (none-below 9 (a .action) (w .0 .rest)))))))))))) (c .match .came)
+
+judge-requires : tie.Need-judge-requires Inv-loop μ-loop
+judge-requires c κs = λ z. surveyed-fits _ _ _ _ (surveyed (c .before .before .before)) z (c .before .before .slot-of .result)
+
+-- src/lib.rt:121:9
+mul-t46 : tie.Need-mul-t46 Inv-loop μ-loop
+mul-t46 c = search needs
+
+-- src/lib.rt:121:9
+element-set-from-state : tie.Need-element-set-from-state Inv-loop μ-loop
+element-set-from-state c = search needs
+
+-- the model's step goes with the answer
+answered : (c : tie.After-judge Inv-loop μ-loop)
+    → (let a = c .before .before .before .before .before .before .before .args in
+    Goes (a .t1) (a .action) (a .process) (a .time) (stepOf (a .t1) (a .action) (a .process) (a .time)) (c .judge .result))
+unfolding own entryOf
+answered c =
+    let a = c .before .before .before .before .before .before .before .args in
+    rw (c .judge .ensures)
+    (goes (a .t1) (a .action) (a .process) (a .time) (c .before .before .before .before .if1 .found) (own (c .before .before)) (c .before .match .transition)
+    (surveyed (c .before .before .before .before)) (search (needs, length-mapped))
+    (λ from to. ap (λ (i : ℕ). getD (a .t1 .processes) i idle .location) (c .before .before .before .slot-of .ensures .1 to))
+    (λ some known. is-chosen (c .before) ∙ chosen-known (a .t1) (own (c .before .before)) (a .action) (a .process) (a .time) some known))
+
+returns : tie.Need-returns Inv-loop μ-loop
+unfolding own
+returns c =
+    let a = c .before .before .before .before .before .before .before .before .before .args in
+    exit-accepted (a .t1) (a .action) (a .process) (a .time) (c .before .before .before .before .before .slot-of .result)
+    (own (c .before .before .before .before)) (c .before .before .before .match .transition)
+    (stepOf (a .t1) (a .action) (a .process) (a .time)) (c .before .before .judge .result)
+    (c .before .before .before .before .before .slot-of .ensures .1) refl (is-chosen (c .before .before .before))
+    (answered (c .before .before)) (c .if3 .taken)
+
+returns-2 : tie.Need-returns-2 Inv-loop μ-loop
+returns-2 c =
+    let a = c .before .before .before .before .before .before .before .before .before .args in
+    exit-refused (a .t1) (a .action) (a .process) (a .time) (stepOf (a .t1) (a .action) (a .process) (a .time)) (c .before .before .judge .result)
+    (answered (c .before .before)) (c .if3 .left)
+
+pub step-spec : {M : Type 1} → statement M
+step-spec =
+    tie.close
+    (tie.spec
+    Inv-loop
+    μ-loop
+    open-requires
+    loop-holds
+    mul-entry
+    element-copy-out-entry
+    add-note
+    note-requires
+    add-i
+    loop-less
+    loop-again
+    slot-of-requires
+    mul-own-entry
+    element-copy-out-own-entry
+    stay-requires
+    row-requires
+    tested-requires
+    row-requires-2
+    row-requires-3
+    checked-requires
+    row-requires-4
+    row-requires-5
+    row-requires-6
+    row-requires-7
+    row-requires-8
+    stay-requires-2
+    judge-requires
+    mul-t46
+    element-set-from-state
+    returns
+    returns-2)

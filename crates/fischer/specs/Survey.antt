@@ -1,0 +1,62 @@
+-- What the functions of the one pass over the entries ensure. A customer need not believe these: `proofs/` relates them to the
+-- model. Assumes nothing.
+use Prim.Native.Nat.{ℕ, _+_, _-_}
+use mathlib.Core.Bool.{Bool, true, false, cond, not, _&&_, _||_}
+use lib.Dec.{leb, ltb, eqb}
+use Rattle.model.specs.declared.Location.{Location}
+use Rattle.model.specs.declared.Location.the-variants.{Remainder, Testing, Setting, Checking, Entering, Critical, Resetting, Leaving}
+use Rattle.model.specs.declared.State.{State}
+use Rattle.fischer.specs.declared.limits.Numbers.{Numbers}
+use Rattle.fischer.specs.declared.survey.Survey.{Survey}
+use Rattle.model.specs.Stages.{remainder}
+use Rattle.model.specs.States.{countStands, limitsStand, clockStands, wordStands, stageOf}
+
+-- a state without its entries
+abbrev pub numbersOf : State → Numbers
+numbersOf s = record { n = s .n; a = s .a; b = s .b; c = s .c; clock = s .clock; word = s .word }
+
+unfoldable pub numbersStand : Numbers → Bool
+numbersStand x = countStands (x .n) && limitsStand (x .a) (x .b) (x .c) && clockStands (x .clock) && wordStands (x .n) (x .word)
+
+-- Before the first entry
+
+abbrev pub nothing : Survey
+nothing = record { faults = 0; process = 0; left = 18446744073709551615; critical = 0 }
+
+abbrev pub faulted : Survey → Survey
+faulted f = record { faults = 1; process = f .process; left = f .left; critical = f .critical }
+
+unfoldable pub opened : Numbers → Survey
+opened x = cond (numbersStand x) nothing (faulted nothing)
+
+-- One entry more, that of process k
+
+abbrev pub criticalAt : ℕ → Survey → Survey
+criticalAt k f = record { faults = f .faults; process = f .process; left = f .left; critical = k }
+
+abbrev pub firstAt : ℕ → ℕ → Survey → Survey
+firstAt k left f = record { faults = f .faults; process = k; left = left; critical = f .critical }
+
+abbrev pub criticalNoted : ℕ → ℕ → Survey → Survey
+criticalNoted acting k f = cond (eqb k acting) f (cond (not (eqb (f .critical) 0)) f (criticalAt k f))
+
+-- a process that came at `since` and may stay for `limit`
+abbrev pub timedNoted : ℕ → ℕ → ℕ → ℕ → Survey → Survey
+timedNoted clock k since limit f =
+    cond (ltb clock since) (faulted f)
+    (cond (ltb limit (clock - since)) (faulted f)
+    (cond (leb (f .left) (limit - (clock - since))) f (firstAt k (limit - (clock - since)) f)))
+
+abbrev pub placeNoted : Numbers → ℕ → ℕ → Location → Survey → Survey
+placeNoted x acting k Remainder f = f
+placeNoted x acting k (Testing t) f = timedNoted (x .clock) k t (x .a) f
+placeNoted x acting k (Setting t) f = timedNoted (x .clock) k t (x .a) f
+placeNoted x acting k (Checking t) f = timedNoted (x .clock) k t (x .c) f
+placeNoted x acting k (Entering t) f = timedNoted (x .clock) k t (x .a) f
+placeNoted x acting k Critical f = criticalNoted acting k f
+placeNoted x acting k (Resetting t) f = timedNoted (x .clock) k t (x .a) f
+placeNoted x acting k (Leaving t) f = timedNoted (x .clock) k t (x .a) f
+
+unfoldable pub noted : Numbers → ℕ → ℕ → Location → Survey → Survey
+noted x acting k l f =
+    cond (eqb (stageOf l) remainder) f (cond (ltb (x .n) k) (faulted f) (placeNoted x acting k l f))

@@ -1,0 +1,49 @@
+// The rows of the acts table as values.
+use crate::stages::stage_of;
+use model::Location;
+use model::Transition;
+ghost use mathlib.Core.Path.{_≡_};
+ghost use mathlib.Core.Bool.{cond};
+ghost use lib.Dec.{eqb};
+ghost use Rattle.model.specs.declared.Location.the-variants.{Testing, Setting, Entering};
+ghost use Rattle.model.specs.States.{stageOf};
+ghost use Rattle.model.specs.Actions.{«row»};
+
+pub(crate) fn row(from: u64, to: Location, word: u64) -> Transition
+    ensures { λ r. ⌜ r ≡ «row» from to word ⌝ }
+{
+    Transition {
+        from: from,
+        to: to,
+        word: word,
+    }
+}
+
+// No move: what a wait does, which is of no process, and what stands for an action that is refused.
+pub(crate) fn stay(own: Location, word: u64) -> Transition
+    ensures { λ r. ⌜ r ≡ «row» (stageOf own) own word ⌝ }
+{
+    row(stage_of(own), own, word)
+}
+
+// "word 0: to setting; else testing again, arrival renewed"
+pub(crate) fn tested(word: u64, time: u64) -> Location
+    ensures { λ r. ⌜ r ≡ cond (eqb word 0) (Setting time) (Testing time) ⌝ }
+{
+    if word == 0 {
+        Location::Setting(time)
+    } else {
+        Location::Testing(time)
+    }
+}
+
+// "word = window: to entering; else to testing"
+pub(crate) fn checked(word: u64, process: u64, time: u64) -> Location
+    ensures { λ r. ⌜ r ≡ cond (eqb word process) (Entering time) (Testing time) ⌝ }
+{
+    if word == process {
+        Location::Entering(time)
+    } else {
+        Location::Testing(time)
+    }
+}

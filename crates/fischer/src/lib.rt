@@ -1,0 +1,127 @@
+// Fischer's timed mutual exclusion as a step machine: `fresh` makes a state, `step` takes one action in it.
+// Both take any numbers and any state, and answer what `freshOf` and `stepOf` of the model say.
+mod actions;
+mod answers;
+mod limits;
+mod stages;
+mod survey;
+use crate::limits::Numbers;
+use model::Answer;
+use model::Location;
+use model::Outcome;
+use model::Process;
+use model::State;
+ghost use mathlib.Core.Path.{_≡_};
+ghost use Prim.Native.Nat.{ℕ, _<_, _≤_, _-_};
+ghost use lib.ListN.{getD};
+ghost use Rattle.model.specs.declared.Process.{Process};
+ghost use Rattle.model.specs.States.{idle, initial};
+ghost use Rattle.model.specs.Answers.{freshOf, stepOf};
+
+// "a table of 96 window entries, all in remainder when fresh": `each` says it of every entry.
+fn initial_state(n: u64, a: u64, b: u64, c: u64) -> State
+    ensures equals { λ r. ⌜ r ≡ initial n a b c ⌝ }
+    ensures each { λ r. ⌜ ((i : ℕ) (other : Process) → i < 96 → getD (r .processes) i other ≡ idle) ⌝ }
+{
+    State {
+        n: n,
+        a: a,
+        b: b,
+        c: c,
+        clock: 0,
+        word: 0,
+        processes: [Process {
+            location: Location::Remainder,
+        }; 96],
+    }
+}
+
+// A fresh table, or the refusal 11 or 12 with a table whose n, a, b, c are 0.
+pub fn fresh(n: u64, a: u64, b: u64, c: u64) -> Outcome
+    ensures { λ r. ⌜ r ≡ freshOf n a b c ⌝ }
+{
+    if !limits::count_stands(n) {
+        return Outcome {
+            answer: answers::answer_with(11, 0, 0),
+            state: initial_state(0, 0, 0, 0),
+        };
+    }
+    if !limits::limits_stand(a, b, c) {
+        return Outcome {
+            answer: answers::answer_with(12, 0, 0),
+            state: initial_state(0, 0, 0, 0),
+        };
+    }
+    Outcome {
+        answer: answers::answer_with(0, 0, 0),
+        state: initial_state(n, a, b, c),
+    }
+}
+
+// The entry of a process; the first where there is no such process, so that it may be read before the process is judged.
+fn slot_of(process: u64) -> usize
+    ensures { λ r. ⌜ (r < 96) × (process ≤ 96 → r ≡ process - 1) ⌝ }
+{
+    if process == 0 {
+        return 0;
+    }
+    if 96 < process {
+        return 0;
+    }
+    (process - 1) as usize
+}
+
+// One action of a process at a time. A single pass over the entries serves soundness, the first deadline and the critical
+// process; it stands here, as each hand-over of a state copies 1,584 bytes. A wait puts the first entry back as it was.
+pub fn step(mut state: State, action: u64, process: u64, time: u64) -> Outcome
+    ensures { λ r. ⌜ r ≡ stepOf state action process time ⌝ }
+{
+    let numbers = Numbers {
+        n: state.n,
+        a: state.a,
+        b: state.b,
+        c: state.c,
+        clock: state.clock,
+        word: state.word,
+    };
+    let mut found = survey::open(numbers);
+    if found.faults == 0 {
+        let mut i: usize = 0;
+        while i < 96 {
+            let entry = state.processes[i];
+            let location = entry.location;
+            found = survey::note(found, numbers, process, (i as u64) + 1, location);
+            if found.faults != 0 {
+                break;
+            }
+            i += 1;
+        }
+    }
+    let slot = slot_of(process);
+    let own_entry = state.processes[slot];
+    let own = own_entry.location;
+    let word = state.word;
+    let transition = match action {
+        0 => actions::stay(own, word),
+        1 => actions::row(stages::REMAINDER, Location::Testing(time), word),
+        2 => actions::row(stages::TESTING, actions::tested(word, time), word),
+        3 => actions::row(stages::SETTING, Location::Checking(time), process),
+        4 => actions::row(stages::CHECKING, actions::checked(word, process, time), word),
+        5 => actions::row(stages::ENTERING, Location::Critical, word),
+        6 => actions::row(stages::CRITICAL, Location::Resetting(time), word),
+        7 => actions::row(stages::RESETTING, Location::Leaving(time), 0),
+        8 => actions::row(stages::LEAVING, Location::Remainder, word),
+        9..=18446744073709551615 => actions::stay(own, word),
+    };
+    let answer = answers::judge(found, numbers, own, transition, action, process, time);
+    if answer.code == 0 {
+        let to = transition.to;
+        state.clock = time;
+        state.word = transition.word;
+        state.processes[slot] = Process { location: to };
+    }
+    Outcome {
+        answer: answer,
+        state: state,
+    }
+}

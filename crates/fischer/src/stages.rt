@@ -1,0 +1,51 @@
+// The locations as numbers: the stage of each, and the time since which a process is there.
+use model::Location;
+ghost use mathlib.Core.Path.{_≡_};
+ghost use Rattle.model.specs.States.{stageOf, sinceOf};
+
+pub(crate) const REMAINDER: u64 = 0;
+
+pub(crate) const TESTING: u64 = 1;
+
+pub(crate) const SETTING: u64 = 2;
+
+pub(crate) const CHECKING: u64 = 3;
+
+pub(crate) const ENTERING: u64 = 4;
+
+pub(crate) const CRITICAL: u64 = 5;
+
+pub(crate) const RESETTING: u64 = 6;
+
+pub(crate) const LEAVING: u64 = 7;
+
+pub(crate) fn stage_of(location: Location) -> u64
+    ensures { λ r. ⌜ r ≡ stageOf location ⌝ }
+{
+    match location {
+        Location::Remainder => REMAINDER,
+        Location::Testing(_) => TESTING,
+        Location::Setting(_) => SETTING,
+        Location::Checking(_) => CHECKING,
+        Location::Entering(_) => ENTERING,
+        Location::Critical => CRITICAL,
+        Location::Resetting(_) => RESETTING,
+        Location::Leaving(_) => LEAVING,
+    }
+}
+
+// The arrival; 0 where the location carries none.
+pub(crate) fn since_of(location: Location) -> u64
+    ensures { λ r. ⌜ r ≡ sinceOf location ⌝ }
+{
+    match location {
+        Location::Remainder => 0,
+        Location::Testing(t) => t,
+        Location::Setting(t) => t,
+        Location::Checking(t) => t,
+        Location::Entering(t) => t,
+        Location::Critical => 0,
+        Location::Resetting(t) => t,
+        Location::Leaving(t) => t,
+    }
+}

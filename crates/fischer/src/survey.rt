@@ -1,0 +1,116 @@
+// What one pass over the entries finds: whether they are sound, the deadline that comes first, and the lowest critical
+// process besides the acting one. The time of the action has no part in it.
+use crate::limits::Numbers;
+use crate::limits::numbers_stand;
+use crate::stages::REMAINDER;
+use crate::stages::stage_of;
+use model::Location;
+ghost use mathlib.Core.Path.{_≡_};
+ghost use Rattle.fischer.specs.Survey.{opened, faulted, criticalNoted, timedNoted, noted};
+
+// The fields are numbers only: a bool leaves padding, which each turn of the pass would copy.
+pub(crate) struct Survey {
+    // 0 where the numbers and the entries up to here are sound, else 1
+    pub faults: u64,
+    // the process whose deadline comes first, the lowest of equals, and the time left to it from the clock
+    pub process: u64,
+    pub left: u64,
+    // the lowest critical process besides the acting one, 0 where there is none
+    pub critical: u64,
+}
+
+// Before the first entry: no time is left to no process, and a fault where the numbers do not stand.
+pub(crate) fn open(numbers: Numbers) -> Survey
+    ensures { λ r. ⌜ r ≡ opened numbers ⌝ }
+{
+    let nothing = Survey {
+        faults: 0,
+        process: 0,
+        left: 18446744073709551615,
+        critical: 0,
+    };
+    if numbers_stand(numbers) {
+        nothing
+    } else {
+        with_fault(nothing)
+    }
+}
+
+fn with_fault(found: Survey) -> Survey
+    ensures { λ r. ⌜ r ≡ faulted found ⌝ }
+{
+    Survey {
+        faults: 1,
+        process: found.process,
+        left: found.left,
+        critical: found.critical,
+    }
+}
+
+fn note_critical(found: Survey, acting: u64, k: u64) -> Survey
+    ensures { λ r. ⌜ r ≡ criticalNoted acting k found ⌝ }
+{
+    if k == acting {
+        return found;
+    }
+    if found.critical != 0 {
+        return found;
+    }
+    Survey {
+        faults: found.faults,
+        process: found.process,
+        left: found.left,
+        critical: k,
+    }
+}
+
+// A process that may stay for `limit`. Only differences are taken, which fit whatever the entry holds.
+fn note_timed(found: Survey, clock: u64, k: u64, since: u64, limit: u64) -> Survey
+    ensures { λ r. ⌜ r ≡ timedNoted clock k since limit found ⌝ }
+{
+    if clock < since {
+        return with_fault(found);
+    }
+    let stay = clock - since;
+    if limit < stay {
+        return with_fault(found);
+    }
+    let left = limit - stay;
+    if found.left <= left {
+        return found;
+    }
+    Survey {
+        faults: found.faults,
+        process: k,
+        left: left,
+        critical: found.critical,
+    }
+}
+
+// What is found once the entry of process k is looked at too.
+pub(crate) fn note(
+    found: Survey,
+    numbers: Numbers,
+    acting: u64,
+    k: u64,
+    location: Location,
+) -> Survey
+    ensures { λ r. ⌜ r ≡ noted numbers acting k location found ⌝ }
+{
+    if stage_of(location) == REMAINDER {
+        return found;
+    }
+    if numbers.n < k {
+        return with_fault(found);
+    }
+    match location {
+        Location::Remainder => found,
+        Location::Critical => note_critical(found, acting, k),
+        Location::Checking(since) => note_timed(found, numbers.clock, k, since, numbers.c),
+        Location::Testing(since)
+        | Location::Setting(since)
+        | Location::Entering(since)
+        | Location::Resetting(since)
+        | Location::Leaving(since) => note_timed(found, numbers.clock, k, since, numbers.a),
+    }
+}
