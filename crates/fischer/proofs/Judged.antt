@@ -23,8 +23,8 @@ use Rattle.model.specs.Answers.{answerOf, answers, backward, beyond, unknown, m
 use Rattle.fischer.specs.declared.survey.Survey.{Survey}
 use Rattle.fischer.specs.Survey.{numbersOf}
 use Rattle.fischer.specs.Judging.{lowestOf, turnJudged, judged}
-use Rattle.model.proofs.Soundness.{sound-count}
-use Rattle.model.proofs.Tests.{by-test, if-eq, and-left, or-left, or-right}
+use Rattle.model.proofs.Soundness.{sound-numbers}
+use Rattle.model.proofs.Tests.{by-test, if-eq, tests}
 use Rattle.fischer.proofs.Critical.{othersFrom, others-all, others-moved}
 use Rattle.fischer.proofs.Pass.{Whole, Surveyed, faulty, whole}
 
@@ -35,10 +35,10 @@ pub data Goes (s : State) (act p m : ℕ) (o : Outcome) (j : Answer) : Type 0 wh
   moves : 1 ≤ act → act ≤ 8 → 1 ≤ p → p ≤ 96 → o ≡ record { answer = j; state = moved s p m (transitionOf s act p m) } → j .code ≡ 0
       → Goes s act p m o j
 
-by-cond : {s : State} {act p m : ℕ} {o o′ : Outcome} {j j′ : Answer} (t u : Bool) → t ≡ u
+by-both : {s : State} {act p m : ℕ} {o o′ : Outcome} {j j′ : Answer} (t u : Bool) → t ≡ u
     → (u ≡ true → Goes s act p m o j) → (u ≡ false → Goes s act p m o′ j′) → Goes s act p m (cond t o o′) (cond u j j′)
-by-cond t true e f g = rw e (f refl)
-by-cond t false e f g = rw e (g refl)
+by-both t true e f g = rw e (f refl)
+by-both t false e f g = rw e (g refl)
 
 -- A refusal names itself
 refusal : {s : State} {act p m : ℕ} {j : Answer} → j .code ≢ 0 → Goes s act p m (record { answer = j; state = s }) j
@@ -73,10 +73,10 @@ module _ (s : State) (act p m : ℕ) (f : Survey) (found : Whole s p m f) (size 
         (turnJudged (f .critical) (s .b) (entryOf s p .location) (transitionOf s act p m) act p m)
     unfolding turnJudged
     turn-goes =
-        by-cond (misplaced s act p m) _ (simp (ne-eqb act 0 (λ z. omega arith))) (λ _. refusal (λ z. omega arith))
+        by-both (misplaced s act p m) _ (simp (ne-eqb act 0 (λ z. omega arith))) (λ _. refusal (λ z. omega arith))
         (λ e. let placed : stageOf (entryOf s p .location) ≡ transitionOf s act p m .from = eqb-true _ _ (not-false _ e) in
-        by-cond (early s act p m) _ (early-is placed)
-        (λ h. rw (check-release placed (eqb-true act 4 (and-left _ _ h))) (refusal (λ z. omega arith)))
+        by-both (early s act p m) _ (early-is placed)
+        (λ h. rw (check-release placed ((simp tests at h) .0)) (refusal (λ z. omega arith)))
         (λ _. moves-on))
 
   -- The conditions in their order
@@ -111,23 +111,21 @@ module _ (s : State) (act p m : ℕ) (f : Survey) (found : Whole s p m f) (size 
             (cond (early s act p m) (answers 10 p (release s (entryOf s p)) s) (accepts (effect s act p m))))
             (cond (eqb act 0) (answerOf 0 (f .critical) m) (turnJudged (f .critical) (s .b) own t act p m))
         acts some h =
-            let z : p ≡ 0 → ⊥ = eqb-false p 0 (or-left (eqb p 0) (ltb (s .n) p) h) in
-            let from : 1 ≤ p = omega arith in
-            let to : p ≤ 96 = omega (arith, ltb-false (s .n) p (or-right (eqb p 0) (ltb (s .n) p) h)) in
+            let range : (1 ≤ p) × (p ≤ 96) = omega (arith, simp tests at h) in
             let n : eqb act 0 ≡ false = ne-eqb act 0 (λ (q : act ≡ 0). omega arith) in
-            rw (n, own-is from to, t-is some known) (rw n at (turn-goes some known from to))
+            rw (n, own-is (range .0) (range .1), t-is some known) (rw n at (turn-goes some known (range .0) (range .1)))
 
     -- the answers table, row by row
     sound-goes : Goes s act p m (stepOf s act p m) (judged f (numbersOf s) own t act p m)
     unfolding stepOf judged
     sound-goes =
-        by-cond (not (soundOf s)) (not (eqb (f .faults) 0)) (ap not (found .sound ∙ sym (eq-eqb _ 0 (found .none))))
+        by-both (not (soundOf s)) (not (eqb (f .faults) 0)) (ap not (found .sound ∙ sym (eq-eqb _ 0 (found .none))))
         (λ _. refusal (λ z. omega arith))
-        (λ _. by-cond (backward s m) _ refl (λ _. refusal (λ z. omega arith))
-        (λ _. by-cond (beyond m) _ refl (λ _. refusal (λ z. omega arith))
-        (λ _. by-cond (unknown act) _ refl (λ _. refusal (λ z. omega arith))
-        (λ known. by-cond (misnamed s act p) _ refl (λ _. refusal (λ z. omega arith))
-        (λ named. by-cond (eqb (lateOf s m .code) 8) _ late-is late-goes
+        (λ _. by-both (backward s m) _ refl (λ _. refusal (λ z. omega arith))
+        (λ _. by-both (beyond m) _ refl (λ _. refusal (λ z. omega arith))
+        (λ _. by-both (unknown act) _ refl (λ _. refusal (λ z. omega arith))
+        (λ known. by-both (misnamed s act p) _ refl (λ _. refusal (λ z. omega arith))
+        (λ named. by-both (eqb (lateOf s m .code) 8) _ late-is late-goes
         (λ _. past-late (ltb-false 8 act known) named))))))
 
 unsound-goes : (s : State) (act p m : ℕ) (f : Survey) (own : Location) (t : Transition) → soundOf s ≡ false → f .faults ≢ 0
@@ -140,7 +138,7 @@ pub goes : (s : State) (act p m : ℕ) (f : Survey) (own : Location) (t : Transi
     → (1 ≤ p → p ≤ 96 → own ≡ entryOf s p .location) → (1 ≤ act → act ≤ 8 → t ≡ transitionOf s act p m)
     → Goes s act p m (stepOf s act p m) (judged f (numbersOf s) own t act p m)
 goes s act p m f own t (faulty e n) size own-is t-is = unsound-goes s act p m f own t e n
-goes s act p m f own t (whole w) size own-is t-is = sound-goes s act p m f w size own t own-is t-is (sound-count s (w .sound))
+goes s act p m f own t (whole w) size own-is t-is = sound-goes s act p m f w size own t own-is t-is (sound-numbers s (w .sound) .count)
 
 -- The exits of the function
 

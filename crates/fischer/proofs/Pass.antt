@@ -19,8 +19,8 @@ use Rattle.model.specs.States.{lastTime, idle, stageOf, sinceOf, limitOf, deadl
 use Rattle.model.specs.Answers.{answerOf, soonest, lateOf}
 use Rattle.fischer.specs.declared.survey.Survey.{Survey}
 use Rattle.fischer.specs.Survey.{numbersOf, numbersStand, nothing, faulted, opened, criticalAt, firstAt, criticalNoted, timedNoted, noted}
-use Rattle.model.proofs.Soundness.{sound-limits, sound-clock, sound-past}
-use Rattle.model.proofs.Tests.{by-test, if-lt}
+use Rattle.model.proofs.Soundness.{sound-numbers, sound-past}
+use Rattle.model.proofs.Tests.{by-test, by-cond, if-lt}
 use Rattle.fischer.proofs.Laws.{drop-at, drop-end}
 use Rattle.fischer.proofs.Critical.{otherCritical, othersFrom}
 
@@ -44,11 +44,6 @@ record Turn (s : State) (acting k m : ℕ) (q : Process) (f g : Survey) : Type 0
 data Noted (s : State) (acting k m : ℕ) (q : Process) (f g : Survey) : Type 0 where
   fault : entrySound s k q ≡ false → g .faults ≢ 0 → Noted s acting k m q f g
   fine : Turn s acting k m q f g → Noted s acting k m q f g
-
-by-cond : {s : State} {acting k m : ℕ} {q : Process} {f g h : Survey} (t : Bool)
-    → (t ≡ true → Noted s acting k m q f g) → (t ≡ false → Noted s acting k m q f h) → Noted s acting k m q f (cond t g h)
-by-cond true f g = f refl
-by-cond false f g = g refl
 
 -- entry q of process k came at `since` and may stay for `limit`
 record Times (s : State) (k : ℕ) (q : Process) (since limit : ℕ) : Type 0 where
@@ -97,12 +92,12 @@ module _ (s : State) (acting k m : ℕ) (q : Process) (f : Survey) (none : f .fa
 
     timed-noted : Noted s acting k m q f (cond (ltb (s .n) k) (faulted f) (timedNoted (s .clock) k since limit f))
     timed-noted =
-        by-cond (ltb (s .n) k)
+        by-cond (Noted s acting k m q f) (ltb (s .n) k)
         (λ e. fault (h .sound-is ∙ simp (lt-leb k (s .n) (ltb-true (s .n) k e))) (λ z. omega arith))
-        (λ e. by-cond (ltb (s .clock) since)
+        (λ e. by-cond (Noted s acting k m q f) (ltb (s .clock) since)
         (λ a. fault (h .sound-is ∙ simp (le-leb k (s .n) (ltb-false (s .n) k e), lt-leb since (s .clock) (ltb-true (s .clock) since a)))
         (λ z. omega arith))
-        (λ a. by-cond (ltb limit (s .clock - since))
+        (λ a. by-cond (Noted s acting k m q f) (ltb limit (s .clock - since))
         (λ b. fault (h .sound-is ∙ simp (le-leb k (s .n) (ltb-false (s .n) k e), le-leb since (s .clock) (ltb-false (s .clock) since a), lt-ltb (since + limit) (s .clock) (omega (arith, ltb-true limit (s .clock - since) b))))
         (λ z. omega arith))
         (λ b. timed-turn (ltb-false (s .n) k e) (ltb-false (s .clock) since a) (ltb-false limit (s .clock - since) b))))
@@ -111,7 +106,7 @@ module _ (s : State) (acting k m : ℕ) (q : Process) (f : Survey) (none : f .fa
             → Noted s acting k m q f (cond (leb (f .left) (limit - (s .clock - since))) f (firstAt k (limit - (s .clock - since)) f))
         timed-turn e a b =
             let sound : entrySound s k q ≡ true = h .sound-is ∙ simp (le-leb k (s .n) e, le-leb since (s .clock) a, le-ltb (since + limit) (s .clock) (omega arith)) in
-            by-cond (leb (f .left) (limit - (s .clock - since)))
+            by-cond (Noted s acting k m q f) (leb (f .left) (limit - (s .clock - since)))
             (λ l. fine (record { none = none; sound = sound; late-next = not-sooner a b (leb-true _ _ l); critical-next = keeps-critical }))
             (λ l. fine (record { none = none; sound = sound; late-next = sooner a b (leb-false _ _ l); critical-next = keeps-critical }))
 
@@ -134,12 +129,12 @@ module _ (s : State) (acting k m : ℕ) (f : Survey) (none : f .faults ≡ 0) wh
   critical-noted : 1 ≤ k → At Critical
   unfolding noted
   critical-noted some =
-      by-cond (ltb (s .n) k)
+      by-cond (Noted s acting k m (record { location = Critical }) f) (ltb (s .n) k)
       (λ e. fault (simp (lt-leb k (s .n) (ltb-true (s .n) k e))) (λ z. omega arith))
       (λ e. let sound : entrySound s k (record { location = Critical }) ≡ true = simp (le-leb k (s .n) (ltb-false (s .n) k e), le-leb 0 (s .clock) (omega arith)) in
-      by-cond (eqb k acting)
+      by-cond (Noted s acting k m (record { location = Critical }) f) (eqb k acting)
       (λ a. fine (record { none = none; sound = sound; late-next = refl; critical-next = λ rest. simp a }))
-      (λ a. by-cond (not (eqb (f .critical) 0))
+      (λ a. by-cond (Noted s acting k m (record { location = Critical }) f) (not (eqb (f .critical) 0))
       (λ b. fine (record { none = none; sound = sound; late-next = refl; critical-next = λ rest. simp (a, not-true (eqb (f .critical) 0) b) }))
       (λ b. fine (record { none = none; sound = sound; late-next = refl; critical-next = λ rest. simp (a, not-false (eqb (f .critical) 0) b, ne-eqb k 0 (λ z. omega arith)) }))))
 
@@ -279,4 +274,4 @@ pub surveyed-fits : (s : State) (acting m : ℕ) (f : Survey) → Surveyed s act
     → (i : ℕ) → sinceOf (getD (s .processes) i idle .location) + s .b < 2 ^ 64
 surveyed-fits s acting m f (faulty e n) z i = absurd (n z)
 surveyed-fits s acting m f (whole w) z i =
-    omega (arith, sound-past s (w .sound) i, sound-clock s (w .sound), sound-limits s (w .sound))
+    omega (arith, sound-past s (w .sound) i, sound-numbers s (w .sound))

@@ -1,14 +1,14 @@
 // The answer to an action, from what the pass found: the first condition of the answers table that applies.
 // It is judged on numbers; no state is handed over.
-use crate::limits::Numbers;
 use crate::limits::LAST;
+use crate::limits::Numbers;
 use crate::stages::CRITICAL;
 use crate::stages::since_of;
 use crate::stages::stage_of;
+use crate::survey::Survey;
 use model::Answer;
 use model::Location;
 use model::Transition;
-use crate::survey::Survey;
 ghost use mathlib.Core.Path.{_≡_};
 ghost use Prim.Native.Nat.{_+_, _<_, _^_};
 ghost use Rattle.model.specs.States.{sinceOf};
@@ -113,5 +113,13 @@ pub(crate) fn judge(
     if action == 0 {
         return answer_with(0, found.critical, time);
     }
-    judge_turn(found.critical, numbers.b, own, transition, action, process, time)
+    judge_turn(
+        found.critical,
+        numbers.b,
+        own,
+        transition,
+        action,
+        process,
+        time,
+    )
 }

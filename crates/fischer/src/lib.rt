@@ -5,6 +5,7 @@ mod answers;
 mod limits;
 mod stages;
 mod survey;
+
 use crate::limits::Numbers;
 use model::Answer;
 use model::Location;
@@ -106,7 +107,11 @@ pub fn step(mut state: State, action: u64, process: u64, time: u64) -> Outcome
         1 => actions::row(stages::REMAINDER, Location::Testing(time), word),
         2 => actions::row(stages::TESTING, actions::tested(word, time), word),
         3 => actions::row(stages::SETTING, Location::Checking(time), process),
-        4 => actions::row(stages::CHECKING, actions::checked(word, process, time), word),
+        4 => actions::row(
+            stages::CHECKING,
+            actions::checked(word, process, time),
+            word,
+        ),
         5 => actions::row(stages::ENTERING, Location::Critical, word),
         6 => actions::row(stages::CRITICAL, Location::Resetting(time), word),
         7 => actions::row(stages::RESETTING, Location::Leaving(time), 0),

@@ -75,6 +75,18 @@ sinceOf Critical = 0
 sinceOf (Resetting t) = t
 sinceOf (Leaving t) = t
 
+-- the location of a stage and an arrival, the inverse of the two: what stands for a location where only numbers can stand
+abbrev pub locationAt : ℕ → ℕ → Location
+locationAt stage t =
+    cond (eqb stage remainder) Remainder
+    (cond (eqb stage testing) (Testing t)
+    (cond (eqb stage setting) (Setting t)
+    (cond (eqb stage checking) (Checking t)
+    (cond (eqb stage entering) (Entering t)
+    (cond (eqb stage critical) Critical
+    (cond (eqb stage resetting) (Resetting t)
+    (Leaving t)))))))
+
 -- Moments. Process i has the entry q; only an entry that is `bounded` has a latest moment.
 
 -- the bound a of process i

@@ -29,7 +29,7 @@ abbrev pub NoneFoundIffAllInTime : Type 0
 NoneFoundIffAllInTime = (s : State) (m : ℕ) → (lateOf s m .code ≢ 8) ↔ AllInTime s m
 
 -- none of the answers 1 to 7 applies
-pub record Due (s : State) (act p m : ℕ) : Type 0 where
+pub record Admissible (s : State) (act p m : ℕ) : Type 0 where
   pub sound : soundOf s ≡ true
   pub forward : backward s m ≡ false
   pub within : beyond m ≡ false
@@ -37,4 +37,7 @@ pub record Due (s : State) (act p m : ℕ) : Type 0 where
   pub named : misnamed s act p ≡ false
 
 abbrev pub NotLateIffAllInTime : Type 0
-NotLateIffAllInTime = (s : State) (act p m : ℕ) → Due s act p m → (stepOf s act p m .answer .code ≢ 8) ↔ AllInTime s m
+NotLateIffAllInTime = (s : State) (act p m : ℕ) → Admissible s act p m → (stepOf s act p m .answer .code ≢ 8) ↔ AllInTime s m
+
+abbrev pub LateIsAdmissible : Type 0
+LateIsAdmissible = (s : State) (act p m : ℕ) → stepOf s act p m .answer .code ≡ 8 → Admissible s act p m

@@ -1,3 +1,5 @@
+-- `fischer::step` meets its contract. The loop's invariant is `Passed`, and its measure the entries that are left; where its ways
+-- out meet, `Surveyed` holds, and where the arms of the match meet, the transition is `chosen`. Assumes nothing.
 use Prim.Native.Nat.{ℕ, _+_, _-_, _≤_, _<_}
 use mathlib.Core.Path.{_≡_, refl, sym, ap, _∙_}
 use mathlib.Core.Logic.{⊎-elim}
@@ -17,16 +19,6 @@ use Rattle.fischer.proofs.Pass.{Passed, Surveyed, faulty, whole, open-f
 use Rattle.fischer.proofs.Judged.{Goes, chosen, chosen-known, chosen-unknown, goes, exit-refused, exit-accepted}
 use Rattle.fischer.proofs.step.Statement.{statement}
 use Rattle.fischer.proofs.step.Tie as tie
-use Rattle.fischer.proofs.step.Reads as reads
-use Rattle.fischer.proofs.step.Lts as lts
-use Rattle.fischer.proofs.actions.checked.Reads as checked-reads
-use Rattle.fischer.proofs.actions.row.Reads as row-reads
-use Rattle.fischer.proofs.actions.stay.Reads as stay-reads
-use Rattle.fischer.proofs.actions.tested.Reads as tested-reads
-use Rattle.fischer.proofs.answers.judge.Reads as judge-reads
-use Rattle.fischer.proofs.slot_of.Reads as slot-of-reads
-use Rattle.fischer.proofs.survey.note.Reads as note-reads
-use Rattle.fischer.proofs.survey.open.Reads as open-reads
 
 abbrev Inv-loop : tie.InvT-loop
 Inv-loop action process time state numbers found₀ i₀ found i = Passed state process time i found
@@ -34,41 +26,32 @@ Inv-loop action process time state numbers found₀ i₀ found i = Passed state 
 abbrev μ-loop : tie.MeasureT-loop
 μ-loop action process time state numbers found₀ i₀ found i = 96 - i
 
--- src/lib.rt:87:9
 open-requires : tie.Need-open-requires Inv-loop μ-loop
 open-requires c κs = search needs
 
--- src/lib.rt:90:9
 loop-holds : tie.Need-loop-holds Inv-loop μ-loop
 loop-holds c =
     open-passed (c .before .before .before .args .t1) (c .before .before .before .args .process) (c .before .before .before .args .time)
     (c .before .before .«open» .result) (c .before .before .«open» .ensures) (search (needs, length-mapped)) (search needs) (c .if1 .taken)
 
--- src/lib.rt:91:25
 mul-entry : tie.Need-mul-entry Inv-loop μ-loop
 mul-entry c = search needs
 
--- src/lib.rt:91:25
 element-copy-out-entry : tie.Need-element-copy-out-entry Inv-loop μ-loop
 element-copy-out-entry c = search needs
 
--- src/lib.rt:93:59
 add-note : tie.Need-add-note Inv-loop μ-loop
 add-note c = search needs
 
--- src/lib.rt:93:13
 note-requires : tie.Need-note-requires Inv-loop μ-loop
 note-requires c κs = search needs
 
--- src/lib.rt:97:13
 add-i : tie.Need-add-i Inv-loop μ-loop
 add-i c = search needs
 
--- src/lib.rt:90:9
 loop-less : tie.Need-loop-less Inv-loop μ-loop
 loop-less c = search needs
 
--- src/lib.rt:90:9
 loop-again : tie.Need-loop-again Inv-loop μ-loop
 loop-again c =
     let a = c .before .before .before .before .before .before .before .before .before .args in
@@ -76,63 +59,48 @@ loop-again c =
     turn-passed (a .t1) (a .process) (a .time) (v .i) (v .found) (v .inv) (c .before .before .before .before .loop-test .taken)
     idle (c .before .before .note .result) (c .before .before .note .ensures) (c .if2 .left)
 
--- src/lib.rt:100:9
 slot-of-requires : tie.Need-slot-of-requires Inv-loop μ-loop
 slot-of-requires c κs = search needs
 
--- src/lib.rt:101:21
 mul-own-entry : tie.Need-mul-own-entry Inv-loop μ-loop
 mul-own-entry c = search needs
 
--- src/lib.rt:101:21
 element-copy-out-own-entry : tie.Need-element-copy-out-own-entry Inv-loop μ-loop
 element-copy-out-own-entry c = search needs
 
--- src/lib.rt:105:14
 stay-requires : tie.Need-stay-requires Inv-loop μ-loop
 stay-requires c κs = search needs
 
--- src/lib.rt:106:14
 row-requires : tie.Need-row-requires Inv-loop μ-loop
 row-requires c κs = search needs
 
--- src/lib.rt:107:44
 tested-requires : tie.Need-tested-requires Inv-loop μ-loop
 tested-requires c κs = search needs
 
--- src/lib.rt:107:14
 row-requires-2 : tie.Need-row-requires-2 Inv-loop μ-loop
 row-requires-2 c κs = search needs
 
--- src/lib.rt:108:14
 row-requires-3 : tie.Need-row-requires-3 Inv-loop μ-loop
 row-requires-3 c κs = search needs
 
--- src/lib.rt:109:45
 checked-requires : tie.Need-checked-requires Inv-loop μ-loop
 checked-requires c κs = search needs
 
--- src/lib.rt:109:14
 row-requires-4 : tie.Need-row-requires-4 Inv-loop μ-loop
 row-requires-4 c κs = search needs
 
--- src/lib.rt:110:14
 row-requires-5 : tie.Need-row-requires-5 Inv-loop μ-loop
 row-requires-5 c κs = search needs
 
--- src/lib.rt:111:14
 row-requires-6 : tie.Need-row-requires-6 Inv-loop μ-loop
 row-requires-6 c κs = search needs
 
--- src/lib.rt:112:14
 row-requires-7 : tie.Need-row-requires-7 Inv-loop μ-loop
 row-requires-7 c κs = search needs
 
--- src/lib.rt:113:14
 row-requires-8 : tie.Need-row-requires-8 Inv-loop μ-loop
 row-requires-8 c κs = search needs
 
--- src/lib.rt:114:37
 stay-requires-2 : tie.Need-stay-requires-2 Inv-loop μ-loop
 stay-requires-2 c κs = search needs
 
@@ -159,7 +127,7 @@ unfolding own chosen transitionOf
 is-chosen c =
     let a = c .before .before .before .before .before .before .args in
     let at : (k : ℕ) → a .action ≡ k → chosen (a .t1) (own (c .before)) k (a .process) (a .time) ≡ chosen (a .t1) (own (c .before)) (a .action) (a .process) (a .time) =
-        λ k e. ap (λ (x : ℕ). chosen (a .t1) (own (c .before)) x (a .process) (a .time)) (sym e) in
+    λ k e. ap (λ (x : ℕ). chosen (a .t1) (own (c .before)) x (a .process) (a .time)) (sym e) in
     ⊎-elim (λ w. w .2 ∙ w .1 .ensures ∙ at 0 (w .0 .keys1))
     (⊎-elim (λ w. w .2 ∙ w .1 .ensures ∙ at 1 (w .0 .keys2))
     (⊎-elim (λ w. w .3 ∙ w .2 .ensures ∙ ap (λ (l : Location). row testing l (a .t1 .word)) (w .1 .ensures) ∙ at 2 (w .0 .keys3))
@@ -174,11 +142,9 @@ is-chosen c =
 judge-requires : tie.Need-judge-requires Inv-loop μ-loop
 judge-requires c κs = λ z. surveyed-fits _ _ _ _ (surveyed (c .before .before .before)) z (c .before .before .slot-of .result)
 
--- src/lib.rt:121:9
 mul-t46 : tie.Need-mul-t46 Inv-loop μ-loop
 mul-t46 c = search needs
 
--- src/lib.rt:121:9
 element-set-from-state : tie.Need-element-set-from-state Inv-loop μ-loop
 element-set-from-state c = search needs
 

@@ -1,0 +1,84 @@
+-- What a location tells, its arrival and its deadline: the relations of `Facts` against the functions of `States`.
+-- These laws look at the eight locations, so that other proofs need not. Assumes nothing.
+use Prim.Native.Nat.{ℕ, _+_, _≤_, _<_}
+use mathlib.Core.Path.{_≡_, refl, sym, ap, _∙_}
+use mathlib.Core.Logic.{_↔_}
+use mathlib.Core.Bool.{true, false, cond, false≢true}
+use native.Mathlib.Omega.{arith}
+use lib.Dec.{eqb}
+use Rattle.model.specs.declared.Location.{Location}
+use Rattle.model.specs.declared.Location.the-variants.{Remainder, Testing, Setting, Checking, Entering, Critical, Resetting, Leaving}
+use Rattle.model.specs.declared.Process.{Process}
+use Rattle.model.specs.declared.State.{State}
+use Rattle.model.specs.Stages.{remainder, testing, setting, checking, entering, critical, resetting}
+use Rattle.model.specs.States.{stageOf, timed, sinceOf, limitOf, deadline, late}
+use Rattle.model.specs.Facts.{Arrival, Deadline}
+use Rattle.model.proofs.Tests.{tests}
+
+-- Arrivals
+
+arrival-since : {l : Location} {t : ℕ} → Arrival l t → sinceOf l ≡ t
+arrival-since Arrival.testing = refl
+arrival-since Arrival.setting = refl
+arrival-since Arrival.checking = refl
+arrival-since Arrival.entering = refl
+arrival-since Arrival.resetting = refl
+arrival-since Arrival.leaving = refl
+
+since-past : (k : ℕ) (l : Location) → ((t : ℕ) → Arrival l t → t ≤ k) → sinceOf l ≤ k
+since-past k Remainder h = omega arith
+since-past k (Testing t) h = h t Arrival.testing
+since-past k (Setting t) h = h t Arrival.setting
+since-past k (Checking t) h = h t Arrival.checking
+since-past k (Entering t) h = h t Arrival.entering
+since-past k Critical h = omega arith
+since-past k (Resetting t) h = h t Arrival.resetting
+since-past k (Leaving t) h = h t Arrival.leaving
+
+-- what has no arrival, `sinceOf` puts at 0, which is past
+pub past-iff : (k : ℕ) (l : Location) → (sinceOf l ≤ k) ↔ ((t : ℕ) → Arrival l t → t ≤ k)
+past-iff k l = (λ h t a. omega (arith, arrival-since a), since-past k l)
+
+-- Deadlines
+
+-- process i, with the entry q, has the latest moment d
+abbrev pub Latest : State → ℕ → Process → ℕ → Type 0
+Latest s i q d = Deadline (limitOf s i) (s .c) (q .location) d
+
+abbrev deadlineAt : ℕ → ℕ → Location → ℕ
+deadlineAt a c l = sinceOf l + cond (eqb (stageOf l) checking) c a
+
+deadline-timed : {a c d : ℕ} {l : Location} → Deadline a c l d → (timed l ≡ true) × (deadlineAt a c l ≡ d)
+deadline-timed Deadline.testing = (refl, refl)
+deadline-timed Deadline.setting = (refl, refl)
+deadline-timed Deadline.checking = (refl, refl)
+deadline-timed Deadline.entering = (refl, refl)
+deadline-timed Deadline.resetting = (refl, refl)
+deadline-timed Deadline.leaving = (refl, refl)
+
+timed-deadline : (a c : ℕ) (l : Location) → timed l ≡ true → Deadline a c l (deadlineAt a c l)
+timed-deadline a c Remainder e = absurd (false≢true e)
+timed-deadline a c (Testing t) e = Deadline.testing
+timed-deadline a c (Setting t) e = Deadline.setting
+timed-deadline a c (Checking t) e = Deadline.checking
+timed-deadline a c (Entering t) e = Deadline.entering
+timed-deadline a c Critical e = absurd (false≢true e)
+timed-deadline a c (Resetting t) e = Deadline.resetting
+timed-deadline a c (Leaving t) e = Deadline.leaving
+
+pub deadline-unique : {a c d e : ℕ} {l : Location} → Deadline a c l d → Deadline a c l e → d ≡ e
+deadline-unique h k = sym (deadline-timed h .1) ∙ deadline-timed k .1
+
+-- a late process has missed its deadline
+pub late-missed : (s : State) (m i : ℕ) (q : Process) → late s m i q ≡ true
+    → Latest s i q (deadline s i q) × (deadline s i q < m)
+late-missed s m i q e =
+    let h = simp tests at e in
+    (timed-deadline (limitOf s i) (s .c) (q .location) (h .0), h .1)
+
+-- one that is not late keeps its deadline, if it has one
+pub not-late-iff : (s : State) (m i : ℕ) (q : Process) → (late s m i q ≡ false) ↔ ((d : ℕ) → Latest s i q d → m ≤ d)
+not-late-iff s m i q = (
+  λ e d h. omega (arith, deadline-timed h .1, (simp tests at e) (deadline-timed h .0)),
+  λ h. simp tests (λ t. omega (arith, h _ (timed-deadline (limitOf s i) (s .c) (q .location) t))),
+)
