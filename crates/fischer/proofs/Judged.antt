@@ -6,10 +6,10 @@ use mathlib.Core.Logic.{_≢_}
 use mathlib.Core.Bool.{Bool, true, false, cond, not, _&&_, _||_}
 use mathlib.Core.List.{List}
 use native.Mathlib.Omega.{arith}
-use lib.Dec.{leb, ltb, eqb}
+use lib.Dec.{ltb, eqb}
 use lib.ListN.{length, getD, set}
 use lib.Seq.{set-getD}
-use borrow.Author.Tests.{ltb-false, leb-true, lt-ltb, le-ltb, eq-eqb, ne-eqb, eqb-true, eqb-false, not-false}
+use borrow.Author.Tests.{ltb-false, lt-ltb, le-ltb, eq-eqb, ne-eqb, eqb-true, not-false}
 use Rattle.model.specs.declared.Location.{Location}
 use Rattle.model.specs.declared.Process.{Process}
 use Rattle.model.specs.declared.State.{State}
@@ -25,7 +25,7 @@ use Rattle.fischer.specs.Survey.{numbersOf}
 use Rattle.fischer.specs.Judging.{lowestOf, turnJudged, judged}
 use Rattle.model.proofs.Soundness.{sound-numbers}
 use Rattle.model.proofs.Tests.{by-test, if-eq, tests}
-use Rattle.fischer.proofs.Critical.{othersFrom, others-all, others-moved}
+use Rattle.fischer.proofs.Critical.{others-all, others-moved}
 use Rattle.fischer.proofs.Pass.{Whole, Surveyed, faulty, whole}
 
 -- The outcome o of the model goes with the answer j of the code

@@ -1,4 +1,5 @@
 pub mod Laws
-pub mod Pass
 pub mod Critical
+pub mod Notes
+pub mod Pass
 pub mod Judged

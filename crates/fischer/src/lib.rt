@@ -3,11 +3,28 @@
 mod actions;
 mod answers;
 mod limits;
-mod stages;
+pub mod stages;
 mod survey;
 
+use crate::actions::checked;
+use crate::actions::row;
+use crate::actions::stay;
+use crate::actions::tested;
+use crate::answers::answer_with;
+use crate::answers::judge;
 use crate::limits::Numbers;
-use model::Answer;
+use crate::limits::count_stands;
+use crate::limits::limits_stand;
+use crate::stages::CHECKING;
+use crate::stages::CRITICAL;
+use crate::stages::ENTERING;
+use crate::stages::LEAVING;
+use crate::stages::REMAINDER;
+use crate::stages::RESETTING;
+use crate::stages::SETTING;
+use crate::stages::TESTING;
+use crate::survey::note;
+use crate::survey::open;
 use model::Location;
 use model::Outcome;
 use model::Process;
@@ -41,20 +58,20 @@ fn initial_state(n: u64, a: u64, b: u64, c: u64) -> State
 pub fn fresh(n: u64, a: u64, b: u64, c: u64) -> Outcome
     ensures { λ r. ⌜ r ≡ freshOf n a b c ⌝ }
 {
-    if !limits::count_stands(n) {
+    if !count_stands(n) {
         return Outcome {
-            answer: answers::answer_with(11, 0, 0),
+            answer: answer_with(11, 0, 0),
             state: initial_state(0, 0, 0, 0),
         };
     }
-    if !limits::limits_stand(a, b, c) {
+    if !limits_stand(a, b, c) {
         return Outcome {
-            answer: answers::answer_with(12, 0, 0),
+            answer: answer_with(12, 0, 0),
             state: initial_state(0, 0, 0, 0),
         };
     }
     Outcome {
-        answer: answers::answer_with(0, 0, 0),
+        answer: answer_with(0, 0, 0),
         state: initial_state(n, a, b, c),
     }
 }
@@ -85,40 +102,36 @@ pub fn step(mut state: State, action: u64, process: u64, time: u64) -> Outcome
         clock: state.clock,
         word: state.word,
     };
-    let mut found = survey::open(numbers);
+    let slot = slot_of(process);
+    let own_entry = state.processes[slot];
+    let own = own_entry.location;
+    let mut found = open(numbers);
     if found.faults == 0 {
         let mut i: usize = 0;
         while i < 96 {
             let entry = state.processes[i];
             let location = entry.location;
-            found = survey::note(found, numbers, process, (i as u64) + 1, location);
+            found = note(found, numbers, process, (i as u64) + 1, location);
             if found.faults != 0 {
                 break;
             }
             i += 1;
         }
     }
-    let slot = slot_of(process);
-    let own_entry = state.processes[slot];
-    let own = own_entry.location;
     let word = state.word;
     let transition = match action {
-        0 => actions::stay(own, word),
-        1 => actions::row(stages::REMAINDER, Location::Testing(time), word),
-        2 => actions::row(stages::TESTING, actions::tested(word, time), word),
-        3 => actions::row(stages::SETTING, Location::Checking(time), process),
-        4 => actions::row(
-            stages::CHECKING,
-            actions::checked(word, process, time),
-            word,
-        ),
-        5 => actions::row(stages::ENTERING, Location::Critical, word),
-        6 => actions::row(stages::CRITICAL, Location::Resetting(time), word),
-        7 => actions::row(stages::RESETTING, Location::Leaving(time), 0),
-        8 => actions::row(stages::LEAVING, Location::Remainder, word),
-        9..=18446744073709551615 => actions::stay(own, word),
+        0 => stay(own, word),
+        1 => row(REMAINDER, Location::Testing(time), word),
+        2 => row(TESTING, tested(word, time), word),
+        3 => row(SETTING, Location::Checking(time), process),
+        4 => row(CHECKING, checked(word, process, time), word),
+        5 => row(ENTERING, Location::Critical, word),
+        6 => row(CRITICAL, Location::Resetting(time), word),
+        7 => row(RESETTING, Location::Leaving(time), 0),
+        8 => row(LEAVING, Location::Remainder, word),
+        9..=18446744073709551615 => stay(own, word),
     };
-    let answer = answers::judge(found, numbers, own, transition, action, process, time);
+    let answer = judge(found, numbers, own, transition, action, process, time);
     if answer.code == 0 {
         let to = transition.to;
         state.clock = time;

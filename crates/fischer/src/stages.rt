@@ -3,23 +3,23 @@ use model::Location;
 ghost use mathlib.Core.Path.{_≡_};
 ghost use Rattle.model.specs.States.{stageOf, sinceOf};
 
-pub(crate) const REMAINDER: u64 = 0;
+pub const REMAINDER: u64 = 0;
 
-pub(crate) const TESTING: u64 = 1;
+pub const TESTING: u64 = 1;
 
-pub(crate) const SETTING: u64 = 2;
+pub const SETTING: u64 = 2;
 
-pub(crate) const CHECKING: u64 = 3;
+pub const CHECKING: u64 = 3;
 
-pub(crate) const ENTERING: u64 = 4;
+pub const ENTERING: u64 = 4;
 
-pub(crate) const CRITICAL: u64 = 5;
+pub const CRITICAL: u64 = 5;
 
-pub(crate) const RESETTING: u64 = 6;
+pub const RESETTING: u64 = 6;
 
-pub(crate) const LEAVING: u64 = 7;
+pub const LEAVING: u64 = 7;
 
-pub(crate) fn stage_of(location: Location) -> u64
+pub fn stage_of(location: Location) -> u64
     ensures { λ r. ⌜ r ≡ stageOf location ⌝ }
 {
     match location {
@@ -35,7 +35,7 @@ pub(crate) fn stage_of(location: Location) -> u64
 }
 
 // The arrival; 0 where the location carries none.
-pub(crate) fn since_of(location: Location) -> u64
+pub fn since_of(location: Location) -> u64
     ensures { λ r. ⌜ r ≡ sinceOf location ⌝ }
 {
     match location {

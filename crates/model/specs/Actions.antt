@@ -1,8 +1,8 @@
 -- "The acts" of document 01: the table row by row, and what an accepted act makes of the table of windows.
 -- An act comes with a process p and a time m, "which becomes the clock". Assumes nothing.
-use Prim.Native.Nat.{ℕ, _+_, _-_}
-use mathlib.Core.Bool.{Bool, true, false, cond}
-use mathlib.Core.List.{List, [], _∷_}
+use Prim.Native.Nat.{ℕ, _-_}
+use mathlib.Core.Bool.{cond}
+use mathlib.Core.List.{List}
 use lib.ListN.{set}
 use lib.Dec.{eqb}
 use Rattle.model.specs.declared.Location.{Location}

@@ -1,7 +1,7 @@
 -- "The table of windows" of document 01, sentence by sentence: which numbers stand, the places and their moments,
 -- the fresh table and the sound ones. Assumes nothing.
 use Prim.Native.Nat.{ℕ, _+_, _-_}
-use mathlib.Core.Bool.{Bool, true, false, cond, not, _&&_, _||_}
+use mathlib.Core.Bool.{Bool, true, false, cond, not, _&&_}
 use mathlib.Core.List.{List, [], _∷_}
 use lib.ListN.{getD, replicate}
 use lib.Dec.{leb, ltb, eqb}

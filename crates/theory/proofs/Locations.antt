@@ -1,7 +1,7 @@
 -- What a location tells, its arrival and its deadline: the relations of `Facts` against the functions of `States`.
 -- These laws look at the eight locations, so that other proofs need not. Assumes nothing.
 use Prim.Native.Nat.{ℕ, _+_, _≤_, _<_}
-use mathlib.Core.Path.{_≡_, refl, sym, ap, _∙_}
+use mathlib.Core.Path.{_≡_, refl, sym, _∙_}
 use mathlib.Core.Logic.{_↔_}
 use mathlib.Core.Bool.{true, false, cond, false≢true}
 use native.Mathlib.Omega.{arith}
@@ -10,7 +10,7 @@ use Rattle.model.specs.declared.Location.{Location}
 use Rattle.model.specs.declared.Location.the-variants.{Remainder, Testing, Setting, Checking, Entering, Critical, Resetting, Leaving}
 use Rattle.model.specs.declared.Process.{Process}
 use Rattle.model.specs.declared.State.{State}
-use Rattle.model.specs.Stages.{remainder, testing, setting, checking, entering, critical, resetting}
+use Rattle.model.specs.Stages.{checking}
 use Rattle.model.specs.States.{stageOf, timed, sinceOf, limitOf, deadline, late}
 use Rattle.model.specs.Facts.{Arrival, Deadline}
 use Rattle.model.proofs.Tests.{tests}

@@ -8,7 +8,7 @@ use lib.ListN.{length}
 use Rattle.model.specs.declared.Location.the-variants.{Remainder}
 use Rattle.model.specs.declared.State.{State}
 use Rattle.model.specs.States.{lastTime, entryOf, soundOf}
-use Rattle.model.specs.Answers.{blank, freshOf}
+use Rattle.model.specs.Answers.{freshOf}
 use Rattle.model.specs.Facts.{Accepted, Arrival, HasDeadline}
 
 -- "n (1 to 96)"

@@ -1,6 +1,6 @@
 -- `fischer::fresh` meets its contract: each exit computes `freshOf` up to the test that decided. Assumes nothing.
 use mathlib.Core.Path.{_≡_, sym, _∙_}
-use mathlib.Core.Bool.{true, false}
+use mathlib.Core.Bool.{true}
 use borrow.Author.Needs.{needs}
 use borrow.Author.Tests.{not-true, not-false}
 use Rattle.model.specs.States.{countStands}

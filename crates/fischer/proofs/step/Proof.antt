@@ -1,19 +1,16 @@
 -- `fischer::step` meets its contract. The loop's invariant is `Passed`, and its measure the entries that are left; where its ways
 -- out meet, `Surveyed` holds, and where the arms of the match meet, the transition is `chosen`. Assumes nothing.
-use Prim.Native.Nat.{ℕ, _+_, _-_, _≤_, _<_}
+use Prim.Native.Nat.{ℕ, _-_}
 use mathlib.Core.Path.{_≡_, refl, sym, ap, _∙_}
 use mathlib.Core.Logic.{⊎-elim}
-use native.Mathlib.Omega.{arith}
 use borrow.Author.Needs.{needs}
-use lib.ListN.{length, getD}
+use native.Mathlib.Omega.{arith}
+use lib.ListN.{getD}
 use Rattle.model.specs.declared.Location.{Location}
-use Rattle.model.specs.declared.Process.{Process}
 use Rattle.model.specs.States.{idle, entryOf}
 use Rattle.model.specs.Stages.{testing, checking}
 use Rattle.model.specs.Actions.{row, transitionOf}
 use Rattle.model.specs.Answers.{stepOf}
-use Rattle.fischer.specs.Survey.{numbersOf}
-use Rattle.fischer.specs.Judging.{judged}
 use Rattle.fischer.proofs.Laws.{length-mapped, none-below}
 use Rattle.fischer.proofs.Pass.{Passed, Surveyed, faulty, whole, open-fault, open-passed, turn-fault, turn-passed, passed-whole, surveyed-fits}
 use Rattle.fischer.proofs.Judged.{Goes, chosen, chosen-known, chosen-unknown, goes, exit-refused, exit-accepted}
@@ -21,18 +18,28 @@ use Rattle.fischer.proofs.step.Statement.{statement}
 use Rattle.fischer.proofs.step.Tie as tie
 
 abbrev Inv-loop : tie.InvT-loop
-Inv-loop action process time state numbers found₀ i₀ found i = Passed state process time i found
+Inv-loop action process time state numbers slot own found₀ i₀ found i = Passed state process time i found
 
 abbrev μ-loop : tie.MeasureT-loop
-μ-loop action process time state numbers found₀ i₀ found i = 96 - i
+μ-loop action process time state numbers slot own found₀ i₀ found i = 96 - i
+
+slot-of-requires : tie.Need-slot-of-requires Inv-loop μ-loop
+slot-of-requires c κs = search needs
+
+mul-own-entry : tie.Need-mul-own-entry Inv-loop μ-loop
+mul-own-entry c = search needs
+
+element-copy-out-own-entry : tie.Need-element-copy-out-own-entry Inv-loop μ-loop
+element-copy-out-own-entry c = search needs
 
 open-requires : tie.Need-open-requires Inv-loop μ-loop
 open-requires c κs = search needs
 
 loop-holds : tie.Need-loop-holds Inv-loop μ-loop
 loop-holds c =
-    open-passed (c .before .before .before .args .t1) (c .before .before .before .args .process) (c .before .before .before .args .time)
-    (c .before .before .«open» .result) (c .before .before .«open» .ensures) (search (needs, length-mapped)) (search needs) (c .if1 .taken)
+    let a = c .before .before .before .before .before .args in
+    open-passed (a .t1) (a .process) (a .time) (c .before .before .«open» .result) (c .before .before .«open» .ensures)
+    (search (needs, length-mapped)) (search needs) (c .if1 .taken)
 
 mul-entry : tie.Need-mul-entry Inv-loop μ-loop
 mul-entry c = search needs
@@ -54,19 +61,10 @@ loop-less c = search needs
 
 loop-again : tie.Need-loop-again Inv-loop μ-loop
 loop-again c =
-    let a = c .before .before .before .before .before .before .before .before .before .args in
+    let a = c .before .before .before .before .before .before .before .before .before .before .before .args in
     let v = c .before .before .before .before .before .loop in
-    turn-passed (a .t1) (a .process) (a .time) (v .i) (v .found) (v .inv) (c .before .before .before .before .loop-test .taken)
+    turn-passed (a .t1) (a .process) (a .time) (v .i) (v .found) (v .inv) (omega arith)
     idle (c .before .before .note .result) (c .before .before .note .ensures) (c .if2 .left)
-
-slot-of-requires : tie.Need-slot-of-requires Inv-loop μ-loop
-slot-of-requires c κs = search needs
-
-mul-own-entry : tie.Need-mul-own-entry Inv-loop μ-loop
-mul-own-entry c = search needs
-
-element-copy-out-own-entry : tie.Need-element-copy-out-own-entry Inv-loop μ-loop
-element-copy-out-own-entry c = search needs
 
 stay-requires : tie.Need-stay-requires Inv-loop μ-loop
 stay-requires c κs = search needs
@@ -106,28 +104,28 @@ stay-requires-2 c κs = search needs
 
 -- what the pass told, where its ways out and the numbers that do not stand meet
 surveyed : (c : tie.Joined1 Inv-loop μ-loop)
-    → Surveyed (c .before .before .before .args .t1) (c .before .before .before .args .process) (c .before .before .before .args .time) (c .if1 .found)
+    → (let a = c .before .before .before .before .before .args in Surveyed (a .t1) (a .process) (a .time) (c .if1 .found))
 surveyed c =
-    let a = c .before .before .before .args in
-    ⊎-elim (λ w. rw (w .3) (whole (passed-whole (a .t1) (a .process) (a .time) (w .1 .i) (w .1 .found) (w .1 .inv) (w .2 .left))))
-    (⊎-elim (λ w. rw (w .7) (faulty (turn-fault (a .t1) (a .process) (a .time) (w .1 .i) (w .1 .found) (w .1 .inv) (w .2 .taken)
+    let a = c .before .before .before .before .before .args in
+    ⊎-elim (λ w. rw (w .3) (whole (passed-whole (a .t1) (a .process) (a .time) (w .1 .i) (w .1 .found) (w .1 .inv) (omega (arith, w .2 .left)))))
+    (⊎-elim (λ w. rw (w .7) (faulty (turn-fault (a .t1) (a .process) (a .time) (w .1 .i) (w .1 .found) (w .1 .inv) (omega (arith, w .2 .taken))
     idle (w .4 .result) (w .4 .ensures) (w .6 .taken)) (w .6 .taken)))
     (λ w. rw (w .1) (faulty (open-fault (a .t1) (a .process) (a .time) (c .before .before .«open» .result) (c .before .before .«open» .ensures) (w .0 .left)) (w .0 .left))))
     (c .if1 .came)
 
 -- the acting process's location
-own : tie.After-own-entry Inv-loop μ-loop → Location
-own c = getD (c .before .before .before .before .before .args .t1 .processes) (c .before .slot-of .result) idle .location
+own : tie.At-match-came Inv-loop μ-loop → Location
+own c = getD (c .before .before .before .before .before .before .args .t1 .processes) (c .before .before .before .before .before .slot-of .result) idle .location
 
 -- the transition, where the arms of the match on the action meet
 is-chosen : (c : tie.At-match-came Inv-loop μ-loop)
     → (let a = c .before .before .before .before .before .before .args in
-    c .match .transition ≡ chosen (a .t1) (own (c .before)) (a .action) (a .process) (a .time))
+    c .match .transition ≡ chosen (a .t1) (own c) (a .action) (a .process) (a .time))
 unfolding own chosen transitionOf
 is-chosen c =
     let a = c .before .before .before .before .before .before .args in
-    let at : (k : ℕ) → a .action ≡ k → chosen (a .t1) (own (c .before)) k (a .process) (a .time) ≡ chosen (a .t1) (own (c .before)) (a .action) (a .process) (a .time) =
-    λ k e. ap (λ (x : ℕ). chosen (a .t1) (own (c .before)) x (a .process) (a .time)) (sym e) in
+    let at : (k : ℕ) → a .action ≡ k → chosen (a .t1) (own c) k (a .process) (a .time) ≡ chosen (a .t1) (own c) (a .action) (a .process) (a .time) =
+    λ k e. ap (λ (x : ℕ). chosen (a .t1) (own c) x (a .process) (a .time)) (sym e) in
     ⊎-elim (λ w. w .2 ∙ w .1 .ensures ∙ at 0 (w .0 .keys1))
     (⊎-elim (λ w. w .2 ∙ w .1 .ensures ∙ at 1 (w .0 .keys2))
     (⊎-elim (λ w. w .3 ∙ w .2 .ensures ∙ ap (λ (l : Location). row testing l (a .t1 .word)) (w .1 .ensures) ∙ at 2 (w .0 .keys3))
@@ -137,10 +135,11 @@ is-chosen c =
     (⊎-elim (λ w. w .2 ∙ w .1 .ensures ∙ at 6 (w .0 .keys7))
     (⊎-elim (λ w. w .2 ∙ w .1 .ensures ∙ at 7 (w .0 .keys8))
     (⊎-elim (λ w. w .2 ∙ w .1 .ensures ∙ at 8 (w .0 .keys9))
-    (λ w. w .2 ∙ w .1 .ensures ∙ sym (chosen-unknown (a .t1) (own (c .before)) (a .action) (a .process) (a .time) (none-below 9 (a .action) (w .0 .rest)))))))))))) (c .match .came)
+    (λ w. w .2 ∙ w .1 .ensures
+    ∙ sym (chosen-unknown (a .t1) (own c) (a .action) (a .process) (a .time) (none-below 9 (a .action) (w .0 .rest)))))))))))) (c .match .came)
 
 judge-requires : tie.Need-judge-requires Inv-loop μ-loop
-judge-requires c κs = λ z. surveyed-fits _ _ _ _ (surveyed (c .before .before .before)) z (c .before .before .slot-of .result)
+judge-requires c κs = λ z. surveyed-fits _ _ _ _ (surveyed (c .before)) z (c .before .before .before .before .before .slot-of .result)
 
 mul-t46 : tie.Need-mul-t46 Inv-loop μ-loop
 mul-t46 c = search needs
@@ -156,19 +155,18 @@ unfolding own entryOf
 answered c =
     let a = c .before .before .before .before .before .before .before .args in
     rw (c .judge .ensures)
-    (goes (a .t1) (a .action) (a .process) (a .time) (c .before .before .before .before .if1 .found) (own (c .before .before)) (c .before .match .transition)
-    (surveyed (c .before .before .before .before)) (search (needs, length-mapped))
-    (λ from to. ap (λ (i : ℕ). getD (a .t1 .processes) i idle .location) (c .before .before .before .slot-of .ensures .1 to))
-    (λ some known. is-chosen (c .before) ∙ chosen-known (a .t1) (own (c .before .before)) (a .action) (a .process) (a .time) some known))
+    (goes (a .t1) (a .action) (a .process) (a .time) (c .before .before .if1 .found) (own (c .before)) (c .before .match .transition)
+    (surveyed (c .before .before)) (search (needs, length-mapped))
+    (λ from to. ap (λ (i : ℕ). getD (a .t1 .processes) i idle .location) (c .before .before .before .before .before .before .slot-of .ensures .1 to))
+    (λ some known. is-chosen (c .before) ∙ chosen-known (a .t1) (own (c .before)) (a .action) (a .process) (a .time) some known))
 
 returns : tie.Need-returns Inv-loop μ-loop
 unfolding own
 returns c =
     let a = c .before .before .before .before .before .before .before .before .before .args in
-    exit-accepted (a .t1) (a .action) (a .process) (a .time) (c .before .before .before .before .before .slot-of .result)
-    (own (c .before .before .before .before)) (c .before .before .before .match .transition)
+    exit-accepted (a .t1) (a .action) (a .process) (a .time) (c .before .before .before .before .before .before .before .before .slot-of .result) (own (c .before .before .before)) (c .before .before .before .match .transition)
     (stepOf (a .t1) (a .action) (a .process) (a .time)) (c .before .before .judge .result)
-    (c .before .before .before .before .before .slot-of .ensures .1) refl (is-chosen (c .before .before .before))
+    (c .before .before .before .before .before .before .before .before .slot-of .ensures .1) refl (is-chosen (c .before .before .before))
     (answered (c .before .before)) (c .if3 .taken)
 
 returns-2 : tie.Need-returns-2 Inv-loop μ-loop
@@ -183,6 +181,9 @@ step-spec =
     (tie.spec
     Inv-loop
     μ-loop
+    slot-of-requires
+    mul-own-entry
+    element-copy-out-own-entry
     open-requires
     loop-holds
     mul-entry
@@ -192,9 +193,6 @@ step-spec =
     add-i
     loop-less
     loop-again
-    slot-of-requires
-    mul-own-entry
-    element-copy-out-own-entry
     stay-requires
     row-requires
     tested-requires

@@ -6,7 +6,7 @@ use mathlib.Core.Bool.{cond}
 use lib.Dec.{ltb, eqb}
 use borrow.Author.Needs.{needs}
 use borrow.Author.Tests.{lt-ltb, le-ltb, eq-eqb, ne-eqb}
-use Rattle.model.specs.Answers.{answerOf, beyond, unknown}
+use Rattle.model.specs.Answers.{answerOf, unknown}
 use Rattle.fischer.specs.Judging.{misnames, turnJudged, judged}
 use Rattle.fischer.proofs.answers.judge.Statement.{statement}
 use Rattle.fischer.proofs.answers.judge.Tie as tie

@@ -1,0 +1,62 @@
+-- `cases::call` meets its contract: each branch is one of `outcomeOf`, by what `fresh` and `step` ensure.
+-- Assumes nothing.
+use borrow.Author.Needs.{needs}
+use borrow.Author.Tests.{eq-eqb, ne-eqb}
+use Rattle.cases.specs.Cases.{outcomeOf}
+use Rattle.cases.proofs.call.Statement.{statement}
+use Rattle.cases.proofs.call.Tie as tie
+
+array-read-if1 : tie.Need-array-read-if1
+array-read-if1 c = search needs
+
+array-read-fresh : tie.Need-array-read-fresh
+array-read-fresh c = search needs
+
+array-read-fresh-2 : tie.Need-array-read-fresh-2
+array-read-fresh-2 c = search needs
+
+array-read-fresh-3 : tie.Need-array-read-fresh-3
+array-read-fresh-3 c = search needs
+
+array-read-fresh-4 : tie.Need-array-read-fresh-4
+array-read-fresh-4 c = search needs
+
+fresh-requires : tie.Need-fresh-requires
+fresh-requires c κs = search needs
+
+returns : tie.Need-returns
+unfolding outcomeOf
+returns c = simp (eq-eqb _ _ (c .before .if1 .taken)) (c .fresh .ensures)
+
+array-read-step : tie.Need-array-read-step
+array-read-step c = search needs
+
+array-read-step-2 : tie.Need-array-read-step-2
+array-read-step-2 c = search needs
+
+array-read-step-3 : tie.Need-array-read-step-3
+array-read-step-3 c = search needs
+
+step-requires : tie.Need-step-requires
+step-requires c κs = search needs
+
+returns-2 : tie.Need-returns-2
+unfolding outcomeOf
+returns-2 c = simp (ne-eqb _ _ (c .before .if1 .left)) (c .step .ensures)
+
+pub call-spec : {M : Type 1} → statement M
+call-spec =
+    tie.close
+    (tie.spec
+    array-read-if1
+    array-read-fresh
+    array-read-fresh-2
+    array-read-fresh-3
+    array-read-fresh-4
+    fresh-requires
+    returns
+    array-read-step
+    array-read-step-2
+    array-read-step-3
+    step-requires
+    returns-2)

@@ -1,0 +1,58 @@
+-- What a row of the table of cases means: the call that it makes, what must come of it, and that all rows of a table hold.
+-- `src/lib.rt` gives the order of a row's 18 numbers. Assumes nothing.
+use Prim.Native.Nat.{ℕ}
+use mathlib.Core.Path.{_≡_}
+use mathlib.Core.Bool.{cond}
+use mathlib.Core.List.{List, [], _∷_, _++_}
+use lib.ListN.{getD, drop, replicate}
+use lib.Dec.{eqb}
+use Rattle.model.specs.declared.Process.{Process}
+use Rattle.model.specs.declared.State.{State}
+use Rattle.model.specs.declared.Outcome.{Outcome}
+use Rattle.model.specs.States.{locationAt}
+use Rattle.model.specs.Answers.{answerOf, freshOf, stepOf}
+
+-- The call: 0 and n, a, b, c for a fresh state; 1 and an action, a process and a time for a step from the state s
+
+unfoldable pub outcomeOf : State → List ℕ → Outcome
+outcomeOf s row =
+    cond (eqb (getD row 0 0) 0) (freshOf (getD row 1 0) (getD row 2 0) (getD row 3 0) (getD row 4 0))
+    (stepOf s (getD row 1 0) (getD row 2 0) (getD row 3 0))
+
+-- What must come of it, read off numbers in the order of a row
+
+-- stage and since of each process
+unfoldable pub processesIn : List ℕ → List Process
+processesIn [] = []
+processesIn (stage ∷ []) = []
+processesIn (stage ∷ since ∷ rest) = record { location = locationAt stage since } ∷ processesIn rest
+
+-- the answer, the six numbers of the state, and its processes
+unfoldable pub outcomeIn : List ℕ → Outcome
+outcomeIn xs =
+    record {
+      answer = answerOf (getD xs 0 0) (getD xs 1 0) (getD xs 2 0);
+      state =
+          record {
+            n = getD xs 3 0;
+            a = getD xs 4 0;
+            b = getD xs 5 0;
+            c = getD xs 6 0;
+            clock = getD xs 7 0;
+            word = getD xs 8 0;
+            processes = processesIn (drop 9 xs);
+          };
+    }
+
+-- what a row tells: all that follows the call, and of each of the other 94 processes the remainder, stage 0, and no since
+unfoldable pub toldBy : List ℕ → List ℕ
+toldBy row = drop 5 row ++ replicate 188 0
+
+abbrev pub expectedOf : List ℕ → Outcome
+expectedOf row = outcomeIn (toldBy row)
+
+-- Each row's call, at the state that the row before it gave back, has the whole outcome that the row tells.
+
+unfoldable pub Hold : State → List (List ℕ) → Type 0
+Hold s [] = Unit
+Hold s (row ∷ rows) = (outcomeOf s row ≡ expectedOf row) × Hold (outcomeOf s row .state) rows
