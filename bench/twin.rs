@@ -1,0 +1,237 @@
+//! The step machine in plain Rust, by value and with the same checks, to measure the proved one beside.
+//! It is written as a programmer would without a proof: a pass for soundness, one for lateness, one for the critical process.
+
+#[derive(Clone, Copy, PartialEq)]
+pub enum Location {
+    Remainder,
+    Testing(u64),
+    Setting(u64),
+    Checking(u64),
+    Entering(u64),
+    Critical,
+    Resetting(u64),
+    Leaving(u64),
+}
+use Location::*;
+
+#[derive(Clone, Copy)]
+pub struct Process {
+    location: Location,
+}
+
+#[derive(Clone, Copy)]
+pub struct State {
+    n: u64,
+    a: u64,
+    b: u64,
+    c: u64,
+    clock: u64,
+    word: u64,
+    processes: [Process; 96],
+}
+
+pub struct Answer {
+    code: u64,
+    process: u64,
+    time: u64,
+}
+
+pub struct Outcome {
+    answer: Answer,
+    state: State,
+}
+
+const LAST: u64 = 1_000_000_000_000;
+
+/// Since when a process is in a timed location, and how long it may stay.
+fn timing(a: u64, c: u64, location: Location) -> Option<(u64, u64)> {
+    match location {
+        Remainder | Critical => None,
+        Checking(t) => Some((t, c)),
+        Testing(t) | Setting(t) | Entering(t) | Resetting(t) | Leaving(t) => Some((t, a)),
+    }
+}
+
+fn stage(location: Location) -> u64 {
+    match location {
+        Remainder => 0,
+        Testing(_) => 1,
+        Setting(_) => 2,
+        Checking(_) => 3,
+        Entering(_) => 4,
+        Critical => 5,
+        Resetting(_) => 6,
+        Leaving(_) => 7,
+    }
+}
+
+fn since(location: Location) -> u64 {
+    timing(0, 0, location).map_or(0, |(since, _)| since)
+}
+
+fn is_sound(s: &State) -> bool {
+    if !(1 <= s.n && s.n <= 96) {
+        return false;
+    }
+    if !(1 <= s.a && s.a < s.b && s.b <= s.c && s.c <= 10_000_000) {
+        return false;
+    }
+    if !(s.clock <= LAST && s.word <= s.n) {
+        return false;
+    }
+    for i in 0..96 {
+        let location = s.processes[i].location;
+        if (i as u64) < s.n {
+            if let Some((since, limit)) = timing(s.a, s.c, location) {
+                if s.clock < since || limit < s.clock - since {
+                    return false;
+                }
+            }
+        } else if location != Remainder {
+            return false;
+        }
+    }
+    true
+}
+
+/// The smallest deadline before `time` and the lowest process that has it; process 0 where there is none.
+fn missed(s: &State, time: u64) -> (u64, u64) {
+    let mut best = (0, 0);
+    for i in (0..96).rev() {
+        if let Some((since, limit)) = timing(s.a, s.c, s.processes[i].location) {
+            if since < time && limit < time - since {
+                let deadline = since + limit;
+                if best.0 == 0 || deadline <= best.1 {
+                    best = (i as u64 + 1, deadline);
+                }
+            }
+        }
+    }
+    best
+}
+
+fn critical(s: &State) -> u64 {
+    for i in 0..96 {
+        if s.processes[i].location == Critical {
+            return i as u64 + 1;
+        }
+    }
+    0
+}
+
+fn answered(state: State, code: u64, process: u64, time: u64) -> Outcome {
+    Outcome { answer: Answer { code, process, time }, state }
+}
+
+#[cfg_attr(apart, inline(never))]
+pub fn step(state: State, action: u64, process: u64, time: u64) -> Outcome {
+    if !is_sound(&state) {
+        return answered(state, 1, 0, 0);
+    }
+    if time < state.clock {
+        let clock = state.clock;
+        return answered(state, 4, 0, clock);
+    }
+    if LAST < time {
+        return answered(state, 5, 0, 0);
+    }
+    if 8 < action {
+        return answered(state, 6, 0, 0);
+    }
+    if action == 0 {
+        if process != 0 {
+            return answered(state, 7, 0, 0);
+        }
+    } else if process == 0 || state.n < process {
+        return answered(state, 7, 0, 0);
+    }
+    let (late, deadline) = missed(&state, time);
+    if late != 0 {
+        return answered(state, 8, late, deadline);
+    }
+    let mut state = state;
+    if action != 0 {
+        let i = (process - 1) as usize;
+        let own = state.processes[i].location;
+        if stage(own) != action - 1 {
+            return answered(state, 9, process, 0);
+        }
+        if action == 4 && time < since(own) + state.b {
+            let release = since(own) + state.b;
+            return answered(state, 10, process, release);
+        }
+        let to = match action {
+            1 => Testing(time),
+            2 => if state.word == 0 { Setting(time) } else { Testing(time) },
+            3 => {
+                state.word = process;
+                Checking(time)
+            }
+            4 => if state.word == process { Entering(time) } else { Testing(time) },
+            5 => Critical,
+            6 => Resetting(time),
+            7 => {
+                state.word = 0;
+                Leaving(time)
+            }
+            _ => Remainder,
+        };
+        state.processes[i] = Process { location: to };
+    }
+    state.clock = time;
+    let process = critical(&state);
+    answered(state, 0, process, time)
+}
+
+// The cases of crates/workload
+
+const OUT_OF_PLACE: u64 = 4;
+const LATE: u64 = 5;
+const UNSOUND_COUNT: u64 = 6;
+const UNSOUND_FIRST: u64 = 7;
+const UNSOUND_LAST: u64 = 8;
+
+fn count_of(case: u64) -> u64 {
+    match case {
+        1 => 2,
+        2 => 24,
+        _ => 96,
+    }
+}
+
+fn state_of(case: u64) -> State {
+    let idle = Process { location: Remainder };
+    let mut state = State { n: count_of(case), a: 5, b: 8, c: 12, clock: 0, word: 0, processes: [idle; 96] };
+    match case {
+        LATE => state.processes[0] = Process { location: Testing(0) },
+        UNSOUND_COUNT => state.n = 97,
+        UNSOUND_FIRST => state.processes[0] = Process { location: Testing(9) },
+        UNSOUND_LAST => state.processes[95] = Process { location: Testing(9) },
+        _ => {}
+    }
+    state
+}
+
+fn act_of(case: u64, i: u64) -> (u64, u64, u64) {
+    let (round, place) = (i / 8, i % 8);
+    match case {
+        OUT_OF_PLACE => (8, 1, 0),
+        LATE.. => (0, 0, 1000),
+        _ => (place + 1, round % count_of(case) + 1, round * 20 + place + place / 3 * 8 - place / 6 * 8),
+    }
+}
+
+fn main() {
+    let case: u64 = std::env::args().nth(1).map_or(0, |word| word.parse().unwrap());
+    let steps = if case == 0 { 0 } else { 2000 };
+    let mut state = state_of(case);
+    let mut sum = 0u64;
+    for i in 0..steps {
+        let (action, process, time) = act_of(case, i);
+        let outcome = step(state, action, process, time);
+        let answer = outcome.answer;
+        sum = sum.wrapping_add(answer.code).wrapping_add(answer.process).wrapping_add(answer.time);
+        state = outcome.state;
+    }
+    println!("{} {}", sum, state.clock);
+}

@@ -1,0 +1,7 @@
+// Runs a case with a second call of `step` in the program, so that the compiler leaves both calls.
+fn main() {
+    let case = workload::chosen();
+    // a wait at the clock's own time, which changes nothing
+    let first = fischer::step(workload::state_of(case), 0, 0, 0);
+    workload::run(case, first.state);
+}

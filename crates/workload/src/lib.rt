@@ -1,0 +1,141 @@
+// The work of the benchmarks: the state that a case starts from, the act of each of its steps, and the loop that makes them.
+// `bench/twin.rs` has the same cases in Rust.
+use libc::STDOUT_FILENO;
+use model::Location;
+use model::Process;
+use model::State;
+use std::num::wrapping_add_u64;
+
+// The cases. NONE makes no step: what it costs is taken off the others. 1, 2 and 3 are accepted acts of 2, 24 and 96 processes.
+const NONE: u64 = 0;
+
+// OUT_OF_PLACE and LATE are refused with 9 and 8, the three that follow with 1: n is 97, the first or the last entry came
+// after the clock.
+const OUT_OF_PLACE: u64 = 4;
+
+const LATE: u64 = 5;
+
+const UNSOUND_COUNT: u64 = 6;
+
+const UNSOUND_FIRST: u64 = 7;
+
+const UNSOUND_LAST: u64 = 8;
+
+struct Act {
+    action: u64,
+    process: u64,
+    time: u64,
+}
+
+// The case that the program's argument names by a digit.
+pub fn chosen() -> u64 {
+    let mut word = [b'0'; 8];
+    os::arg(1, &mut word);
+    let digit = word[0];
+    match digit {
+        b'1' => 1,
+        b'2' => 2,
+        b'3' => 3,
+        b'4' => OUT_OF_PLACE,
+        b'5' => LATE,
+        b'6' => UNSOUND_COUNT,
+        b'7' => UNSOUND_FIRST,
+        b'8' => UNSOUND_LAST,
+        _ => NONE,
+    }
+}
+
+fn count_of(case: u64) -> u64 {
+    match case {
+        1 => 2,
+        2 => 24,
+        _ => 96,
+    }
+}
+
+// The process whose round it is: each of them in turn.
+fn turn_of(case: u64, round: u64) -> u64 {
+    match case {
+        1 => round % 2 + 1,
+        2 => round % 24 + 1,
+        _ => round % 96 + 1,
+    }
+}
+
+fn came_at(time: u64) -> Process {
+    Process {
+        location: Location::Testing(time),
+    }
+}
+
+pub fn state_of(case: u64) -> State {
+    let made = fischer::fresh(count_of(case), 5, 8, 12);
+    let mut state = made.state;
+    if case == LATE {
+        state.processes[0] = came_at(0);
+    }
+    if case == UNSOUND_COUNT {
+        state.n = 97;
+    }
+    if case == UNSOUND_FIRST {
+        state.processes[0] = came_at(9);
+    }
+    if case == UNSOUND_LAST {
+        state.processes[95] = came_at(9);
+    }
+    state
+}
+
+// Rounds of the eight actions of one process after the other, all accepted; or one act again and again, which is refused.
+fn act_of(case: u64, i: u64) -> Act {
+    let turn = i % 16000;
+    let round = turn / 8;
+    let place = turn % 8;
+    if case == OUT_OF_PLACE {
+        return Act {
+            action: 8,
+            process: 1,
+            time: 0,
+        };
+    }
+    if LATE <= case {
+        return Act {
+            action: 0,
+            process: 0,
+            time: 1000,
+        };
+    }
+    Act {
+        action: place + 1,
+        process: turn_of(case, round),
+        time: round * 20 + place + place / 3 * 8 - place / 6 * 8,
+    }
+}
+
+fn report(sum: u64, clock: u64) {
+    io::print_decimal(STDOUT_FILENO, sum);
+    io::write_all(STDOUT_FILENO, b" ");
+    io::print_decimal(STDOUT_FILENO, clock);
+    io::write_all(STDOUT_FILENO, b"\n");
+}
+
+// Runs the acts of a case, and prints the sum of all answers and the last clock.
+pub fn run(case: u64, start: State) {
+    if case == NONE {
+        report(0, start.clock);
+        return;
+    }
+    let mut state = start;
+    let mut sum: u64 = 0;
+    for i in 0..2000 {
+        let act = act_of(case, i);
+        let outcome = fischer::step(state, act.action, act.process, act.time);
+        let answer = outcome.answer;
+        sum = wrapping_add_u64(sum, answer.code);
+        sum = wrapping_add_u64(sum, answer.process);
+        sum = wrapping_add_u64(sum, answer.time);
+        let next = outcome.state;
+        state = next;
+    }
+    report(sum, state.clock);
+}
