@@ -133,6 +133,11 @@ unsound-goes : (s : State) (act p m : ℕ) (f : Survey) (own : Location) (t : Tr
 unfolding stepOf judged
 unsound-goes s act p m f own t e n = rw (e, ne-eqb (f .faults) 0 n) (refusal (λ z. omega arith))
 
+-- an unsound state is answered with 1
+pub exit-unsound : (s : State) (act p m : ℕ) → soundOf s ≡ false → answers 1 0 0 s ≡ stepOf s act p m
+unfolding stepOf
+exit-unsound s act p m e = rw e
+
 pub goes : (s : State) (act p m : ℕ) (f : Survey) (own : Location) (t : Transition)
     → Surveyed s p m f → length (s .processes) ≡ 96
     → (1 ≤ p → p ≤ 96 → own ≡ entryOf s p .location) → (1 ≤ act → act ≤ 8 → t ≡ transitionOf s act p m)

@@ -15,7 +15,7 @@ use Rattle.model.specs.Stages.{critical}
 use Rattle.model.specs.States.{idle, sinceOf, deadline, late, entrySound, entriesSound, soundOf}
 use Rattle.model.specs.Answers.{answerOf, soonest, lateOf}
 use Rattle.fischer.specs.declared.survey.Survey.{Survey}
-use Rattle.fischer.specs.Survey.{numbersOf, numbersStand, opened, noted}
+use Rattle.fischer.specs.Survey.{numbersOf, numbersStand, nothing, noted}
 use Rattle.model.proofs.Soundness.{sound-numbers, sound-past}
 use Rattle.model.proofs.Tests.{by-test}
 use Rattle.fischer.proofs.Laws.{drop-at, drop-end}
@@ -47,26 +47,21 @@ sound-parts : (s : State) → soundOf s ≡ numbersStand (numbersOf s) && entrie
 unfolding soundOf numbersStand
 sound-parts s = refl
 
-module _ (s : State) (acting m : ℕ) (f : Survey) (e : f ≡ opened (numbersOf s)) where
-  pub open-fault : f .faults ≢ 0 → soundOf s ≡ false
-  unfolding opened
-  open-fault n = by-test (numbersStand (numbersOf s))
-      (λ t. absurd (n (rw (e, t) refl)))
-      (λ t. sound-parts s ∙ rw t)
+pub numbers-fault : (s : State) → numbersStand (numbersOf s) ≡ false → soundOf s ≡ false
+numbers-fault s e = sound-parts s ∙ rw e
 
-  pub open-passed : length (s .processes) ≡ 96 → m < 2 ^ 64 → f .faults ≡ 0 → Passed s acting m 0 f
-  unfolding opened lateOf
-  open-passed size h z = by-test (numbersStand (numbersOf s))
-      (λ t. rw (e, t) (record {
-        most = omega arith;
-        size = size;
-        none = refl;
-        stand = t;
-        sound = refl;
-        late = simp (le-ltb 18446744073709551615 (m - s .clock) (omega arith));
-        critical = refl;
-      }))
-      (λ t. absurd (omega (arith, rw (e, t) at z)))
+pub nothing-passed : (s : State) (acting m : ℕ) → numbersStand (numbersOf s) ≡ true → length (s .processes) ≡ 96 → m < 2 ^ 64
+    → Passed s acting m 0 nothing
+unfolding lateOf
+nothing-passed s acting m stand size h = record {
+  most = omega arith;
+  size = size;
+  none = refl;
+  stand = stand;
+  sound = refl;
+  late = simp (le-ltb 18446744073709551615 (m - s .clock) (omega arith));
+  critical = refl;
+}
 
 module _ (s : State) (acting m i : ℕ) (f : Survey) (passed : Passed s acting m i f) (more : i < 96)
     (d : Process) (g : Survey) (e : g ≡ noted (numbersOf s) acting (i + 1) (getD (s .processes) i d .location) f) where

@@ -23,13 +23,10 @@ numbersStand x = countStands (x .n) && limitsStand (x .a) (x .b) (x .c) && clock
 abbrev pub nothing : Survey
 nothing = record { faults = 0; process = 0; left = 18446744073709551615; critical = 0 }
 
+-- One entry more, that of process k
+
 abbrev pub faulted : Survey → Survey
 faulted f = record { faults = 1; process = f .process; left = f .left; critical = f .critical }
-
-unfoldable pub opened : Numbers → Survey
-opened x = cond (numbersStand x) nothing (faulted nothing)
-
--- One entry more, that of process k
 
 abbrev pub criticalAt : ℕ → Survey → Survey
 criticalAt k f = record { faults = f .faults; process = f .process; left = f .left; critical = k }

@@ -15,6 +15,7 @@ use crate::answers::judge;
 use crate::limits::Numbers;
 use crate::limits::count_stands;
 use crate::limits::limits_stand;
+use crate::limits::numbers_stand;
 use crate::stages::CHECKING;
 use crate::stages::CRITICAL;
 use crate::stages::ENTERING;
@@ -23,8 +24,8 @@ use crate::stages::REMAINDER;
 use crate::stages::RESETTING;
 use crate::stages::SETTING;
 use crate::stages::TESTING;
+use crate::survey::empty;
 use crate::survey::note;
-use crate::survey::open;
 use model::Location;
 use model::Outcome;
 use model::Process;
@@ -102,21 +103,25 @@ pub fn step(mut state: State, action: u64, process: u64, time: u64) -> Outcome
         clock: state.clock,
         word: state.word,
     };
+    if !numbers_stand(numbers) {
+        return Outcome {
+            answer: answer_with(1, 0, 0),
+            state: state,
+        };
+    }
     let slot = slot_of(process);
     let own_entry = state.processes[slot];
     let own = own_entry.location;
-    let mut found = open(numbers);
-    if found.faults == 0 {
-        let mut i: usize = 0;
-        while i < 96 {
-            let entry = state.processes[i];
-            let location = entry.location;
-            found = note(found, numbers, process, (i as u64) + 1, location);
-            if found.faults != 0 {
-                break;
-            }
-            i += 1;
+    let mut found = empty();
+    let mut i: usize = 0;
+    while i < 96 {
+        let entry = state.processes[i];
+        let location = entry.location;
+        found = note(found, numbers, process, (i as u64) + 1, location);
+        if found.faults != 0 {
+            break;
         }
+        i += 1;
     }
     let word = state.word;
     let transition = match action {

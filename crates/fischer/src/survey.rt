@@ -1,16 +1,15 @@
 // What one pass over the entries finds: whether they are sound, the deadline that comes first, and the lowest critical
 // process besides the acting one. The time of the action has no part in it.
 use crate::limits::Numbers;
-use crate::limits::numbers_stand;
 use crate::stages::REMAINDER;
 use crate::stages::stage_of;
 use model::Location;
 ghost use mathlib.Core.Path.{_≡_};
-ghost use Rattle.fischer.specs.Survey.{opened, faulted, criticalNoted, timedNoted, noted};
+ghost use Rattle.fischer.specs.Survey.{nothing, faulted, criticalNoted, timedNoted, noted};
 
 // The fields are numbers only: a bool leaves padding, which each turn of the pass would copy.
 pub(crate) struct Survey {
-    // 0 where the numbers and the entries up to here are sound, else 1
+    // 0 where the entries up to here are sound, else 1
     pub faults: u64,
     // the process whose deadline comes first, the lowest of equals, and the time left to it from the clock
     pub process: u64,
@@ -19,20 +18,15 @@ pub(crate) struct Survey {
     pub critical: u64,
 }
 
-// Before the first entry: no time is left to no process, and a fault where the numbers do not stand.
-pub(crate) fn open(numbers: Numbers) -> Survey
-    ensures { λ r. ⌜ r ≡ opened numbers ⌝ }
+// Before the first entry: no process, and more time left than there is.
+pub(crate) fn empty() -> Survey
+    ensures { λ r. ⌜ r ≡ nothing ⌝ }
 {
-    let nothing = Survey {
+    Survey {
         faults: 0,
         process: 0,
         left: 18446744073709551615,
         critical: 0,
-    };
-    if numbers_stand(numbers) {
-        nothing
-    } else {
-        with_fault(nothing)
     }
 }
 

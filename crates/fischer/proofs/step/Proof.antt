@@ -5,6 +5,7 @@ use mathlib.Core.Path.{_≡_, refl, sym, ap, _∙_}
 use mathlib.Core.Logic.{⊎-elim}
 use borrow.Author.Needs.{needs}
 use native.Mathlib.Omega.{arith}
+use borrow.Author.Tests.{not-true, not-false}
 use lib.ListN.{getD}
 use Rattle.model.specs.declared.Location.{Location}
 use Rattle.model.specs.States.{idle, entryOf}
@@ -12,8 +13,8 @@ use Rattle.model.specs.Stages.{testing, checking}
 use Rattle.model.specs.Actions.{row, transitionOf}
 use Rattle.model.specs.Answers.{stepOf}
 use Rattle.fischer.proofs.Laws.{length-mapped, none-below}
-use Rattle.fischer.proofs.Pass.{Passed, Surveyed, faulty, whole, open-fault, open-passed, turn-fault, turn-passed, passed-whole, surveyed-fits}
-use Rattle.fischer.proofs.Judged.{Goes, chosen, chosen-known, chosen-unknown, goes, exit-refused, exit-accepted}
+use Rattle.fischer.proofs.Pass.{Passed, Surveyed, faulty, whole, numbers-fault, nothing-passed, turn-fault, turn-passed, passed-whole, surveyed-fits}
+use Rattle.fischer.proofs.Judged.{Goes, chosen, chosen-known, chosen-unknown, goes, exit-unsound, exit-refused, exit-accepted}
 use Rattle.fischer.proofs.step.Statement.{statement}
 use Rattle.fischer.proofs.step.Tie as tie
 
@@ -22,6 +23,19 @@ Inv-loop action process time state numbers slot own found₀ i₀ found i = Pass
 
 abbrev μ-loop : tie.MeasureT-loop
 μ-loop action process time state numbers slot own found₀ i₀ found i = 96 - i
+
+numbers-stand-requires : tie.Need-numbers-stand-requires Inv-loop μ-loop
+numbers-stand-requires c κs = search needs
+
+answer-with-requires : tie.Need-answer-with-requires Inv-loop μ-loop
+answer-with-requires c κs = search needs
+
+returns : tie.Need-returns Inv-loop μ-loop
+returns c =
+    let a = c .before .before .before .args in
+    rw (c .answer-with .ensures)
+    (exit-unsound (a .t1) (a .action) (a .process) (a .time)
+    (numbers-fault (a .t1) (sym (c .before .before .numbers-stand .ensures) ∙ not-true _ (c .before .if1 .taken))))
 
 slot-of-requires : tie.Need-slot-of-requires Inv-loop μ-loop
 slot-of-requires c κs = search needs
@@ -32,14 +46,15 @@ mul-own-entry c = search needs
 element-copy-out-own-entry : tie.Need-element-copy-out-own-entry Inv-loop μ-loop
 element-copy-out-own-entry c = search needs
 
-open-requires : tie.Need-open-requires Inv-loop μ-loop
-open-requires c κs = search needs
+empty-requires : tie.Need-empty-requires Inv-loop μ-loop
+empty-requires c κs = search needs
 
 loop-holds : tie.Need-loop-holds Inv-loop μ-loop
 loop-holds c =
     let a = c .before .before .before .before .before .args in
-    open-passed (a .t1) (a .process) (a .time) (c .before .before .«open» .result) (c .before .before .«open» .ensures)
-    (search (needs, length-mapped)) (search needs) (c .if1 .taken)
+    rw (c .empty .ensures)
+    (nothing-passed (a .t1) (a .process) (a .time) (sym (c .before .before .before .before .numbers-stand .ensures) ∙ not-false _ (c .before .before .before .if1 .left))
+    (search (needs, length-mapped)) (search needs))
 
 mul-entry : tie.Need-mul-entry Inv-loop μ-loop
 mul-entry c = search needs
@@ -102,28 +117,29 @@ row-requires-8 c κs = search needs
 stay-requires-2 : tie.Need-stay-requires-2 Inv-loop μ-loop
 stay-requires-2 c κs = search needs
 
--- what the pass told, where its ways out and the numbers that do not stand meet
-surveyed : (c : tie.Joined1 Inv-loop μ-loop)
-    → (let a = c .before .before .before .before .before .args in Surveyed (a .t1) (a .process) (a .time) (c .if1 .found))
+-- what the pass told, where its ways out meet
+surveyed : (c : tie.Left-loop Inv-loop μ-loop)
+    → (let a = c .before .before .before .before .before .before .before .args in Surveyed (a .t1) (a .process) (a .time) (c .loop-test .found))
 surveyed c =
-    let a = c .before .before .before .before .before .args in
-    ⊎-elim (λ w. rw (w .3) (whole (passed-whole (a .t1) (a .process) (a .time) (w .1 .i) (w .1 .found) (w .1 .inv) (omega (arith, w .2 .left)))))
-    (⊎-elim (λ w. rw (w .7) (faulty (turn-fault (a .t1) (a .process) (a .time) (w .1 .i) (w .1 .found) (w .1 .inv) (omega (arith, w .2 .taken))
-    idle (w .4 .result) (w .4 .ensures) (w .6 .taken)) (w .6 .taken)))
-    (λ w. rw (w .1) (faulty (open-fault (a .t1) (a .process) (a .time) (c .before .before .«open» .result) (c .before .before .«open» .ensures) (w .0 .left)) (w .0 .left))))
-    (c .if1 .came)
+    let a = c .before .before .before .before .before .before .before .args in
+    let v = c .before .loop in
+    ⊎-elim
+    (λ w. rw (w .1) (whole (passed-whole (a .t1) (a .process) (a .time) (v .i) (v .found) (v .inv) (omega (arith, w .0 .left)))))
+    (λ w. rw (w .5) (faulty (turn-fault (a .t1) (a .process) (a .time) (v .i) (v .found) (v .inv) (omega (arith, w .0 .taken))
+    idle (w .2 .result) (w .2 .ensures) (w .4 .taken)) (w .4 .taken)))
+    (c .loop-test .came)
 
 -- the acting process's location
 own : tie.At-match-came Inv-loop μ-loop → Location
-own c = getD (c .before .before .before .before .before .before .args .t1 .processes) (c .before .before .before .before .before .slot-of .result) idle .location
+own c = getD (c .before .before .before .before .before .before .before .before .args .t1 .processes) (c .before .before .before .before .before .slot-of .result) idle .location
 
 -- the transition, where the arms of the match on the action meet
 is-chosen : (c : tie.At-match-came Inv-loop μ-loop)
-    → (let a = c .before .before .before .before .before .before .args in
+    → (let a = c .before .before .before .before .before .before .before .before .args in
     c .match .transition ≡ chosen (a .t1) (own c) (a .action) (a .process) (a .time))
 unfolding own chosen transitionOf
 is-chosen c =
-    let a = c .before .before .before .before .before .before .args in
+    let a = c .before .before .before .before .before .before .before .before .args in
     let at : (k : ℕ) → a .action ≡ k → chosen (a .t1) (own c) k (a .process) (a .time) ≡ chosen (a .t1) (own c) (a .action) (a .process) (a .time) =
     λ k e. ap (λ (x : ℕ). chosen (a .t1) (own c) x (a .process) (a .time)) (sym e) in
     ⊎-elim (λ w. w .2 ∙ w .1 .ensures ∙ at 0 (w .0 .keys1))
@@ -141,37 +157,37 @@ is-chosen c =
 judge-requires : tie.Need-judge-requires Inv-loop μ-loop
 judge-requires c κs = λ z. surveyed-fits _ _ _ _ (surveyed (c .before)) z (c .before .before .before .before .before .slot-of .result)
 
-mul-t46 : tie.Need-mul-t46 Inv-loop μ-loop
-mul-t46 c = search needs
+mul-t49 : tie.Need-mul-t49 Inv-loop μ-loop
+mul-t49 c = search needs
 
 element-set-from-state : tie.Need-element-set-from-state Inv-loop μ-loop
 element-set-from-state c = search needs
 
 -- the model's step goes with the answer
 answered : (c : tie.After-judge Inv-loop μ-loop)
-    → (let a = c .before .before .before .before .before .before .before .args in
+    → (let a = c .before .before .before .before .before .before .before .before .before .args in
     Goes (a .t1) (a .action) (a .process) (a .time) (stepOf (a .t1) (a .action) (a .process) (a .time)) (c .judge .result))
 unfolding own entryOf
 answered c =
-    let a = c .before .before .before .before .before .before .before .args in
+    let a = c .before .before .before .before .before .before .before .before .before .args in
     rw (c .judge .ensures)
-    (goes (a .t1) (a .action) (a .process) (a .time) (c .before .before .if1 .found) (own (c .before)) (c .before .match .transition)
+    (goes (a .t1) (a .action) (a .process) (a .time) (c .before .before .loop-test .found) (own (c .before)) (c .before .match .transition)
     (surveyed (c .before .before)) (search (needs, length-mapped))
     (λ from to. ap (λ (i : ℕ). getD (a .t1 .processes) i idle .location) (c .before .before .before .before .before .before .slot-of .ensures .1 to))
     (λ some known. is-chosen (c .before) ∙ chosen-known (a .t1) (own (c .before)) (a .action) (a .process) (a .time) some known))
 
-returns : tie.Need-returns Inv-loop μ-loop
+returns-2 : tie.Need-returns-2 Inv-loop μ-loop
 unfolding own
-returns c =
-    let a = c .before .before .before .before .before .before .before .before .before .args in
+returns-2 c =
+    let a = c .before .before .before .before .before .before .before .before .before .before .before .args in
     exit-accepted (a .t1) (a .action) (a .process) (a .time) (c .before .before .before .before .before .before .before .before .slot-of .result) (own (c .before .before .before)) (c .before .before .before .match .transition)
     (stepOf (a .t1) (a .action) (a .process) (a .time)) (c .before .before .judge .result)
     (c .before .before .before .before .before .before .before .before .slot-of .ensures .1) refl (is-chosen (c .before .before .before))
     (answered (c .before .before)) (c .if3 .taken)
 
-returns-2 : tie.Need-returns-2 Inv-loop μ-loop
-returns-2 c =
-    let a = c .before .before .before .before .before .before .before .before .before .args in
+returns-3 : tie.Need-returns-3 Inv-loop μ-loop
+returns-3 c =
+    let a = c .before .before .before .before .before .before .before .before .before .before .before .args in
     exit-refused (a .t1) (a .action) (a .process) (a .time) (stepOf (a .t1) (a .action) (a .process) (a .time)) (c .before .before .judge .result)
     (answered (c .before .before)) (c .if3 .left)
 
@@ -181,10 +197,13 @@ step-spec =
     (tie.spec
     Inv-loop
     μ-loop
+    numbers-stand-requires
+    answer-with-requires
+    returns
     slot-of-requires
     mul-own-entry
     element-copy-out-own-entry
-    open-requires
+    empty-requires
     loop-holds
     mul-entry
     element-copy-out-entry
@@ -206,7 +225,7 @@ step-spec =
     row-requires-8
     stay-requires-2
     judge-requires
-    mul-t46
+    mul-t49
     element-set-from-state
-    returns
-    returns-2)
+    returns-2
+    returns-3)
