@@ -97,7 +97,7 @@ module _ (s : State) (act p m : ℕ) (f : Survey) (found : Whole s p m f) (size 
       (t-is : 1 ≤ act → act ≤ 8 → t ≡ transitionOf s act p m)
       (few : s .n ≤ 96) where
     -- past the refusals up to 8: a wait, or an action of a process
-    past-late : act ≤ 8 → misnamed s act p ≡ false → Goes s act p m
+    past-late : act ≤ 8 → misnamed (s .n) act p ≡ false → Goes s act p m
         (cond (misplaced s act p m) (answers 9 p 0 s)
         (cond (early s act p m) (answers 10 p (release s (entryOf s p)) s) (accepts (effect s act p m))))
         (cond (eqb act 0) (answerOf 0 (f .critical) m) (turnJudged (f .critical) (s .b) own t act p m))
@@ -124,7 +124,7 @@ module _ (s : State) (act p m : ℕ) (f : Survey) (found : Whole s p m f) (size 
         (λ _. by-both (backward s m) _ refl (λ _. refusal (λ z. omega arith))
         (λ _. by-both (beyond m) _ refl (λ _. refusal (λ z. omega arith))
         (λ _. by-both (unknown act) _ refl (λ _. refusal (λ z. omega arith))
-        (λ known. by-both (misnamed s act p) _ refl (λ _. refusal (λ z. omega arith))
+        (λ known. by-both (misnamed (s .n) act p) _ refl (λ _. refusal (λ z. omega arith))
         (λ named. by-both (eqb (lateOf s m .code) 8) _ late-is late-goes
         (λ _. past-late (ltb-false 8 act known) named))))))
 

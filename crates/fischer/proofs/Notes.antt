@@ -94,14 +94,18 @@ module _ (s : State) (acting k m : ℕ) (q : Process) (f : Survey) (none : f .fa
         (λ a. fault (h .sound-is ∙ simp (le-leb k (s .n) (ltb-false (s .n) k e), lt-leb since (s .clock) (ltb-true (s .clock) since a)))
         (λ z. omega arith))
         (λ a. by-cond (Noted s acting k m q f) (ltb limit (s .clock - since))
-        (λ b. fault (h .sound-is ∙ simp (le-leb k (s .n) (ltb-false (s .n) k e), le-leb since (s .clock) (ltb-false (s .clock) since a), lt-ltb (since + limit) (s .clock) (omega (arith, ltb-true limit (s .clock - since) b))))
-        (λ z. omega arith))
+        (λ b. fault (h .sound-is ∙ simp (
+          le-leb k (s .n) (ltb-false (s .n) k e),
+          le-leb since (s .clock) (ltb-false (s .clock) since a),
+          lt-ltb (since + limit) (s .clock) (omega (arith, ltb-true limit (s .clock - since) b)),
+        )) (λ z. omega arith))
         (λ b. timed-turn (ltb-false (s .n) k e) (ltb-false (s .clock) since a) (ltb-false limit (s .clock - since) b))))
       where
         timed-turn : k ≤ s .n → since ≤ s .clock → s .clock - since ≤ limit
             → Noted s acting k m q f (cond (leb (f .left) (limit - (s .clock - since))) f (firstAt k (limit - (s .clock - since)) f))
         timed-turn e a b =
-            let sound : entrySound s k q ≡ true = h .sound-is ∙ simp (le-leb k (s .n) e, le-leb since (s .clock) a, le-ltb (since + limit) (s .clock) (omega arith)) in
+            let sound : entrySound s k q ≡ true = h .sound-is
+            ∙ simp (le-leb k (s .n) e, le-leb since (s .clock) a, le-ltb (since + limit) (s .clock) (omega arith)) in
             by-cond (Noted s acting k m q f) (leb (f .left) (limit - (s .clock - since)))
             (λ l. fine (record { none = none; sound = sound; late-next = not-sooner a b (leb-true _ _ l); critical-next = keeps-critical }))
             (λ l. fine (record { none = none; sound = sound; late-next = sooner a b (leb-false _ _ l); critical-next = keeps-critical }))
@@ -127,12 +131,18 @@ module _ (s : State) (acting k m : ℕ) (f : Survey) (none : f .faults ≡ 0) wh
   critical-noted some =
       by-cond (Noted s acting k m (record { location = Critical }) f) (ltb (s .n) k)
       (λ e. fault (simp (lt-leb k (s .n) (ltb-true (s .n) k e))) (λ z. omega arith))
-      (λ e. let sound : entrySound s k (record { location = Critical }) ≡ true = simp (le-leb k (s .n) (ltb-false (s .n) k e), le-leb 0 (s .clock) (omega arith)) in
+      (λ e. let sound : entrySound s k (record { location = Critical }) ≡ true =
+      simp (le-leb k (s .n) (ltb-false (s .n) k e), le-leb 0 (s .clock) (omega arith)) in
       by-cond (Noted s acting k m (record { location = Critical }) f) (eqb k acting)
       (λ a. fine (record { none = none; sound = sound; late-next = refl; critical-next = λ rest. simp a }))
       (λ a. by-cond (Noted s acting k m (record { location = Critical }) f) (not (eqb (f .critical) 0))
       (λ b. fine (record { none = none; sound = sound; late-next = refl; critical-next = λ rest. simp (a, not-true (eqb (f .critical) 0) b) }))
-      (λ b. fine (record { none = none; sound = sound; late-next = refl; critical-next = λ rest. simp (a, not-false (eqb (f .critical) 0) b, ne-eqb k 0 (λ z. omega arith)) }))))
+      (λ b. fine (record {
+        none = none;
+        sound = sound;
+        late-next = refl;
+        critical-next = λ rest. simp (a, not-false (eqb (f .critical) 0) b, ne-eqb k 0 (λ z. omega arith));
+      }))))
 
   -- a timed location, whose times compute
   timed : (l : Location) (since limit : ℕ)

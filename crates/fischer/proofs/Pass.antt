@@ -79,12 +79,14 @@ module _ (s : State) (acting m i : ℕ) (f : Survey) (passed : Passed s acting m
   unfolding entriesSound
   sound-left = rw next-entry at (passed .sound)
 
-  late-left : soonest s (i + 1 + 1) (cond (late s (lateFrom s m f .time) (i + 1) q) (answerOf 8 (i + 1) (deadline s (i + 1) q)) (lateFrom s m f)) (drop (i + 1) (s .processes))
-      ≡ lateOf s m
+  late-left :
+      soonest s (i + 1 + 1) (cond (late s (lateFrom s m f .time) (i + 1) q) (answerOf 8 (i + 1) (deadline s (i + 1) q)) (lateFrom s m f))
+      (drop (i + 1) (s .processes)) ≡ lateOf s m
   unfolding soonest
   late-left = rw next-entry at (passed .late)
 
-  critical-left : first (f .critical) (cond (otherCritical acting (i + 1) q) (i + 1) (othersFrom acting (i + 1 + 1) (drop (i + 1) (s .processes))))
+  critical-left :
+      first (f .critical) (cond (otherCritical acting (i + 1) q) (i + 1) (othersFrom acting (i + 1 + 1) (drop (i + 1) (s .processes))))
       ≡ othersFrom acting 1 (s .processes)
   unfolding othersFrom
   critical-left = rw next-entry at (passed .critical)

@@ -8,7 +8,7 @@ use Rattle.model.specs.declared.Transition.{Transition}
 use Rattle.model.specs.declared.Answer.{Answer}
 use Rattle.model.specs.Stages.{critical}
 use Rattle.model.specs.States.{stageOf, sinceOf}
-use Rattle.model.specs.Answers.{answerOf, beyond, unknown}
+use Rattle.model.specs.Answers.{answerOf, beyond, unknown, misnamed}
 use Rattle.fischer.specs.declared.limits.Numbers.{Numbers}
 use Rattle.fischer.specs.declared.survey.Survey.{Survey}
 
@@ -16,10 +16,6 @@ use Rattle.fischer.specs.declared.survey.Survey.{Survey}
 unfoldable pub lowestOf : ℕ → ℕ → Location → ℕ
 lowestOf others p to =
     cond (not (eqb (stageOf to) critical)) others (cond (eqb others 0) p (cond (ltb others p) others p))
-
--- `misnamed` of the model, on numbers
-abbrev pub misnames : ℕ → ℕ → ℕ → Bool
-misnames n act p = cond (eqb act 0) (not (eqb p 0)) (eqb p 0 || ltb n p)
 
 unfoldable pub turnJudged : ℕ → ℕ → Location → Transition → ℕ → ℕ → ℕ → Answer
 turnJudged others b own t act p m =
@@ -33,7 +29,7 @@ judged f x own t act p m =
     (cond (ltb m (x .clock)) (answerOf 4 0 (x .clock))
     (cond (beyond m) (answerOf 5 0 0)
     (cond (unknown act) (answerOf 6 0 0)
-    (cond (misnames (x .n) act p) (answerOf 7 0 0)
+    (cond (misnamed (x .n) act p) (answerOf 7 0 0)
     (cond (ltb (f .left) (m - x .clock)) (answerOf 8 (f .process) (x .clock + f .left))
     (cond (eqb act 0) (answerOf 0 (f .critical) m)
     (turnJudged (f .critical) (x .b) own t act p m)))))))

@@ -1,4 +1,4 @@
-// The rows of the acts table as values.
+// The acts table: the numbers of the acts that are not told by their row alone, and the rows as values.
 use crate::stages::stage_of;
 use model::Location;
 use model::Transition;
@@ -8,6 +8,13 @@ ghost use lib.Dec.{eqb};
 ghost use Rattle.model.specs.declared.Location.the-variants.{Testing, Setting, Entering};
 ghost use Rattle.model.specs.States.{stageOf};
 ghost use Rattle.model.specs.Actions.{«row»};
+
+pub(crate) const WAIT: u64 = 0;
+
+pub(crate) const CHECK: u64 = 4;
+
+// the last act
+pub(crate) const REM: u64 = 8;
 
 pub(crate) fn row(from: u64, to: Location, word: u64) -> Transition
     ensures { λ r. ⌜ r ≡ «row» from to word ⌝ }

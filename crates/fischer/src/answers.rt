@@ -1,5 +1,8 @@
 // The answer to an action, from what the pass found: the first condition of the answers table that applies.
 // It is judged on numbers; no state is handed over.
+use crate::actions::CHECK;
+use crate::actions::REM;
+use crate::actions::WAIT;
 use crate::limits::LAST;
 use crate::limits::Numbers;
 use crate::stages::CRITICAL;
@@ -12,8 +15,8 @@ use model::Transition;
 ghost use mathlib.Core.Path.{_≡_};
 ghost use Prim.Native.Nat.{_+_, _<_, _^_};
 ghost use Rattle.model.specs.States.{sinceOf};
-ghost use Rattle.model.specs.Answers.{answerOf};
-ghost use Rattle.fischer.specs.Judging.{misnames, lowestOf, turnJudged, judged};
+ghost use Rattle.model.specs.Answers.{answerOf, misnamed};
+ghost use Rattle.fischer.specs.Judging.{lowestOf, turnJudged, judged};
 
 pub(crate) fn answer_with(code: u64, process: u64, time: u64) -> Answer
     ensures { λ r. ⌜ r ≡ answerOf code process time ⌝ }
@@ -42,10 +45,10 @@ fn lowest(critical: u64, process: u64, to: Location) -> u64
 }
 
 // 7: "wait with a window other than 0, or another act with window 0 or above n"
-fn misnamed(n: u64, action: u64, process: u64) -> bool
-    ensures { λ r. ⌜ r ≡ misnames n action process ⌝ }
+fn is_misnamed(n: u64, action: u64, process: u64) -> bool
+    ensures { λ r. ⌜ r ≡ misnamed n action process ⌝ }
 {
-    if action == 0 {
+    if action == WAIT {
         return process != 0;
     }
     if process == 0 {
@@ -70,7 +73,7 @@ fn judge_turn(
     if stage_of(own) != transition.from {
         return answer_with(9, process, 0);
     }
-    if action == 4 {
+    if action == CHECK {
         let release = since_of(own) + b;
         if time < release {
             return answer_with(10, process, release);
@@ -80,6 +83,7 @@ fn judge_turn(
     answer_with(0, lowest(critical, process, to), time)
 }
 
+// The conditions in the order of the table; past them the act is accepted.
 pub(crate) fn judge(
     found: Survey,
     numbers: Numbers,
@@ -101,16 +105,16 @@ pub(crate) fn judge(
     if LAST < time {
         return answer_with(5, 0, 0);
     }
-    if 8 < action {
+    if REM < action {
         return answer_with(6, 0, 0);
     }
-    if misnamed(numbers.n, action, process) {
+    if is_misnamed(numbers.n, action, process) {
         return answer_with(7, 0, 0);
     }
     if found.left < time - numbers.clock {
         return answer_with(8, found.process, numbers.clock + found.left);
     }
-    if action == 0 {
+    if action == WAIT {
         return answer_with(0, found.critical, time);
     }
     judge_turn(

@@ -41,10 +41,10 @@ fn with_fault(found: Survey) -> Survey
     }
 }
 
-fn note_critical(found: Survey, acting: u64, k: u64) -> Survey
-    ensures { λ r. ⌜ r ≡ criticalNoted acting k found ⌝ }
+fn note_critical(found: Survey, acting: u64, process: u64) -> Survey
+    ensures { λ r. ⌜ r ≡ criticalNoted acting process found ⌝ }
 {
-    if k == acting {
+    if process == acting {
         return found;
     }
     if found.critical != 0 {
@@ -54,13 +54,13 @@ fn note_critical(found: Survey, acting: u64, k: u64) -> Survey
         faults: found.faults,
         process: found.process,
         left: found.left,
-        critical: k,
+        critical: process,
     }
 }
 
 // A process that may stay for `limit`. Only differences are taken, which fit whatever the entry holds.
-fn note_timed(found: Survey, clock: u64, k: u64, since: u64, limit: u64) -> Survey
-    ensures { λ r. ⌜ r ≡ timedNoted clock k since limit found ⌝ }
+fn note_timed(found: Survey, clock: u64, process: u64, since: u64, limit: u64) -> Survey
+    ensures { λ r. ⌜ r ≡ timedNoted clock process since limit found ⌝ }
 {
     if clock < since {
         return with_fault(found);
@@ -75,36 +75,36 @@ fn note_timed(found: Survey, clock: u64, k: u64, since: u64, limit: u64) -> Surv
     }
     Survey {
         faults: found.faults,
-        process: k,
+        process: process,
         left: left,
         critical: found.critical,
     }
 }
 
-// What is found once the entry of process k is looked at too.
+// What is found once the entry of a process is looked at too.
 pub(crate) fn note(
     found: Survey,
     numbers: Numbers,
     acting: u64,
-    k: u64,
+    process: u64,
     location: Location,
 ) -> Survey
-    ensures { λ r. ⌜ r ≡ noted numbers acting k location found ⌝ }
+    ensures { λ r. ⌜ r ≡ noted numbers acting process location found ⌝ }
 {
     if stage_of(location) == REMAINDER {
         return found;
     }
-    if numbers.n < k {
+    if numbers.n < process {
         return with_fault(found);
     }
     match location {
         Location::Remainder => found,
-        Location::Critical => note_critical(found, acting, k),
-        Location::Checking(since) => note_timed(found, numbers.clock, k, since, numbers.c),
+        Location::Critical => note_critical(found, acting, process),
+        Location::Checking(since) => note_timed(found, numbers.clock, process, since, numbers.c),
         Location::Testing(since)
         | Location::Setting(since)
         | Location::Entering(since)
         | Location::Resetting(since)
-        | Location::Leaving(since) => note_timed(found, numbers.clock, k, since, numbers.a),
+        | Location::Leaving(since) => note_timed(found, numbers.clock, process, since, numbers.a),
     }
 }

@@ -29,7 +29,8 @@ entry-past s i q e =
     by-test (leb i (s .n)) (λ t. h .0 (leb-true _ _ t) .0)
     (λ t. omega (arith, ap sinceOf (stage-location (q .location) (h .1 (leb-false _ _ t)))))
 
-entries-past : (s : State) (i : ℕ) (qs : List Process) → entriesSound s i qs ≡ true → (k : ℕ) → sinceOf (getD qs k idle .location) ≤ s .clock
+entries-past : (s : State) (i : ℕ) (qs : List Process) → entriesSound s i qs ≡ true
+    → (k : ℕ) → sinceOf (getD qs k idle .location) ≤ s .clock
 unfolding entriesSound
 entries-past s i [] e k = omega arith
 entries-past s i (q ∷ qs) e zero = entry-past s i q (and-true-iff _ _ .0 e .0)

@@ -34,8 +34,8 @@ abbrev pub unknown : ℕ → Bool
 unknown act = ltb 8 act
 
 -- | 7, -, - | wait with a window other than 0, or another act with window 0 or above n |
-abbrev pub misnamed : State → ℕ → ℕ → Bool
-misnamed s act p = cond (eqb act 0) (not (eqb p 0)) (eqb p 0 || ltb (s .n) p)
+abbrev pub misnamed : ℕ → ℕ → ℕ → Bool
+misnamed n act p = cond (eqb act 0) (not (eqb p 0)) (eqb p 0 || ltb n p)
 
 -- | 8, window, its latest moment | moment after some latest moment; the smallest such, then the lowest window |
 -- Of the processes from i on, the first whose deadline is before the time of `least` takes its place.
@@ -75,7 +75,7 @@ stepOf s act p m =
     (cond (backward s m) (answers 4 0 (s .clock) s)
     (cond (beyond m) (answers 5 0 0 s)
     (cond (unknown act) (answers 6 0 0 s)
-    (cond (misnamed s act p) (answers 7 0 0 s)
+    (cond (misnamed (s .n) act p) (answers 7 0 0 s)
     (cond (eqb (lateOf s m .code) 8) (record { answer = lateOf s m; state = s })
     (cond (misplaced s act p m) (answers 9 p 0 s)
     (cond (early s act p m) (answers 10 p (release s (entryOf s p)) s)

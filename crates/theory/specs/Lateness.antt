@@ -34,7 +34,7 @@ pub record Admissible (s : State) (act p m : ℕ) : Type 0 where
   pub forward : backward s m ≡ false
   pub within : beyond m ≡ false
   pub known : unknown act ≡ false
-  pub named : misnamed s act p ≡ false
+  pub named : misnamed (s .n) act p ≡ false
 
 abbrev pub NotLateIffAllInTime : Type 0
 NotLateIffAllInTime = (s : State) (act p m : ℕ) → Admissible s act p m → (stepOf s act p m .answer .code ≢ 8) ↔ AllInTime s m

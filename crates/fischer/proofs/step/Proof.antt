@@ -13,7 +13,8 @@ use Rattle.model.specs.Stages.{testing, checking}
 use Rattle.model.specs.Actions.{row, transitionOf}
 use Rattle.model.specs.Answers.{stepOf}
 use Rattle.fischer.proofs.Laws.{length-mapped, none-below}
-use Rattle.fischer.proofs.Pass.{Passed, Surveyed, faulty, whole, numbers-fault, nothing-passed, turn-fault, turn-passed, passed-whole, surveyed-fits}
+use Rattle.fischer.proofs.Pass.{Passed, numbers-fault, nothing-passed, turn-fault, turn-passed, passed-whole}
+use Rattle.fischer.proofs.Pass.{Surveyed, faulty, whole, surveyed-fits}
 use Rattle.fischer.proofs.Judged.{Goes, chosen, chosen-known, chosen-unknown, goes, exit-unsound, exit-refused, exit-accepted}
 use Rattle.fischer.proofs.step.Statement.{statement}
 use Rattle.fischer.proofs.step.Tie as tie
@@ -53,7 +54,8 @@ loop-holds : tie.Need-loop-holds Inv-loop μ-loop
 loop-holds c =
     let a = c .before .before .before .before .before .args in
     rw (c .empty .ensures)
-    (nothing-passed (a .t1) (a .process) (a .time) (sym (c .before .before .before .before .numbers-stand .ensures) ∙ not-false _ (c .before .before .before .if1 .left))
+    (nothing-passed (a .t1) (a .process) (a .time)
+    (sym (c .before .before .before .before .numbers-stand .ensures) ∙ not-false _ (c .before .before .before .if1 .left))
     (search (needs, length-mapped)) (search needs))
 
 mul-entry : tie.Need-mul-entry Inv-loop μ-loop
@@ -131,7 +133,9 @@ surveyed c =
 
 -- the acting process's location
 own : tie.At-match-came Inv-loop μ-loop → Location
-own c = getD (c .before .before .before .before .before .before .before .before .args .t1 .processes) (c .before .before .before .before .before .slot-of .result) idle .location
+own c =
+    let a = c .before .before .before .before .before .before .before .before .args in
+    getD (a .t1 .processes) (c .before .before .before .before .before .slot-of .result) idle .location
 
 -- the transition, where the arms of the match on the action meet
 is-chosen : (c : tie.At-match-came Inv-loop μ-loop)
@@ -140,7 +144,8 @@ is-chosen : (c : tie.At-match-came Inv-loop μ-loop)
 unfolding own chosen transitionOf
 is-chosen c =
     let a = c .before .before .before .before .before .before .before .before .args in
-    let at : (k : ℕ) → a .action ≡ k → chosen (a .t1) (own c) k (a .process) (a .time) ≡ chosen (a .t1) (own c) (a .action) (a .process) (a .time) =
+    let at : (k : ℕ) → a .action ≡ k
+    → chosen (a .t1) (own c) k (a .process) (a .time) ≡ chosen (a .t1) (own c) (a .action) (a .process) (a .time) =
     λ k e. ap (λ (x : ℕ). chosen (a .t1) (own c) x (a .process) (a .time)) (sym e) in
     ⊎-elim (λ w. w .2 ∙ w .1 .ensures ∙ at 0 (w .0 .keys1))
     (⊎-elim (λ w. w .2 ∙ w .1 .ensures ∙ at 1 (w .0 .keys2))
@@ -173,16 +178,18 @@ answered c =
     rw (c .judge .ensures)
     (goes (a .t1) (a .action) (a .process) (a .time) (c .before .before .loop-test .found) (own (c .before)) (c .before .match .transition)
     (surveyed (c .before .before)) (search (needs, length-mapped))
-    (λ from to. ap (λ (i : ℕ). getD (a .t1 .processes) i idle .location) (c .before .before .before .before .before .before .slot-of .ensures .1 to))
+    (λ from to. ap (λ (i : ℕ). getD (a .t1 .processes) i idle .location)
+    (c .before .before .before .before .before .before .slot-of .ensures .1 to))
     (λ some known. is-chosen (c .before) ∙ chosen-known (a .t1) (own (c .before)) (a .action) (a .process) (a .time) some known))
 
 returns-2 : tie.Need-returns-2 Inv-loop μ-loop
 unfolding own
 returns-2 c =
     let a = c .before .before .before .before .before .before .before .before .before .before .before .args in
-    exit-accepted (a .t1) (a .action) (a .process) (a .time) (c .before .before .before .before .before .before .before .before .slot-of .result) (own (c .before .before .before)) (c .before .before .before .match .transition)
-    (stepOf (a .t1) (a .action) (a .process) (a .time)) (c .before .before .judge .result)
-    (c .before .before .before .before .before .before .before .before .slot-of .ensures .1) refl (is-chosen (c .before .before .before))
+    let slot = c .before .before .before .before .before .before .before .before .slot-of in
+    exit-accepted (a .t1) (a .action) (a .process) (a .time) (slot .result) (own (c .before .before .before))
+    (c .before .before .before .match .transition) (stepOf (a .t1) (a .action) (a .process) (a .time)) (c .before .before .judge .result)
+    (slot .ensures .1) refl (is-chosen (c .before .before .before))
     (answered (c .before .before)) (c .if3 .taken)
 
 returns-3 : tie.Need-returns-3 Inv-loop μ-loop

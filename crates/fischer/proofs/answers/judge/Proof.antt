@@ -6,8 +6,8 @@ use mathlib.Core.Bool.{cond}
 use lib.Dec.{ltb, eqb}
 use borrow.Author.Needs.{needs}
 use borrow.Author.Tests.{lt-ltb, le-ltb, eq-eqb, ne-eqb}
-use Rattle.model.specs.Answers.{answerOf, unknown}
-use Rattle.fischer.specs.Judging.{misnames, turnJudged, judged}
+use Rattle.model.specs.Answers.{answerOf, unknown, misnamed}
+use Rattle.fischer.specs.Judging.{turnJudged, judged}
 use Rattle.fischer.proofs.answers.judge.Statement.{statement}
 use Rattle.fischer.proofs.answers.judge.Tie as tie
 
@@ -32,7 +32,11 @@ returns-3 : tie.Need-returns-3
 unfolding judged
 returns-3 c =
     c .answer-with3 .ensures
-    ∙ simp (eq-eqb _ _ (c .before .before .before .before .if1 .left), le-ltb _ _ (c .before .before .if2 .left), lt-ltb _ _ (c .before .if3 .taken))
+    ∙ simp (
+      eq-eqb _ _ (c .before .before .before .before .if1 .left),
+      le-ltb _ _ (c .before .before .if2 .left),
+      lt-ltb _ _ (c .before .if3 .taken),
+    )
 
 answer-with-requires-4 : tie.Need-answer-with-requires-4
 answer-with-requires-4 c κs = search needs
@@ -42,7 +46,7 @@ past3 : (c : tie.Else3)
     → (let a = c .before .before .before .before .before .args in
     judged (a .found) (a .numbers) (a .own) (a .transition) (a .action) (a .process) (a .time)
     ≡ cond (unknown (a .action)) (answerOf 6 0 0)
-    (cond (misnames (a .numbers .n) (a .action) (a .process)) (answerOf 7 0 0)
+    (cond (misnamed (a .numbers .n) (a .action) (a .process)) (answerOf 7 0 0)
     (cond (ltb (a .found .left) (a .time - a .numbers .clock)) (answerOf 8 (a .found .process) (a .numbers .clock + a .found .left))
     (cond (eqb (a .action) 0) (answerOf 0 (a .found .critical) (a .time))
     (turnJudged (a .found .critical) (a .numbers .b) (a .own) (a .transition) (a .action) (a .process) (a .time))))))
@@ -52,8 +56,8 @@ past3 c = simp (eq-eqb _ _ (c .before .before .before .if1 .left), le-ltb _ _ (c
 returns-4 : tie.Need-returns-4
 returns-4 c = c .answer-with4 .ensures ∙ sym (past3 (c .before .before) ∙ simp (lt-ltb _ _ (c .before .if4 .taken)))
 
-misnamed-requires : tie.Need-misnamed-requires
-misnamed-requires c κs = search needs
+is-misnamed-requires : tie.Need-is-misnamed-requires
+is-misnamed-requires c κs = search needs
 
 answer-with-requires-5 : tie.Need-answer-with-requires-5
 answer-with-requires-5 c κs = search needs
@@ -62,7 +66,7 @@ returns-5 : tie.Need-returns-5
 returns-5 c =
     c .answer-with5 .ensures
     ∙ sym (past3 (c .before .before .before .before)
-    ∙ simp (le-ltb _ _ (c .before .before .before .if4 .left), sym (c .before .before .misnamed .ensures) ∙ c .before .if5 .taken))
+    ∙ simp (le-ltb _ _ (c .before .before .before .if4 .left), sym (c .before .before .is-misnamed .ensures) ∙ c .before .if5 .taken))
 
 -- a known action of a process that there is
 past5 : (c : tie.Else5)
@@ -73,7 +77,7 @@ past5 : (c : tie.Else5)
     (turnJudged (a .found .critical) (a .numbers .b) (a .own) (a .transition) (a .action) (a .process) (a .time))))
 past5 c =
     past3 (c .before .before .before)
-    ∙ simp (le-ltb _ _ (c .before .before .if4 .left), sym (c .before .misnamed .ensures) ∙ c .if5 .left)
+    ∙ simp (le-ltb _ _ (c .before .before .if4 .left), sym (c .before .is-misnamed .ensures) ∙ c .if5 .left)
 
 add-answer-with : tie.Need-add-answer-with
 add-answer-with c = search needs
@@ -120,7 +124,7 @@ judge-spec =
     returns-3
     answer-with-requires-4
     returns-4
-    misnamed-requires
+    is-misnamed-requires
     answer-with-requires-5
     returns-5
     add-answer-with

@@ -60,7 +60,7 @@ note-timed-requires-2 c κs = search needs
 -- an entry of a process up to n that is not in remainder
 placed : (c : tie.Else2)
     → (let a = c .before .before .before .before .args in
-    noted (a .numbers) (a .acting) (a .k) (a .location) (a .found) ≡ placeNoted (a .numbers) (a .acting) (a .k) (a .location) (a .found))
+    noted (a .numbers) (a .acting) (a .process) (a .location) (a .found) ≡ placeNoted (a .numbers) (a .acting) (a .process) (a .location) (a .found))
 unfolding noted
 placed c =
     rw (← c .before .before .before .stage-of .ensures)
@@ -78,8 +78,8 @@ returns-5 c = c .note-timed .ensures ∙ sym (placed (c .before .before .before 
 -- the five locations in which a process may stay for a
 within-a : (c : tie.At-match-came)
     → (let a = c .before .before .before .before .before .args in
-    placeNoted (a .numbers) (a .acting) (a .k) (a .location) (a .found)
-    ≡ timedNoted (a .numbers .clock) (a .k) (c .match .since) (a .numbers .a) (a .found))
+    placeNoted (a .numbers) (a .acting) (a .process) (a .location) (a .found)
+    ≡ timedNoted (a .numbers .clock) (a .process) (c .match .since) (a .numbers .a) (a .found))
 within-a c =
     ⊎-elim (λ w. rw (w .1 .given .1, w .3))
     (⊎-elim (λ w. rw (w .1 .given .1, w .3))

@@ -1,7 +1,7 @@
--- `fischer::answers::misnamed` meets its contract. Assumes nothing.
+-- `fischer::answers::is_misnamed` meets its contract. Assumes nothing.
 use borrow.Author.Tests.{eq-eqb, ne-eqb}
-use Rattle.fischer.proofs.answers.misnamed.Statement.{statement}
-use Rattle.fischer.proofs.answers.misnamed.Tie as tie
+use Rattle.fischer.proofs.answers.is_misnamed.Statement.{statement}
+use Rattle.fischer.proofs.answers.is_misnamed.Tie as tie
 
 returns : tie.Need-returns
 returns c = simp (eq-eqb _ _ (c .if1 .taken))
@@ -12,5 +12,5 @@ returns-2 c = simp (ne-eqb _ _ (c .before .if1 .left), eq-eqb _ _ (c .if2 .taken
 returns-3 : tie.Need-returns-3
 returns-3 c = simp (ne-eqb _ _ (c .before .if1 .left), ne-eqb _ _ (c .if2 .left))
 
-pub misnamed-spec : {M : Type 1} → statement M
-misnamed-spec = tie.close (tie.spec returns returns-2 returns-3)
+pub is-misnamed-spec : {M : Type 1} → statement M
+is-misnamed-spec = tie.close (tie.spec returns returns-2 returns-3)
