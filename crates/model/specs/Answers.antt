@@ -38,7 +38,8 @@ abbrev pub misnamed : ℕ → ℕ → ℕ → Bool
 misnamed n act p = cond (eqb act 0) (not (eqb p 0)) (eqb p 0 || ltb n p)
 
 -- | 8, window, its latest moment | moment after some latest moment; the smallest such, then the lowest window |
--- Of the processes from i on, the first whose deadline is before the time of `least` takes its place.
+-- Of the processes from i on, each whose deadline is before the time of `least` takes its place: the smallest is left, and of
+-- equal ones the lowest.
 unfoldable pub soonest : State → ℕ → Answer → List Process → Answer
 soonest s i least [] = least
 soonest s i least (q ∷ qs) = soonest s (i + 1) (cond (late s (least .time) i q) (answerOf 8 i (deadline s i q)) least) qs

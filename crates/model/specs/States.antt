@@ -75,24 +75,13 @@ sinceOf Critical = 0
 sinceOf (Resetting t) = t
 sinceOf (Leaving t) = t
 
--- the location of a stage and an arrival, the inverse of the two: what stands for a location where only numbers can stand
-abbrev pub locationAt : ℕ → ℕ → Location
-locationAt stage t =
-    cond (eqb stage remainder) Remainder
-    (cond (eqb stage testing) (Testing t)
-    (cond (eqb stage setting) (Setting t)
-    (cond (eqb stage checking) (Checking t)
-    (cond (eqb stage entering) (Entering t)
-    (cond (eqb stage critical) Critical
-    (cond (eqb stage resetting) (Resetting t)
-    (Leaving t)))))))
-
--- Moments. Process i has the entry q; only an entry that is `bounded` has a latest moment.
+-- Moments: process i has the entry q
 
 -- the bound a of process i
 unfoldable pub limitOf : State → ℕ → ℕ
 limitOf s i = s .a
 
+-- whether an entry has a latest moment
 abbrev pub bounded : State → Process → Bool
 bounded s q = timed (q .location)
 
@@ -113,7 +102,7 @@ abbrev pub trying : Location → Bool
 trying l = leb testing (stageOf l) && leb (stageOf l) entering
 
 -- Soundness: "A table is sound when the ranges above hold, entries above n are in remainder,
--- and for each timed place arrival ≤ clock ≤ latest moment."
+-- and for each timed place arrival ≤ clock ≤ latest moment. Soundness looks at nothing else"
 
 abbrev pub entrySound : State → ℕ → Process → Bool
 entrySound s i q =
@@ -135,3 +124,17 @@ soundOf s =
 -- the entry of process p, from 1
 unfoldable pub entryOf : State → ℕ → Process
 entryOf s p = getD (s .processes) (p - 1) idle
+
+-- Locations as numbers
+
+-- the location of a stage and an arrival, for where only numbers can stand
+abbrev pub locationAt : ℕ → ℕ → Location
+locationAt stage t =
+    cond (eqb stage remainder) Remainder
+    (cond (eqb stage testing) (Testing t)
+    (cond (eqb stage setting) (Setting t)
+    (cond (eqb stage checking) (Checking t)
+    (cond (eqb stage entering) (Entering t)
+    (cond (eqb stage critical) Critical
+    (cond (eqb stage resetting) (Resetting t)
+    (Leaving t)))))))
