@@ -40,13 +40,19 @@ by-both : {s : State} {act p m : ℕ} {o o′ : Outcome} {j j′ : Answer} (t u 
 by-both t true e f g = rw e (f refl)
 by-both t false e f g = rw e (g refl)
 
--- A refusal names itself
+-- the last conditions of `stepOf`, for an act that nobody is late for
+abbrev turnOf : State → ℕ → ℕ → ℕ → Outcome
+turnOf s act p m =
+    cond (misplaced s act p m) (answers 9 p 0 s)
+    (cond (early s act p m) (answers 10 p (release s (entryOf s p)) s) (accepts (effect s act p m)))
+
 refusal : {s : State} {act p m : ℕ} {j : Answer} → j .code ≢ 0 → Goes s act p m (record { answer = j; state = s }) j
 refusal n = refuses refl n
 
-module _ (s : State) (act p m : ℕ) (f : Survey) (found : Whole s p m f) (size : length (s .processes) ≡ 96) where
-  -- An action of a process from 1 to 96 that nobody is late for
+-- A sound state
 
+module _ (s : State) (act p m : ℕ) (f : Survey) (found : Whole s p m f) (size : length (s .processes) ≡ 96) where
+  -- an action of a process from 1 to 96 that nobody is late for
   module _ (some : 1 ≤ act) (known : act ≤ 8) (from : 1 ≤ p) (to : p ≤ 96) where
     moves-on : Goes s act p m (accepts (effect s act p m)) (answerOf 0 (lowestOf (f .critical) p (transitionOf s act p m .to)) m)
     unfolding effect criticalOf
@@ -67,9 +73,7 @@ module _ (s : State) (act p m : ℕ) (f : Survey) (found : Whole s p m f) (size 
       early-is : early s act p m ≡ eqb act 4 && ltb m (sinceOf (entryOf s p .location) + s .b)
       early-is = by-test (eqb act 4) (λ e. rw (check-release (eqb-true act 4 e))) (λ e. simp e)
 
-    turn-goes : Goes s act p m
-        (cond (misplaced s act p m) (answers 9 p 0 s)
-        (cond (early s act p m) (answers 10 p (release s (entryOf s p)) s) (accepts (effect s act p m))))
+    turn-goes : Goes s act p m (turnOf s act p m)
         (turnJudged (f .critical) (s .b) (entryOf s p .location) (transitionOf s act p m) act p m)
     unfolding turnJudged
     turn-goes =
@@ -79,8 +83,7 @@ module _ (s : State) (act p m : ℕ) (f : Survey) (found : Whole s p m f) (size 
         (λ h. rw (check-release placed ((simp tests at h) .0)) (refusal (λ z. omega arith)))
         (λ _. moves-on))
 
-  -- The conditions in their order
-
+  -- lateness, from the time that is left
   late-is : eqb (lateOf s m .code) 8 ≡ ltb (f .left) (m - s .clock)
   late-is = rw (found .late) (by-test (ltb (f .left) (m - s .clock)) (λ e. simp e) (λ e. simp e))
 
@@ -97,18 +100,14 @@ module _ (s : State) (act p m : ℕ) (f : Survey) (found : Whole s p m f) (size 
       (t-is : 1 ≤ act → act ≤ 8 → t ≡ transitionOf s act p m)
       (few : s .n ≤ 96) where
     -- past the refusals up to 8: a wait, or an action of a process
-    past-late : act ≤ 8 → misnamed (s .n) act p ≡ false → Goes s act p m
-        (cond (misplaced s act p m) (answers 9 p 0 s)
-        (cond (early s act p m) (answers 10 p (release s (entryOf s p)) s) (accepts (effect s act p m))))
+    past-late : act ≤ 8 → misnamed (s .n) act p ≡ false → Goes s act p m (turnOf s act p m)
         (cond (eqb act 0) (answerOf 0 (f .critical) m) (turnJudged (f .critical) (s .b) own t act p m))
     past-late known named = if-eq act 0
         (λ e. rw (eq-eqb act 0 e, ne-eqb act 4 (λ (q : act ≡ 4). omega arith))
         (wait-goes e (eqb-true p 0 (not-false (eqb p 0) (rw (eq-eqb act 0 e) at named)))))
         (λ n. acts (omega arith) (rw (ne-eqb act 0 n) at named))
       where
-        acts : 1 ≤ act → eqb p 0 || ltb (s .n) p ≡ false → Goes s act p m
-            (cond (misplaced s act p m) (answers 9 p 0 s)
-            (cond (early s act p m) (answers 10 p (release s (entryOf s p)) s) (accepts (effect s act p m))))
+        acts : 1 ≤ act → eqb p 0 || ltb (s .n) p ≡ false → Goes s act p m (turnOf s act p m)
             (cond (eqb act 0) (answerOf 0 (f .critical) m) (turnJudged (f .critical) (s .b) own t act p m))
         acts some h =
             let range : (1 ≤ p) × (p ≤ 96) = omega (arith, simp tests at h) in
@@ -127,6 +126,8 @@ module _ (s : State) (act p m : ℕ) (f : Survey) (found : Whole s p m f) (size 
         (λ known. by-both (misnamed (s .n) act p) _ refl (λ _. refusal (λ z. omega arith))
         (λ named. by-both (eqb (lateOf s m .code) 8) _ late-is late-goes
         (λ _. past-late (ltb-false 8 act known) named))))))
+
+-- Any state
 
 unsound-goes : (s : State) (act p m : ℕ) (f : Survey) (own : Location) (t : Transition) → soundOf s ≡ false → f .faults ≢ 0
     → Goes s act p m (stepOf s act p m) (judged f (numbersOf s) own t act p m)
