@@ -125,15 +125,15 @@ pub fn step(mut state: State, action: u64, process: u64, time: u64) -> Outcome
     }
     let word = state.word;
     let transition = match action {
-        0 => stay(own, word),
-        1 => row(REMAINDER, Location::Testing(time), word),
-        2 => row(TESTING, tested(word, time), word),
-        3 => row(SETTING, Location::Checking(time), process),
-        4 => row(CHECKING, checked(word, process, time), word),
-        5 => row(ENTERING, Location::Critical, word),
-        6 => row(CRITICAL, Location::Resetting(time), word),
-        7 => row(RESETTING, Location::Leaving(time), 0),
-        8 => row(LEAVING, Location::Remainder, word),
+        0 => stay(own, word), // wait
+        1 => row(REMAINDER, Location::Testing(time), word), // try
+        2 => row(TESTING, tested(word, time), word), // test
+        3 => row(SETTING, Location::Checking(time), process), // set
+        4 => row(CHECKING, checked(word, process, time), word), // check
+        5 => row(ENTERING, Location::Critical, word), // crit
+        6 => row(CRITICAL, Location::Resetting(time), word), // exit
+        7 => row(RESETTING, Location::Leaving(time), 0), // reset
+        8 => row(LEAVING, Location::Remainder, word), // rem
         9..=18446744073709551615 => stay(own, word),
     };
     let answer = judge(found, numbers, own, transition, action, process, time);
