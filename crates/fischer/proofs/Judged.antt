@@ -1,24 +1,21 @@
 -- The step of the model goes with the answer that the code judges on numbers, condition by condition; and the two exits of the
 -- function give that step. Assumes nothing.
-use Prim.Native.Nat.{ℕ, _+_, _-_, _≤_, _<_}
+use Prim.Native.Nat.{ℕ, _+_, _-_, _≤_}
 use mathlib.Core.Path.{_≡_, refl, sym, ap, _∙_}
 use mathlib.Core.Logic.{_≢_}
 use mathlib.Core.Bool.{Bool, true, false, cond, not, _&&_, _||_}
-use mathlib.Core.List.{List}
 use native.Mathlib.Omega.{arith}
 use lib.Dec.{ltb, eqb}
-use lib.ListN.{length, getD, set}
-use lib.Seq.{set-getD}
-use borrow.Author.Tests.{ltb-false, lt-ltb, le-ltb, eq-eqb, ne-eqb, eqb-true, not-false}
+use lib.ListN.{length, set}
+use borrow.Author.Tests.{ltb-false, eq-eqb, ne-eqb, eqb-true, not-false}
 use Rattle.model.specs.declared.Location.{Location}
-use Rattle.model.specs.declared.Process.{Process}
 use Rattle.model.specs.declared.State.{State}
 use Rattle.model.specs.declared.Transition.{Transition}
 use Rattle.model.specs.declared.Answer.{Answer}
 use Rattle.model.specs.declared.Outcome.{Outcome}
 use Rattle.model.specs.Stages.{checking}
-use Rattle.model.specs.States.{idle, stageOf, sinceOf, release, soundOf, entryOf}
-use Rattle.model.specs.Actions.{row, transitionOf, changed, waited, moved, effect}
+use Rattle.model.specs.States.{stageOf, sinceOf, release, soundOf, entryOf}
+use Rattle.model.specs.Actions.{transitionOf, changed, waited, moved, effect}
 use Rattle.model.specs.Answers.{answerOf, answers, backward, beyond, unknown, misnamed, lateOf, misplaced, early, criticalOf, accepts, stepOf}
 use Rattle.fischer.specs.declared.survey.Survey.{Survey}
 use Rattle.fischer.specs.Survey.{numbersOf}
@@ -148,45 +145,22 @@ goes s act p m f own t (whole w) size own-is t-is = sound-goes s act p m f w siz
 
 -- The exits of the function
 
--- the transition that the function takes: none for a wait and for an unknown action
-unfoldable pub chosen : State → Location → ℕ → ℕ → ℕ → Transition
-chosen s own act p m = cond (eqb act 0 || ltb 8 act) (row (stageOf own) own (s .word)) (transitionOf s act p m)
-
-pub chosen-known : (s : State) (own : Location) (act p m : ℕ) → 1 ≤ act → act ≤ 8 → chosen s own act p m ≡ transitionOf s act p m
-unfolding chosen
-chosen-known s own act p m some known = rw (ne-eqb act 0 (λ z. omega arith), le-ltb 8 act known)
-
-chosen-wait : (s : State) (own : Location) (act p m : ℕ) → act ≡ 0 → chosen s own act p m ≡ row (stageOf own) own (s .word)
-unfolding chosen
-chosen-wait s own act p m e = rw (eq-eqb act 0 e)
-
-pub chosen-unknown : (s : State) (own : Location) (act p m : ℕ) → 8 < act → chosen s own act p m ≡ row (stageOf own) own (s .word)
-unfolding chosen
-chosen-unknown s own act p m h = rw (ne-eqb act 0 (λ z. omega arith), lt-ltb 8 act h)
-
 pub exit-refused : (s : State) (act p m : ℕ) (o : Outcome) (j : Answer) → Goes s act p m o j → j .code ≢ 0
     → record { answer = j; state = s } ≡ o
 exit-refused s act p m o j (refuses e n) h = sym e
 exit-refused s act p m o j (waits a z e h′) h = absurd (h h′)
 exit-refused s act p m o j (moves some known from to e h′) h = absurd (h h′)
 
-module _ (s : State) (act p m slot : ℕ) (own : Location) (t : Transition) (o : Outcome) (j : Answer)
-    (slot-is : p ≤ 96 → slot ≡ p - 1) (own-is : own ≡ getD (s .processes) slot idle .location) (t-is : t ≡ chosen s own act p m) where
-  -- the state is changed in place
-  abbrev stored : State
-  stored = record {
-    n = s .n;
-    a = s .a;
-    b = s .b;
-    c = s .c;
-    clock = m;
-    word = t .word;
-    processes = set (s .processes) slot (record { location = t .to });
-  }
+pub exit-waited : (s : State) (act p m : ℕ) (o : Outcome) (j : Answer) → Goes s act p m o j → j .code ≡ 0 → act ≡ 0
+    → record { answer = j; state = waited s m } ≡ o
+exit-waited s act p m o j (refuses e n) h a = absurd (n h)
+exit-waited s act p m o j (waits a′ z e h′) h a = sym e
+exit-waited s act p m o j (moves some known from to e h′) h a = absurd (omega arith)
 
-  pub exit-accepted : Goes s act p m o j → j .code ≡ 0 → record { answer = j; state = stored } ≡ o
-  exit-accepted (refuses e n) h = absurd (n h)
-  exit-accepted (waits a z e h′) h =
-      rw (t-is, chosen-wait s own act p m a, own-is)
-      (ap (λ (l : List Process). record { answer = j; state = changed s m (s .word) l }) (set-getD (s .processes) slot idle) ∙ sym e)
-  exit-accepted (moves some known from to e h′) h = rw (t-is, chosen-known s own act p m some known, slot-is to) (sym e)
+-- the entry of a process is stored at its slot
+pub exit-moved : (s : State) (act p m slot : ℕ) (t : Transition) (o : Outcome) (j : Answer)
+    → (p ≤ 96 → slot ≡ p - 1) → (1 ≤ act → act ≤ 8 → t ≡ transitionOf s act p m) → Goes s act p m o j → j .code ≡ 0 → act ≢ 0
+    → record { answer = j; state = changed s m (t .word) (set (s .processes) slot (record { location = t .to })) } ≡ o
+exit-moved s act p m slot t o j slot-is t-is (refuses e n) h a = absurd (n h)
+exit-moved s act p m slot t o j slot-is t-is (waits a′ z e h′) h a = absurd (a a′)
+exit-moved s act p m slot t o j slot-is t-is (moves some known from to e h′) h a = rw (slot-is to, t-is some known) (sym e)

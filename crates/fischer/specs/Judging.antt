@@ -1,7 +1,7 @@
 -- What the functions that judge an action on numbers ensure. A customer need not believe these: `proofs/` relates them to the
 -- model. Assumes nothing.
 use Prim.Native.Nat.{ℕ, _+_, _-_}
-use mathlib.Core.Bool.{Bool, cond, not, _&&_, _||_}
+use mathlib.Core.Bool.{cond, not, _&&_}
 use lib.Dec.{ltb, eqb}
 use Rattle.model.specs.declared.Location.{Location}
 use Rattle.model.specs.declared.Transition.{Transition}

@@ -1,12 +1,11 @@
 // The acts table: the numbers of the acts that are not told by their row alone, and the rows as values.
-use crate::stages::stage_of;
+use crate::stages::REMAINDER;
 use model::Location;
 use model::Transition;
 ghost use mathlib.Core.Path.{_≡_};
 ghost use mathlib.Core.Bool.{cond};
 ghost use lib.Dec.{eqb};
 ghost use Rattle.model.specs.declared.Location.the-variants.{Testing, Setting, Entering};
-ghost use Rattle.model.specs.States.{stageOf};
 ghost use Rattle.model.specs.Actions.{«row»};
 
 pub(crate) const WAIT: u64 = 0;
@@ -26,11 +25,9 @@ pub(crate) fn row(from: u64, to: Location, word: u64) -> Transition
     }
 }
 
-// No move: what a wait does, which is of no process, and what stands for an action that is refused.
-pub(crate) fn stay(own: Location, word: u64) -> Transition
-    ensures { λ r. ⌜ r ≡ «row» (stageOf own) own word ⌝ }
-{
-    row(stage_of(own), own, word)
+// For an act that has no row: a wait, which leaves no place, and an unknown one, which is refused.
+pub(crate) fn no_row(word: u64) -> Transition {
+    row(REMAINDER, Location::Remainder, word)
 }
 
 // "word 0: to setting; else testing again, arrival renewed"

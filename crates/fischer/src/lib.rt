@@ -6,9 +6,10 @@ mod limits;
 pub mod stages;
 mod survey;
 
+use crate::actions::WAIT;
 use crate::actions::checked;
+use crate::actions::no_row;
 use crate::actions::row;
-use crate::actions::stay;
 use crate::actions::tested;
 use crate::answers::answer_with;
 use crate::answers::judge;
@@ -91,7 +92,7 @@ fn slot_of(process: u64) -> usize
 }
 
 // One action of a process at a time. A single pass over the entries serves soundness, the first deadline and the critical
-// process; it stands here, as each hand-over of a state copies 1,584 bytes. A wait puts the first entry back as it was.
+// process; it stands here, as each hand-over of a state copies 1,584 bytes.
 pub fn step(mut state: State, action: u64, process: u64, time: u64) -> Outcome
     ensures { λ r. ⌜ r ≡ stepOf state action process time ⌝ }
 {
@@ -125,7 +126,7 @@ pub fn step(mut state: State, action: u64, process: u64, time: u64) -> Outcome
     }
     let word = state.word;
     let transition = match action {
-        0 => stay(own, word), // wait
+        0 => no_row(word), // wait
         1 => row(REMAINDER, Location::Testing(time), word), // try
         2 => row(TESTING, tested(word, time), word), // test
         3 => row(SETTING, Location::Checking(time), process), // set
@@ -134,14 +135,16 @@ pub fn step(mut state: State, action: u64, process: u64, time: u64) -> Outcome
         6 => row(CRITICAL, Location::Resetting(time), word), // exit
         7 => row(RESETTING, Location::Leaving(time), 0), // reset
         8 => row(LEAVING, Location::Remainder, word), // rem
-        9..=18446744073709551615 => stay(own, word),
+        9..=18446744073709551615 => no_row(word),
     };
     let answer = judge(found, numbers, own, transition, action, process, time);
     if answer.code == 0 {
-        let to = transition.to;
         state.clock = time;
-        state.word = transition.word;
-        state.processes[slot] = Process { location: to };
+        if action != WAIT {
+            let to = transition.to;
+            state.word = transition.word;
+            state.processes[slot] = Process { location: to };
+        }
     }
     Outcome {
         answer: answer,

@@ -1,7 +1,7 @@
 -- `fischer::step` meets its contract. The loop's invariant is `Passed`, and its measure the entries that are left; where its ways
--- out meet, `Surveyed` holds, and where the arms of the match meet, the transition is `chosen`. Assumes nothing.
-use Prim.Native.Nat.{ℕ, _-_}
-use mathlib.Core.Path.{_≡_, refl, sym, ap, _∙_}
+-- out meet, `Surveyed` holds, and where the arms of the match meet, the transition is the row of a known act. Assumes nothing.
+use Prim.Native.Nat.{ℕ, _-_, _≤_}
+use mathlib.Core.Path.{_≡_, sym, ap, _∙_}
 use mathlib.Core.Logic.{⊎-elim}
 use borrow.Author.Needs.{needs}
 use native.Mathlib.Omega.{arith}
@@ -15,7 +15,7 @@ use Rattle.model.specs.Answers.{stepOf}
 use Rattle.fischer.proofs.Laws.{length-mapped, none-below}
 use Rattle.fischer.proofs.Pass.{Passed, numbers-fault, nothing-passed, turn-fault, turn-passed, passed-whole}
 use Rattle.fischer.proofs.Pass.{Surveyed, faulty, whole, surveyed-fits}
-use Rattle.fischer.proofs.Judged.{Goes, chosen, chosen-known, chosen-unknown, goes, exit-unsound, exit-refused, exit-accepted}
+use Rattle.fischer.proofs.Judged.{Goes, goes, exit-unsound, exit-refused, exit-waited, exit-moved}
 use Rattle.fischer.proofs.step.Statement.{statement}
 use Rattle.fischer.proofs.step.Tie as tie
 
@@ -83,8 +83,8 @@ loop-again c =
     turn-passed (a .t1) (a .process) (a .time) (v .i) (v .found) (v .inv) (omega arith)
     idle (c .before .before .note .result) (c .before .before .note .ensures) (c .if2 .left)
 
-stay-requires : tie.Need-stay-requires Inv-loop μ-loop
-stay-requires c κs = search needs
+no-row-requires : tie.Need-no-row-requires Inv-loop μ-loop
+no-row-requires c κs = search needs
 
 row-requires : tie.Need-row-requires Inv-loop μ-loop
 row-requires c κs = search needs
@@ -116,8 +116,8 @@ row-requires-7 c κs = search needs
 row-requires-8 : tie.Need-row-requires-8 Inv-loop μ-loop
 row-requires-8 c κs = search needs
 
-stay-requires-2 : tie.Need-stay-requires-2 Inv-loop μ-loop
-stay-requires-2 c κs = search needs
+no-row-requires-2 : tie.Need-no-row-requires-2 Inv-loop μ-loop
+no-row-requires-2 c κs = search needs
 
 -- what the pass told, where its ways out meet
 surveyed : (c : tie.Left-loop Inv-loop μ-loop)
@@ -138,16 +138,16 @@ own c =
     getD (a .t1 .processes) (c .before .before .before .before .before .slot-of .result) idle .location
 
 -- the transition, where the arms of the match on the action meet
-is-chosen : (c : tie.At-match-came Inv-loop μ-loop)
+is-row : (c : tie.At-match-came Inv-loop μ-loop)
     → (let a = c .before .before .before .before .before .before .before .before .args in
-    c .match .transition ≡ chosen (a .t1) (own c) (a .action) (a .process) (a .time))
-unfolding own chosen transitionOf
-is-chosen c =
+    1 ≤ a .action → a .action ≤ 8 → c .match .transition ≡ transitionOf (a .t1) (a .action) (a .process) (a .time))
+unfolding transitionOf
+is-row c some known =
     let a = c .before .before .before .before .before .before .before .before .args in
     let at : (k : ℕ) → a .action ≡ k
-    → chosen (a .t1) (own c) k (a .process) (a .time) ≡ chosen (a .t1) (own c) (a .action) (a .process) (a .time) =
-    λ k e. ap (λ (x : ℕ). chosen (a .t1) (own c) x (a .process) (a .time)) (sym e) in
-    ⊎-elim (λ w. w .2 ∙ w .1 .ensures ∙ at 0 (w .0 .keys1))
+    → transitionOf (a .t1) k (a .process) (a .time) ≡ transitionOf (a .t1) (a .action) (a .process) (a .time) =
+    λ k e. ap (λ (x : ℕ). transitionOf (a .t1) x (a .process) (a .time)) (sym e) in
+    ⊎-elim (λ w. absurd (omega (arith, w .0 .keys1)))
     (⊎-elim (λ w. w .2 ∙ w .1 .ensures ∙ at 1 (w .0 .keys2))
     (⊎-elim (λ w. w .3 ∙ w .2 .ensures ∙ ap (λ (l : Location). row testing l (a .t1 .word)) (w .1 .ensures) ∙ at 2 (w .0 .keys3))
     (⊎-elim (λ w. w .2 ∙ w .1 .ensures ∙ at 3 (w .0 .keys4))
@@ -156,14 +156,14 @@ is-chosen c =
     (⊎-elim (λ w. w .2 ∙ w .1 .ensures ∙ at 6 (w .0 .keys7))
     (⊎-elim (λ w. w .2 ∙ w .1 .ensures ∙ at 7 (w .0 .keys8))
     (⊎-elim (λ w. w .2 ∙ w .1 .ensures ∙ at 8 (w .0 .keys9))
-    (λ w. w .2 ∙ w .1 .ensures
-    ∙ sym (chosen-unknown (a .t1) (own c) (a .action) (a .process) (a .time) (none-below 9 (a .action) (w .0 .rest)))))))))))) (c .match .came)
+    (λ w. absurd (omega (arith, none-below 9 (a .action) (w .0 .rest))))))))))))
+    (c .match .came)
 
 judge-requires : tie.Need-judge-requires Inv-loop μ-loop
 judge-requires c κs = λ z. surveyed-fits _ _ _ _ (surveyed (c .before)) z (c .before .before .before .before .before .slot-of .result)
 
-mul-t49 : tie.Need-mul-t49 Inv-loop μ-loop
-mul-t49 c = search needs
+mul-t50 : tie.Need-mul-t50 Inv-loop μ-loop
+mul-t50 c = search needs
 
 element-set-from-state : tie.Need-element-set-from-state Inv-loop μ-loop
 element-set-from-state c = search needs
@@ -180,20 +180,24 @@ answered c =
     (surveyed (c .before .before)) (search (needs, length-mapped))
     (λ from to. ap (λ (i : ℕ). getD (a .t1 .processes) i idle .location)
     (c .before .before .before .before .before .before .slot-of .ensures .1 to))
-    (λ some known. is-chosen (c .before) ∙ chosen-known (a .t1) (own (c .before)) (a .action) (a .process) (a .time) some known))
+    (is-row (c .before)))
 
 returns-2 : tie.Need-returns-2 Inv-loop μ-loop
-unfolding own
 returns-2 c =
-    let a = c .before .before .before .before .before .before .before .before .before .before .before .args in
-    let slot = c .before .before .before .before .before .before .before .before .slot-of in
-    exit-accepted (a .t1) (a .action) (a .process) (a .time) (slot .result) (own (c .before .before .before))
-    (c .before .before .before .match .transition) (stepOf (a .t1) (a .action) (a .process) (a .time)) (c .before .before .judge .result)
-    (slot .ensures .1) refl (is-chosen (c .before .before .before))
-    (answered (c .before .before)) (c .if3 .taken)
+    let a = c .before .before .before .before .before .before .before .before .before .before .before .before .args in
+    let slot = c .before .before .before .before .before .before .before .before .before .slot-of in
+    exit-moved (a .t1) (a .action) (a .process) (a .time) (slot .result) (c .before .before .before .before .match .transition)
+    (stepOf (a .t1) (a .action) (a .process) (a .time)) (c .before .before .before .judge .result) (slot .ensures .1) (is-row (c .before .before .before .before))
+    (answered (c .before .before .before)) (c .before .if3 .taken) (c .if4 .taken)
 
 returns-3 : tie.Need-returns-3 Inv-loop μ-loop
 returns-3 c =
+    let a = c .before .before .before .before .before .before .before .before .before .before .before .before .args in
+    exit-waited (a .t1) (a .action) (a .process) (a .time) (stepOf (a .t1) (a .action) (a .process) (a .time)) (c .before .before .before .judge .result)
+    (answered (c .before .before .before)) (c .before .if3 .taken) (c .if4 .left)
+
+returns-4 : tie.Need-returns-4 Inv-loop μ-loop
+returns-4 c =
     let a = c .before .before .before .before .before .before .before .before .before .before .before .args in
     exit-refused (a .t1) (a .action) (a .process) (a .time) (stepOf (a .t1) (a .action) (a .process) (a .time)) (c .before .before .judge .result)
     (answered (c .before .before)) (c .if3 .left)
@@ -219,7 +223,7 @@ step-spec =
     add-i
     loop-less
     loop-again
-    stay-requires
+    no-row-requires
     row-requires
     tested-requires
     row-requires-2
@@ -230,9 +234,10 @@ step-spec =
     row-requires-6
     row-requires-7
     row-requires-8
-    stay-requires-2
+    no-row-requires-2
     judge-requires
-    mul-t49
+    mul-t50
     element-set-from-state
     returns-2
-    returns-3)
+    returns-3
+    returns-4)
