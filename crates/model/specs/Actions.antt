@@ -14,6 +14,7 @@ use Rattle.model.specs.Stages.{remainder, testing, setting, checking, en
 
 -- The table: "Every move into a timed place takes the act's moment as arrival."
 
+-- the columns "From" and "Effect": the place that is left, the place that is reached, the word after it
 abbrev pub row : ℕ → Location → ℕ → Transition
 row from to word = record { from = from; to = to; word = word }
 
@@ -75,8 +76,10 @@ waited s m = changed s m (s .word) (s .processes)
 abbrev pub placed : State → ℕ → Location → List Process
 placed s p l = set (s .processes) (p - 1) (record { location = l })
 
+-- the table after the row t of process p
 abbrev pub moved : State → ℕ → ℕ → Transition → State
 moved s p m t = changed s m (t .word) (placed s p (t .to))
 
+-- the table after an accepted act
 unfoldable pub effect : State → ℕ → ℕ → ℕ → State
 effect s act p m = cond (eqb act 0) (waited s m) (moved s p m (transitionOf s act p m))

@@ -16,10 +16,11 @@ use Rattle.model.specs.Actions.{transitionOf, effect}
 abbrev pub answerOf : ℕ → ℕ → ℕ → Answer
 answerOf code process time = record { code = code; process = process; time = time }
 
+-- an answer beside the table that is given back
 abbrev pub answers : ℕ → ℕ → ℕ → State → Outcome
 answers code process time s = record { answer = answerOf code process time; state = s }
 
--- The conditions. That of row 1, "table not sound", is `soundOf`.
+-- The conditions. That of | 1, -, - | table not sound | is `soundOf`; 2 and 3 are the summary's.
 
 -- | 4, -, clock | moment before the clock |
 abbrev pub backward : State → ℕ → Bool
@@ -63,9 +64,11 @@ unfoldable pub criticalFrom : ℕ → List Process → ℕ
 criticalFrom i [] = 0
 criticalFrom i (q ∷ qs) = cond (eqb (stageOf (q .location)) critical) i (criticalFrom (i + 1) qs)
 
+-- that of a table
 unfoldable pub criticalOf : State → ℕ
 criticalOf s = criticalFrom 1 (s .processes)
 
+-- the answer beside the next table
 abbrev pub accepts : State → Outcome
 accepts s = answers 0 (criticalOf s) (s .clock) s
 

@@ -25,6 +25,7 @@ limitsStand a b c = leb 1 a && ltb a b && leb b c && leb c 10_000_000
 abbrev pub lastTime : ℕ
 lastTime = 1_000_000_000_000
 
+-- whether a clock is in that range
 abbrev pub clockStands : ℕ → Bool
 clockStands t = leb t lastTime
 
@@ -104,6 +105,7 @@ trying l = leb testing (stageOf l) && leb (stageOf l) entering
 -- Soundness: "A table is sound when the ranges above hold, entries above n are in remainder,
 -- and for each timed place arrival ≤ clock ≤ latest moment. Soundness looks at nothing else"
 
+-- the entry q of process i
 abbrev pub entrySound : State → ℕ → Process → Bool
 entrySound s i q =
     cond (leb i (s .n)) (leb (sinceOf (q .location)) (s .clock) && not (late s (s .clock) i q))
@@ -114,6 +116,7 @@ unfoldable pub entriesSound : State → ℕ → List Process → Bool
 entriesSound s i [] = true
 entriesSound s i (q ∷ qs) = entrySound s i q && entriesSound s (i + 1) qs
 
+-- the ranges, in the order of the sentence that gives them, and the entries
 unfoldable pub soundOf : State → Bool
 soundOf s =
     countStands (s .n) && limitsStand (s .a) (s .b) (s .c) && clockStands (s .clock) && wordStands (s .n) (s .word)
