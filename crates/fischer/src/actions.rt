@@ -3,10 +3,7 @@ use crate::stages::REMAINDER;
 use model::Location;
 use model::Transition;
 ghost use mathlib.Core.Path.{_≡_};
-ghost use mathlib.Core.Bool.{cond};
-ghost use lib.Dec.{eqb};
-ghost use Rattle.model.specs.declared.Location.the-variants.{Testing, Setting, Entering};
-ghost use Rattle.model.specs.Actions.{«row»};
+ghost use Rattle.model.specs.Actions.{«row», afterTest, afterCheck};
 
 pub(crate) const WAIT: u64 = 0;
 
@@ -32,7 +29,7 @@ pub(crate) fn no_row(word: u64) -> Transition {
 
 // "word 0: to setting; else testing again, arrival renewed"
 pub(crate) fn tested(word: u64, time: u64) -> Location
-    ensures { λ r. ⌜ r ≡ cond (eqb word 0) (Setting time) (Testing time) ⌝ }
+    ensures { λ r. ⌜ r ≡ afterTest word time ⌝ }
 {
     if word == 0 {
         Location::Setting(time)
@@ -43,7 +40,7 @@ pub(crate) fn tested(word: u64, time: u64) -> Location
 
 // "word = window: to entering; else to testing"
 pub(crate) fn checked(word: u64, process: u64, time: u64) -> Location
-    ensures { λ r. ⌜ r ≡ cond (eqb word process) (Entering time) (Testing time) ⌝ }
+    ensures { λ r. ⌜ r ≡ afterCheck word process time ⌝ }
 {
     if word == process {
         Location::Entering(time)

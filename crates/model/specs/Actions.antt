@@ -23,16 +23,22 @@ abbrev pub tryRow : State → ℕ → ℕ → Transition
 tryRow s p m = row remainder (Testing m) (s .word)
 
 -- | 2 test | testing | word 0: to setting; else testing again, arrival renewed |
+abbrev pub afterTest : ℕ → ℕ → Location
+afterTest word m = cond (eqb word 0) (Setting m) (Testing m)
+
 abbrev pub testRow : State → ℕ → ℕ → Transition
-testRow s p m = row testing (cond (eqb (s .word) 0) (Setting m) (Testing m)) (s .word)
+testRow s p m = row testing (afterTest (s .word) m) (s .word)
 
 -- | 3 set | setting | word := window; to checking |
 abbrev pub setRow : State → ℕ → ℕ → Transition
 setRow s p m = row setting (Checking m) p
 
 -- | 4 check | checking | word = window: to entering; else to testing |
+abbrev pub afterCheck : ℕ → ℕ → ℕ → Location
+afterCheck word p m = cond (eqb word p) (Entering m) (Testing m)
+
 abbrev pub checkRow : State → ℕ → ℕ → Transition
-checkRow s p m = row checking (cond (eqb (s .word) p) (Entering m) (Testing m)) (s .word)
+checkRow s p m = row checking (afterCheck (s .word) p m) (s .word)
 
 -- | 5 crit | entering | to selling |
 abbrev pub critRow : State → ℕ → ℕ → Transition
