@@ -2,7 +2,7 @@
 // Both take any numbers and any state, and answer what `freshOf` and `stepOf` of the model say.
 mod actions;
 mod answers;
-mod limits;
+pub mod limits;
 pub mod stages;
 mod survey;
 

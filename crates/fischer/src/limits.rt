@@ -18,7 +18,7 @@ pub(crate) struct Numbers {
 }
 
 // "n (1 to 96)"
-pub(crate) fn count_stands(n: u64) -> bool
+pub fn count_stands(n: u64) -> bool
     ensures { λ r. ⌜ r ≡ countStands n ⌝ }
 {
     if n < 1 {
@@ -28,7 +28,7 @@ pub(crate) fn count_stands(n: u64) -> bool
 }
 
 // "1 ≤ a < b ≤ c ≤ 10,000,000"
-pub(crate) fn limits_stand(a: u64, b: u64, c: u64) -> bool
+pub fn limits_stand(a: u64, b: u64, c: u64) -> bool
     ensures { λ r. ⌜ r ≡ limitsStand a b c ⌝ }
 {
     if a < 1 {

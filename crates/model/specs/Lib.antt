@@ -3,3 +3,7 @@ pub mod States
 pub mod Actions
 pub mod Answers
 pub mod Facts
+pub mod Texts
+pub mod Readings
+pub mod Writings
+pub mod Reports

@@ -52,3 +52,30 @@ pub struct Outcome {
     pub answer: Answer,
     pub state: State,
 }
+
+// A field of a line: its value, and how many bytes it takes with the byte that ends it; or that it fails.
+pub enum Field {
+    Value(u64, usize),
+    Bad,
+}
+
+// A line of a step: time, process, action, and how many bytes it takes; or a refusal's number and line.
+pub enum Row {
+    Step(u64, u64, u64, usize),
+    Unread(u64, u64),
+}
+
+// The first lines of a recording: n, a, b, c, and how many bytes they take; or a refusal's number and line.
+pub enum Head {
+    Values(u64, u64, u64, u64, usize),
+    Refused(u64, u64),
+}
+
+// What a reading answers; n, a, b, c are 0 where it is refused.
+pub struct Reading {
+    pub answer: Answer,
+    pub n: u64,
+    pub a: u64,
+    pub b: u64,
+    pub c: u64,
+}

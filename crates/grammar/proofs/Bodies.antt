@@ -1,0 +1,109 @@
+-- How the lines of the steps follow one another. Assumes nothing.
+use Prim.Native.Nat.{ℕ, zero, suc, _+_, _≤_, _<_}
+use mathlib.Core.Path.{_≡_, refl, sym, ap, _∙_}
+use mathlib.Core.List.{List, [], _∷_}
+use native.Mathlib.Omega.{arith}
+use lib.ListN.{length, drop, length-drop}
+use lib.Seq.{drop-drop}
+use Rattle.model.specs.declared.Row.{Row}
+use Rattle.model.specs.declared.Row.the-variants.{Step, Unread}
+use Rattle.model.specs.Texts.{Event}
+use Rattle.model.specs.Readings.{eventAt, Body, before, bodyIn, bodyOf}
+use Rattle.grammar.proofs.Lists.{drop-end}
+use Rattle.grammar.proofs.Fields.{took-le}
+use Rattle.grammar.proofs.Lines.{event-some, event-was}
+
+-- The first of the lines
+
+-- what a step takes is something
+taken-some : (line : ℕ) (s : List ℕ) (t p a i : ℕ) → eventAt line s ≡ Step t p a i → 0 < i
+taken-some line s t p a i e = omega (arith, event-some (record { time = t; process = p; action = a }), event-was line s t p a i e .took .size)
+
+-- as many lines as may be are the same lines
+body-enough : (f g line : ℕ) (s : List ℕ) → length s ≤ f → length s ≤ g → bodyIn f line s ≡ bodyIn g line s
+unfolding bodyIn
+body-enough zero zero line s h k = refl
+body-enough zero (suc g) line [] h k = refl
+body-enough zero (suc g) line (x ∷ s) h k = absurd (omega arith)
+body-enough (suc f) zero line [] h k = refl
+body-enough (suc f) zero line (x ∷ s) h k = absurd (omega arith)
+body-enough (suc f) (suc g) line [] h k = refl
+body-enough (suc f) (suc g) line (x ∷ s) h k =
+    go (eventAt line (x ∷ s)) refl (λ i (m : 0 < i).
+    body-enough f g (line + 1) (drop i (x ∷ s)) (omega (arith, length-drop i (x ∷ s))) (omega (arith, length-drop i (x ∷ s))))
+  where
+    go : (r : Row) → eventAt line (x ∷ s) ≡ r
+        → ((i : ℕ) → 0 < i → bodyIn f (line + 1) (drop i (x ∷ s)) ≡ bodyIn g (line + 1) (drop i (x ∷ s)))
+        → bodyIn (suc f) line (x ∷ s) ≡ bodyIn (suc g) line (x ∷ s)
+    go (Unread code at) e same = rw (e, bodyIn)
+    go (Step t p a i) e same =
+        rw (e, bodyIn) (ap (λ (b : Body). before (record { time = t; process = p; action = a }) b) (same i (taken-some line (x ∷ s) t p a i e)))
+
+pub body-step : (line : ℕ) (s : List ℕ) → 0 < length s → (t p a i : ℕ) → eventAt line s ≡ Step t p a i
+    → bodyOf line s ≡ before (record { time = t; process = p; action = a }) (bodyOf (line + 1) (drop i s))
+unfolding bodyOf bodyIn
+body-step line [] h t p a i e = absurd (omega arith)
+body-step line (x ∷ s) h t p a i e =
+    let m = taken-some line (x ∷ s) t p a i e in
+    rw (e, bodyIn)
+    (ap (λ (b : Body). before (record { time = t; process = p; action = a }) b)
+    (body-enough (length s) (length (drop i (x ∷ s))) (line + 1) (drop i (x ∷ s)) (omega (arith, length-drop i (x ∷ s))) (omega arith)))
+
+pub body-fault : (line : ℕ) (s : List ℕ) → 0 < length s → (code at : ℕ) → eventAt line s ≡ Unread code at
+    → bodyOf line s ≡ record { events = []; fault = line }
+unfolding bodyOf bodyIn
+body-fault line [] h code at e = absurd (omega arith)
+body-fault line (x ∷ s) h code at e = rw (e, bodyIn)
+
+pub body-end : (line : ℕ) → bodyOf line [] ≡ record { events = []; fault = 0 }
+unfolding bodyOf bodyIn
+body-end line = refl
+
+-- A walk along the lines of s: `count` steps have been read, and the next line starts at `at`.
+
+pub record Along (s : List ℕ) (at count : ℕ) : Type 0 where
+  pub inside : at ≤ length s
+  pub fewer : count ≤ at
+  pub counted : count + length (bodyOf (count + 4) (drop at s) .events) ≡ length (bodyOf 4 s .events)
+  pub fault : bodyOf (count + 4) (drop at s) .fault ≡ bodyOf 4 s .fault
+
+pub along-start : (s : List ℕ) → Along s 0 0
+along-start s = record { inside = omega arith; fewer = omega arith; counted = omega arith; fault = refl }
+
+pub some-left : (s : List ℕ) (at : ℕ) → at < length s → 0 < length (drop at s)
+some-left s at h = omega (arith, length-drop at s)
+
+module _ (s : List ℕ) (at count t p a k : ℕ) (more : at < length s) (e : eventAt (count + 4) (drop at s) ≡ Step t p a k) where
+  pub along-turn : bodyOf (count + 4) (drop at s) ≡ before (record { time = t; process = p; action = a }) (bodyOf (count + 1 + 4) (drop (at + k) s))
+  along-turn =
+      let q : count + 4 + 1 ≡ count + 1 + 4 = omega arith in
+      rw (q, drop-drop) at (body-step (count + 4) (drop at s) (some-left s at more) t p a k e)
+
+  pub along-more : 0 < k
+  along-more = taken-some (count + 4) (drop at s) t p a k e
+
+  pub along-inside : at + k ≤ length s
+  along-inside = omega (arith, took-le (event-was (count + 4) (drop at s) t p a k e .took), length-drop at s)
+
+  pub along-step : Along s at count → Along s (at + k) (count + 1)
+  along-step g =
+      record
+      { inside = along-inside
+      ; fewer = omega (arith, along-more, g .fewer)
+      ; counted = omega (arith, g .counted, ap (λ (b : Body). length (b .events)) along-turn)
+      ; fault = sym (ap (λ (b : Body). b .fault) along-turn) ∙ g .fault
+      }
+
+module _ (s : List ℕ) (at count : ℕ) (g : Along s at count) where
+  pub along-end : length s ≤ at → (count ≡ length (bodyOf 4 s .events)) × (bodyOf 4 s .fault ≡ 0)
+  along-end h =
+      let e : drop at s ≡ [] = drop-end s at h (g .inside) in
+      let b = rw e at (g .counted) in
+      let f = rw e at (g .fault) in
+      (omega (arith, b, ap (λ (x : Body). length (x .events)) (body-end (count + 4))), sym f ∙ ap (λ (x : Body). x .fault) (body-end (count + 4)))
+
+  pub along-fault : (code line : ℕ) → at < length s → eventAt (count + 4) (drop at s) ≡ Unread code line
+      → (count ≡ length (bodyOf 4 s .events)) × (bodyOf 4 s .fault ≡ count + 4)
+  along-fault code line h e =
+      let b = body-fault (count + 4) (drop at s) (some-left s at h) code line e in
+      (omega (arith, g .counted, ap (λ (x : Body). length (x .events)) b), sym (g .fault) ∙ ap (λ (x : Body). x .fault) b)

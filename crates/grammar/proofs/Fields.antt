@@ -1,0 +1,198 @@
+-- What is written for a field is read back, and what is read was so written. Assumes nothing.
+use Prim.Native.Nat.{ℕ, zero, suc, _+_, _-_, _*_, _/_, _%_, _≤_, _<_}
+use mathlib.Core.Path.{_≡_, refl, sym, ap, _∙_, subst}
+use mathlib.Core.Bool.{true, false, _&&_, _||_, false≢true}
+use mathlib.Core.List.{List, [], _∷_, _++_}
+use native.Mathlib.Omega.{arith}
+use lib.Dec.{leb, ltb, eqb}
+use lib.ListN.{length, getD, drop, length-append}
+use lib.Seq.{drop-at, append-snoc}
+use borrow.Author.Tests.{le-ltb, lt-leb, eq-eqb, ne-eqb, eqb-true, leb-false}
+use Rattle.model.specs.declared.Field.{Field}
+use Rattle.model.specs.declared.Field.the-variants.{Value, Bad}
+use Rattle.model.specs.Texts.{decimal, numberText, newline, words, wordText}
+use Rattle.model.specs.Readings.{startsWith, numberFrom, numberAt, wordFrom, wordAt}
+use Rattle.model.proofs.Tests.{by-test, if-lt, if-eq, tests}
+use Rattle.grammar.proofs.Digits.{decimal-small, decimal-more, decimal-next, some-digit}
+
+-- What is taken
+
+-- `k` bytes of `s` were taken, and they are `text`
+pub record Took (s text : List ℕ) (k : ℕ) : Type 0 where
+  pub split : s ≡ text ++ drop k s
+  pub size : k ≡ length text
+
+pub took-le : {s text : List ℕ} {k : ℕ} → Took s text k → k ≤ length s
+took-le {s} {text} {k} t = omega (arith, ap length (t .split) ∙ length-append text (drop k s), t .size)
+
+pub took : (text s : List ℕ) (k : ℕ) → k ≡ length text → Took (text ++ s) text k
+took text s k e = record { split = ap (λ (l : List ℕ). text ++ l) (sym (drop-at text s k (sym e))); size = e }
+
+never-read : {P : Type 0} {v k : ℕ} → Bad ≡ Value v k → P
+never-read {v = v} {k = k} e = let z : _≡_ {A = ℕ} 0 1 = cc in absurd (omega arith)
+
+-- A number that is written is read
+
+module _ (bound end : ℕ) (small : end < 48) where
+  digit-taken : (v k d : ℕ) (s : List ℕ) → d < 10 → (0 < k → 0 < v) → v * 10 + d < bound
+      → numberFrom bound end v k ((48 + d) ∷ s) ≡ numberFrom bound end (v * 10 + d) (k + 1) s
+  unfolding numberFrom
+  digit-taken v k d s h pos l =
+      let q : 48 + d - 48 ≡ d = omega arith in
+      let other : eqb (48 + d) end ≡ false = simp tests (λ (e : 48 + d ≡ end). omega arith) in
+      let digit : (ltb (48 + d) 48 || ltb 57 (48 + d)) ≡ false = simp tests (omega arith, omega arith) in
+      let led : (eqb v 0 && ltb 0 k) ≡ false = simp tests (λ (e : v ≡ 0). if-lt 0 k (λ g. omega (arith, pos g)) (λ g. omega arith)) in
+      rw q (simp (other, digit, led, lt-leb bound (v * 10 + d) l))
+
+  digits-taken : (f v : ℕ) (s : List ℕ) → v < f → v < bound
+      → numberFrom bound end 0 0 (decimal v ++ s) ≡ numberFrom bound end v (length (decimal v)) s
+  digits-taken zero v s h l = absurd (omega arith)
+  digits-taken (suc f) v s h l =
+      if-lt v 10
+      (λ t. let z : 0 + v ≡ v = omega arith in
+          rw (decimal-small v t) (digit-taken 0 0 v s t (λ (g : 0 < 0). omega arith) (omega arith) ∙ rw z))
+      (λ m. let q : v / 10 * 10 + v % 10 ≡ v = omega arith in
+          let k : ℕ = length (decimal (v / 10)) in
+          let size : length (decimal v) ≡ k + 1 = rw (decimal-more v m) (length-append (decimal (v / 10)) ((48 + v % 10) ∷ [])) in
+          rw (size, decimal-more v m, append-snoc)
+          (digits-taken f (v / 10) ((48 + v % 10) ∷ s) (omega arith) (omega arith)
+          ∙ (digit-taken (v / 10) k (v % 10) s (omega arith) (λ (g : 0 < k). omega arith) (omega arith) ∙ rw q)))
+
+  pub number-reads : (v : ℕ) (s : List ℕ) → v < bound → numberAt bound end (numberText end v ++ s) ≡ Value v (length (numberText end v))
+  unfolding numberText numberFrom
+  number-reads v s l =
+      rw (append-snoc (decimal v) end s)
+      (digits-taken (suc v) v (end ∷ s) (omega arith) l
+      ∙ simp (eq-eqb end end refl, ne-eqb (length (decimal v)) 0 (λ (z : length (decimal v) ≡ 0). omega (arith, some-digit v)), length-append))
+
+-- A number that is read was written
+
+-- what `k` digits `p` make, as long as the number is not ended
+record Digits (p : List ℕ) (v k : ℕ) : Type 0 where
+  none : k ≡ 0 → (p ≡ []) × (v ≡ 0)
+  some : 0 < k → p ≡ decimal v
+  size : k ≡ length p
+
+-- one digit more
+more-digits : (p : List ℕ) (v k d : ℕ) → Digits p v k → d < 10 → (0 < k → 0 < v) → Digits (p ++ ((48 + d) ∷ [])) (v * 10 + d) (k + 1)
+more-digits p v k d s h pos =
+    record
+    { none = λ (z : k + 1 ≡ 0). absurd (omega arith)
+    ; some = λ _.
+        if-lt 0 k
+        (λ g. rw (decimal-next v d (pos g) h) (ap (λ (l : List ℕ). l ++ ((48 + d) ∷ [])) (s .some g)))
+        (λ g. let n = s .none (omega arith) in let q : 0 + d ≡ d = omega arith in rw (n .0, n .1, q) (sym (decimal-small d h)))
+    ; size = omega (arith, length-append p ((48 + d) ∷ []), s .size)
+    }
+
+module _ (bound end : ℕ) where
+  ended : (s p : List ℕ) (v k w j : ℕ) → Digits p v k → v < bound → 0 < k → Value v (k + 1) ≡ Value w j
+      → Took (p ++ end ∷ s) (numberText end w) j × (w < bound)
+  unfolding numberText
+  ended s p v k w j st l g e =
+      let ew : v ≡ w = cc in
+      let ej : k + 1 ≡ j = cc in
+      let text : List ℕ = decimal w ++ (end ∷ []) in
+      let pe : p ≡ decimal w = st .some g ∙ ap decimal ew in
+      let size : j ≡ length text = omega (arith, length-append (decimal w) (end ∷ []), st .size, ap length pe) in
+      let whole : text ++ s ≡ p ++ end ∷ s = rw pe (append-snoc (decimal w) end s) in
+      (rw whole at (took text s j size), omega arith)
+
+  read-from : (s p : List ℕ) (v k w j : ℕ) → Digits p v k → v < bound → numberFrom bound end v k s ≡ Value w j
+      → Took (p ++ s) (numberText end w) j × (w < bound)
+  unfolding numberFrom
+  read-from [] p v k w j st l e = never-read e
+  read-from (x ∷ s) p v k w j st l e =
+      by-test (eqb x end)
+      (λ t. by-test (eqb k 0)
+          (λ z. never-read (simp (t, z) at e))
+          (λ z. rw (eqb-true x end t) (ended s p v k w j st l (omega (arith, simp tests at z)) (simp (t, z) at e))))
+      (λ t. by-test (ltb x 48 || ltb 57 x)
+          (λ z. never-read (simp (t, z) at e))
+          (λ z. by-test (eqb v 0 && ltb 0 k)
+              (λ y. never-read (simp (t, z, y) at e))
+              (λ y. by-test (leb bound (v * 10 + (x - 48)))
+                  (λ m. never-read (simp (t, z, y, m) at e))
+                  (λ m.
+                      let digit = simp tests at z in
+                      let led = simp tests at y in
+                      let q : 48 + (x - 48) ≡ x = omega arith in
+                      rw append-snoc at
+                      (read-from s (p ++ (x ∷ [])) (v * 10 + (x - 48)) (k + 1) w j
+                      (rw q at (more-digits p v k (x - 48) st (omega arith) (λ (g : 0 < k). if-eq v 0 (λ z. omega (arith, led z)) (λ n. omega arith))))
+                      (leb-false bound (v * 10 + (x - 48)) m)
+                      (simp (t, z, y, m) at e))))))
+
+  pub number-was : (s : List ℕ) (v k : ℕ) → 0 < bound → numberAt bound end s ≡ Value v k → Took s (numberText end v) k × (v < bound)
+  number-was s v k h e =
+      read-from s [] 0 0 v k (record { none = λ _. (refl, refl); some = λ (g : 0 < 0). absurd (omega arith); size = refl }) h e
+
+-- A word
+
+starts-was : (w s : List ℕ) → startsWith w s ≡ true → s ≡ w ++ drop (length w) s
+unfolding startsWith
+starts-was [] s e = refl
+starts-was (x ∷ w) [] e = absurd (false≢true e)
+starts-was (x ∷ w) (y ∷ s) e = let f = simp tests at e in rw (f .0) (ap (λ (l : List ℕ). x ∷ l) (starts-was w s (f .1)))
+
+pub starts-took : (w s : List ℕ) → startsWith w s ≡ true → Took s w (length w)
+starts-took w s e = record { split = starts-was w s e; size = refl }
+
+pub starts-here : (w s : List ℕ) → startsWith w (w ++ s) ≡ true
+unfolding startsWith
+starts-here [] s = refl
+starts-here (x ∷ w) s = simp (eq-eqb x x refl) (starts-here w s)
+
+-- the bytes that a word takes
+pub record Worded (base : ℕ) (ws : List (List ℕ)) (s : List ℕ) (a k : ℕ) : Type 0 where
+  pub place : ℕ
+  pub named : a ≡ base + place
+  pub below : place < length ws
+  pub took : Took s (getD ws place [] ++ (newline ∷ [])) k
+
+word-among : (base : ℕ) (ws : List (List ℕ)) (s : List ℕ) (a k : ℕ) → wordFrom base ws s ≡ Value a k → Worded base ws s a k
+unfolding wordFrom
+word-among base [] s a k e = never-read e
+word-among base (w ∷ ws) s a k e =
+    by-test (startsWith (w ++ (newline ∷ [])) s)
+    (λ t.
+        let m : Value base (length w + 1) ≡ Value a k = simp t at e in
+        let ea : base ≡ a = cc in
+        let ek : length w + 1 ≡ k = cc in
+        let size : length (w ++ (newline ∷ [])) ≡ k = length-append w (newline ∷ []) ∙ ek in
+        record
+        { place = 0
+        ; named = omega arith
+        ; below = omega arith
+        ; took = subst (λ (n : ℕ). Took s (w ++ (newline ∷ [])) n) size (starts-took (w ++ (newline ∷ [])) s t)
+        })
+    (λ t.
+        let r = word-among (base + 1) ws s a k (simp t at e) in
+        record { place = suc (r .place); named = omega (arith, r .named); below = omega (arith, r .below); took = r .took })
+
+-- a word that is read was written
+pub word-was : (s : List ℕ) (a k : ℕ) → wordAt s ≡ Value a k → Took s (wordText a) k × (a < length words)
+unfolding wordText
+word-was s a k e =
+    let r = word-among 0 words s a k e in
+    let n : r .place ≡ a = omega (arith, r .named) in
+    (subst (λ (i : ℕ). Took s (getD words i [] ++ (newline ∷ [])) k) n (r .took), omega (arith, r .below))
+
+-- what holds of each act holds of all that have a word
+pub each-word : (P : ℕ → Type 0) → P 0 → P 1 → P 2 → P 3 → P 4 → P 5 → P 6 → P 7 → P 8 → (a : ℕ) → a < length words → P a
+each-word P p0 p1 p2 p3 p4 p5 p6 p7 p8 zero h = p0
+each-word P p0 p1 p2 p3 p4 p5 p6 p7 p8 (suc zero) h = p1
+each-word P p0 p1 p2 p3 p4 p5 p6 p7 p8 (suc (suc zero)) h = p2
+each-word P p0 p1 p2 p3 p4 p5 p6 p7 p8 (suc (suc (suc zero))) h = p3
+each-word P p0 p1 p2 p3 p4 p5 p6 p7 p8 (suc (suc (suc (suc zero)))) h = p4
+each-word P p0 p1 p2 p3 p4 p5 p6 p7 p8 (suc (suc (suc (suc (suc zero))))) h = p5
+each-word P p0 p1 p2 p3 p4 p5 p6 p7 p8 (suc (suc (suc (suc (suc (suc zero)))))) h = p6
+each-word P p0 p1 p2 p3 p4 p5 p6 p7 p8 (suc (suc (suc (suc (suc (suc (suc zero))))))) h = p7
+each-word P p0 p1 p2 p3 p4 p5 p6 p7 p8 (suc (suc (suc (suc (suc (suc (suc (suc zero)))))))) h = p8
+each-word P p0 p1 p2 p3 p4 p5 p6 p7 p8 (suc (suc (suc (suc (suc (suc (suc (suc (suc a))))))))) h = absurd (omega arith)
+
+-- a word that is written is read
+pub word-reads : (a : ℕ) (s : List ℕ) → a < length words → wordAt (wordText a ++ s) ≡ Value a (length (wordText a))
+unfolding wordFrom startsWith wordText
+word-reads a s h =
+    each-word (λ i. wordAt (wordText i ++ s) ≡ Value i (length (wordText i))) refl refl refl refl refl refl refl refl refl a h

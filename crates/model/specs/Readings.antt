@@ -1,0 +1,186 @@
+-- "Recordings" of document 01, as they are read: the fields of a line, the lines, and `readOf`, all that a reading gives
+-- back. A text is read from its start; what a field or a line takes is counted in bytes. Assumes nothing.
+use Prim.Native.Nat.{ℕ, zero, suc, _+_, _-_, _*_, min}
+use mathlib.Core.Bool.{Bool, true, false, cond, not, _&&_, _||_}
+use mathlib.Core.List.{List, [], _∷_, _++_, map}
+use lib.Dec.{leb, ltb, eqb}
+use lib.ListN.{length, drop}
+use Rattle.model.specs.declared.Field.{Field}
+use Rattle.model.specs.declared.Field.the-variants.{Value, Bad}
+use Rattle.model.specs.declared.Row.{Row}
+use Rattle.model.specs.declared.Row.the-variants.{Step, Unread}
+use Rattle.model.specs.declared.Head.{Head}
+use Rattle.model.specs.declared.Head.the-variants.{Values, Refused}
+use Rattle.model.specs.declared.Reading.{Reading}
+use Rattle.model.specs.States.{countStands, limitsStand}
+use Rattle.model.specs.Answers.{answerOf}
+use Rattle.model.specs.Texts.{comma, newline, timeBound, numberBound, words, Event, valueNames, eventNames, textLimit}
+
+-- Fields
+
+-- s starts with w
+unfoldable pub startsWith : List ℕ → List ℕ → Bool
+startsWith [] s = true
+startsWith (x ∷ w) [] = false
+startsWith (x ∷ w) (y ∷ s) = eqb y x && startsWith w s
+
+-- "Numbers are decimal without leading zeros (0 is one digit)": a number below `bound` whose first k digits made v, up to the
+-- byte `end`
+unfoldable pub numberFrom : ℕ → ℕ → ℕ → ℕ → List ℕ → Field
+numberFrom bound end v k [] = Bad
+numberFrom bound end v k (x ∷ s) =
+    cond (eqb x end) (cond (eqb k 0) Bad (Value v (k + 1)))
+    (cond (ltb x 48 || ltb 57 x) Bad
+    (cond (eqb v 0 && ltb 0 k) Bad
+    (cond (leb bound (v * 10 + (x - 48))) Bad
+    (numberFrom bound end (v * 10 + (x - 48)) (k + 1) s))))
+
+-- the number at the start of a text
+abbrev pub numberAt : ℕ → ℕ → List ℕ → Field
+numberAt bound end s = numberFrom bound end 0 0 s
+
+-- "the act as the word in the table above": the first of these words, numbered from `action` on, that fills the line
+unfoldable pub wordFrom : ℕ → List (List ℕ) → List ℕ → Field
+wordFrom action [] s = Bad
+wordFrom action (w ∷ ws) s = cond (startsWith (w ++ (newline ∷ [])) s) (Value action (length w + 1)) (wordFrom (action + 1) ws s)
+
+-- the act whose word a text starts with
+abbrev pub wordAt : List ℕ → Field
+wordAt s = wordFrom 0 words s
+
+-- Lines
+
+-- "A line is taken apart field by field, and the first field that fails ends the reading; the rest of the line after a comma
+-- is passed on": what follows gets the field's value and how many bytes it took.
+abbrev pub opened : {A : Type 0} → Field → A → (ℕ → ℕ → A) → A
+opened Bad refusal next = refusal
+opened (Value v k) refusal next = next v k
+
+-- the step at the start of a text, or the refusal of that line
+unfoldable pub eventAt : ℕ → List ℕ → Row
+eventAt line s =
+    opened (numberAt timeBound comma s) (Unread 14 line) (λ time i.
+    opened (numberAt numberBound comma (drop i s)) (Unread 14 line) (λ process j.
+    opened (wordAt (drop j (drop i s))) (Unread 14 line) (λ action k.
+    Step time process action (i + j + k))))
+
+-- the values of line 2 at the start of a text
+unfoldable pub valuesAt : List ℕ → Head
+valuesAt s =
+    opened (numberAt numberBound comma s) (Refused 14 2) (λ n i.
+    opened (numberAt numberBound comma (drop i s)) (Refused 14 2) (λ a j.
+    opened (numberAt numberBound comma (drop j (drop i s))) (Refused 14 2) (λ b k.
+    opened (numberAt numberBound newline (drop k (drop j (drop i s)))) (Refused 14 2) (λ c l.
+    Values n a b c (i + j + k + l)))))
+
+-- Whole texts
+
+-- "line 2 (14, then 11, 12); line 3": after the k bytes of line 2's values
+abbrev pub afterValues : List ℕ → Head → Head
+afterValues text (Refused code line) = Refused 14 2
+afterValues text (Values n a b c k) =
+    cond (not (countStands n)) (Refused 11 0)
+    (cond (not (limitsStand a b c)) (Refused 12 0)
+    (cond (not (startsWith eventNames (drop (length valueNames + k) text))) (Refused 13 3)
+    (Values n a b c (length valueNames + k + length eventNames))))
+
+-- "Order: 15; line 1; line 2 [..]; line 3": n, a, b, c and how many bytes the three lines take, or the first refusal
+unfoldable pub headOf : List ℕ → Head
+headOf text =
+    cond (ltb textLimit (length text)) (Refused 15 0)
+    (cond (not (startsWith valueNames text)) (Refused 13 1)
+    (afterValues text (valuesAt (drop (length valueNames) text))))
+
+-- the steps up to the end of a text or to its first line that is no step; `fault` is the number of that line, or 0
+pub record Body : Type 0 where
+  pub events : List Event
+  pub fault : ℕ
+
+abbrev pub before : Event → Body → Body
+before e b = record { events = e ∷ b .events; fault = b .fault }
+
+-- "each further line one step": at most k lines, of which the first has the number `line`
+unfoldable pub bodyIn : ℕ → ℕ → List ℕ → Body
+bodyIn zero line [] = record { events = []; fault = 0 }
+bodyIn zero line (x ∷ s) = record { events = []; fault = line }
+bodyIn (suc k) line [] = record { events = []; fault = 0 }
+bodyIn (suc k) line (x ∷ s) =
+    elim (eventAt line (x ∷ s)) [
+      | Step t p a i ↦ before (record { time = t; process = p; action = a }) (bodyIn k (line + 1) (drop i (x ∷ s)))
+      | Unread code at ↦ record { events = []; fault = line }
+    ]
+
+-- all lines: each has at least one byte
+unfoldable pub bodyOf : ℕ → List ℕ → Body
+bodyOf line s = bodyIn (length s) line s
+
+-- what a text says: a trace, or a refusal's number and line
+pub data Trace : Type 0 where
+  refused : ℕ → ℕ → Trace
+  trace : ℕ → ℕ → ℕ → ℕ → List Event → Trace
+
+abbrev pub ofBody : ℕ → ℕ → ℕ → ℕ → Body → Trace
+ofBody n a b c body = cond (eqb (body .fault) 0) (trace n a b c (body .events)) (refused 14 (body .fault))
+
+abbrev pub ofHead : List ℕ → Head → Trace
+ofHead text (Refused code line) = refused code line
+ofHead text (Values n a b c k) = ofBody n a b c (bodyOf 4 (drop k text))
+
+unfoldable pub traceOf : List ℕ → Trace
+traceOf text = ofHead text (headOf text)
+
+-- The lent lists
+
+-- "Steps go to three lent lists (times, windows, acts)"
+pub record Lists : Type 0 where
+  pub times : List ℕ
+  pub processes : List ℕ
+  pub actions : List ℕ
+
+abbrev pub lists : List ℕ → List ℕ → List ℕ → Lists
+lists times processes actions = record { times = times; processes = processes; actions = actions }
+
+-- "the shortest sets the limit"
+abbrev pub room : Lists → ℕ
+room l = min (length (l .times)) (min (length (l .processes)) (length (l .actions)))
+
+-- "Places past the last step keep what they held."
+abbrev pub over : List ℕ → List ℕ → List ℕ
+over values list = values ++ drop (length values) list
+
+abbrev pub timesOf : List Event → List ℕ
+timesOf events = map (λ (e : Event). e .time) events
+
+abbrev pub processesOf : List Event → List ℕ
+processesOf events = map (λ (e : Event). e .process) events
+
+abbrev pub actionsOf : List Event → List ℕ
+actionsOf events = map (λ (e : Event). e .action) events
+
+-- the lists after these steps have been stored
+abbrev pub stored : List Event → Lists → Lists
+stored events l =
+    lists (over (timesOf events) (l .times)) (over (processesOf events) (l .processes)) (over (actionsOf events) (l .actions))
+
+-- What a reading gives back: its answer with n, a, b, c, and the lent lists
+
+pub record Read : Type 0 where
+  pub reading : Reading
+  pub kept : Lists
+
+abbrev pub readingOf : ℕ → ℕ → ℕ → ℕ → ℕ → ℕ → Reading
+readingOf code time n a b c = record { answer = answerOf code 0 time; n = n; a = a; b = b; c = c }
+
+-- "A refused [..] reading returns n, a, b, c as 0", and the lists as they were lent.
+abbrev pub unread : ℕ → ℕ → Lists → Read
+unread code line l = record { reading = readingOf code line 0 0 0 0; kept = l }
+
+-- "16 last"; a success is answered with 0, 0 and "the count of steps"
+abbrev pub into : Lists → Trace → Read
+into l (refused code line) = unread code line l
+into l (trace n a b c events) =
+    cond (ltb (room l) (length events)) (unread 16 0 l)
+    (record { reading = readingOf 0 (length events) n a b c; kept = stored events l })
+
+unfoldable pub readOf : List ℕ → Lists → Read
+readOf text l = into l (traceOf text)

@@ -1,0 +1,40 @@
+-- One turn of each loop over bytes, said of the definitions that the loops compute. Assumes nothing.
+use Prim.Native.Nat.{ℕ, _+_, _-_, _*_, _≤_, _<_}
+use mathlib.Core.Path.{_≡_}
+use mathlib.Core.Bool.{true, false, cond, _&&_, _||_}
+use mathlib.Core.List.{List, [], _∷_, _++_}
+use lib.Dec.{leb, ltb, eqb}
+use lib.ListN.{length, getD, drop}
+use Rattle.model.specs.declared.Field.the-variants.{Value, Bad}
+use Rattle.model.specs.Texts.{newline}
+use Rattle.model.specs.Readings.{startsWith, numberFrom, wordFrom}
+use Rattle.grammar.proofs.Lists.{drop-at, drop-end}
+
+module _ (w s : List ℕ) (i : ℕ) (hw : i < length w) where
+  pub starts-short : length s ≤ i → i ≤ length s → startsWith (drop i w) (drop i s) ≡ false
+  unfolding startsWith
+  starts-short g h = rw (drop-at w i 0 hw, drop-end s i g h)
+
+  pub starts-at : i < length s → startsWith (drop i w) (drop i s) ≡ eqb (getD s i 0) (getD w i 0) && startsWith (drop (i + 1) w) (drop (i + 1) s)
+  unfolding startsWith
+  starts-at hs = rw (drop-at w i 0 hw, drop-at s i 0 hs)
+
+module _ (bound end v k : ℕ) (s : List ℕ) (i : ℕ) (h : i < length s) where
+  pub number-at : numberFrom bound end v k (drop i s)
+      ≡ cond (eqb (getD s i 0) end) (cond (eqb k 0) Bad (Value v (k + 1)))
+        (cond (ltb (getD s i 0) 48 || ltb 57 (getD s i 0)) Bad
+        (cond (eqb v 0 && ltb 0 k) Bad
+        (cond (leb bound (v * 10 + (getD s i 0 - 48))) Bad
+        (numberFrom bound end (v * 10 + (getD s i 0 - 48)) (k + 1) (drop (i + 1) s)))))
+  unfolding numberFrom
+  number-at = rw (drop-at s i 0 h)
+
+-- one word more is tried
+module _ (base : ℕ) (w : List ℕ) (ws : List (List ℕ)) (s : List ℕ) where
+  pub word-here : startsWith (w ++ (newline ∷ [])) s ≡ true → Value base (length w + 1) ≡ wordFrom base (w ∷ ws) s
+  unfolding wordFrom
+  word-here e = simp e
+
+  pub word-next : startsWith (w ++ (newline ∷ [])) s ≡ false → wordFrom (base + 1) ws s ≡ wordFrom base (w ∷ ws) s
+  unfolding wordFrom
+  word-next e = simp e

@@ -1,0 +1,152 @@
+use borrow.Author.Needs.{needs}
+use Prim.Native.Nat.{ℕ, _+_, _-_, _*_, _≤_, _<_}
+use mathlib.Core.Path.{_≡_, refl, sym, ap, _∙_}
+use mathlib.Core.Bool.{Bool, true, false, cond, _&&_}
+use native.Mathlib.Omega.{arith}
+use borrow.Author.Tests.{eq-eqb, ne-eqb, lt-ltb, le-ltb, le-leb, lt-leb}
+use lib.ListN.{length, getD, drop}
+use Rattle.model.specs.Readings.{numberFrom, numberAt}
+use Rattle.grammar.proofs.Lists.{drop-end}
+use Rattle.trace.proofs.Turns.{number-at}
+use Rattle.trace.proofs.fields.number_at.Statement.{statement}
+use Rattle.trace.proofs.fields.number_at.Tie as tie
+use Rattle.trace.proofs.fields.number_at.Reads as reads
+use Rattle.trace.proofs.fields.number_at.Lts as lts
+use Rattle.trace.proofs.fields.wide.Reads as wide-reads
+use Rattle.trace.proofs.fields.has_leading_zero.Reads as has-leading-zero-reads
+
+abbrev Inv-loop : tie.InvT-loop
+Inv-loop s bound end v₀ i₀ v i = (i ≤ length s) × (v < 10000000000000) × (numberFrom bound end v i (drop i s) ≡ numberAt bound end s)
+
+abbrev μ-loop : tie.MeasureT-loop
+μ-loop s bound end v₀ i₀ v i = length s - i
+
+-- src/fields.rt:89:5
+loop-holds : tie.Need-loop-holds Inv-loop μ-loop
+loop-holds c = (omega arith, omega arith, refl)
+
+-- src/fields.rt:90:17
+shared-slice-read-x : tie.Need-shared-slice-read-x Inv-loop μ-loop
+shared-slice-read-x c = search needs
+
+-- src/fields.rt:93:17
+returns : tie.Need-returns Inv-loop μ-loop
+returns c =
+    let v = c .before .before .before .before .loop in
+    let a = c .before .before .before .before .before .before .args in
+    simp (eq-eqb _ _ (c .before .if1 .taken), eq-eqb _ _ (c .if2 .taken)) at
+    (sym (number-at (a .bound) (a .end) (v .v) (v .i) (a .s .now) (v .i) (omega arith))) ∙ v .inv .2
+
+-- src/fields.rt:95:36
+add-t13 : tie.Need-add-t13 Inv-loop μ-loop
+add-t13 c = search needs
+
+-- src/fields.rt:95:13
+returns-2 : tie.Need-returns-2 Inv-loop μ-loop
+returns-2 c =
+    let v = c .before .before .before .before .loop in
+    let a = c .before .before .before .before .before .before .args in
+    simp (eq-eqb _ _ (c .before .if1 .taken), ne-eqb _ _ (c .if2 .left)) at
+    (sym (number-at (a .bound) (a .end) (v .v) (v .i) (a .s .now) (v .i) (omega arith))) ∙ v .inv .2
+
+-- src/fields.rt:98:13
+returns-3 : tie.Need-returns-3 Inv-loop μ-loop
+returns-3 c =
+    let v = c .before .before .before .before .loop in
+    let a = c .before .before .before .before .before .before .args in
+    simp (ne-eqb _ _ (c .before .if1 .left), lt-ltb _ _ (c .if3 .taken)) at
+    (sym (number-at (a .bound) (a .end) (v .v) (v .i) (a .s .now) (v .i) (omega arith))) ∙ v .inv .2
+
+-- src/fields.rt:101:13
+returns-4 : tie.Need-returns-4 Inv-loop μ-loop
+returns-4 c =
+    let v = c .before .before .before .before .before .loop in
+    let a = c .before .before .before .before .before .before .before .args in
+    simp (ne-eqb _ _ (c .before .before .if1 .left), le-ltb _ _ (c .before .if3 .left), lt-ltb _ _ (c .if4 .taken)) at
+    (sym (number-at (a .bound) (a .end) (v .v) (v .i) (a .s .now) (v .i) (omega arith))) ∙ v .inv .2
+
+-- src/fields.rt:103:12
+has-leading-zero-requires : tie.Need-has-leading-zero-requires Inv-loop μ-loop
+has-leading-zero-requires c κs = search needs
+
+-- src/fields.rt:104:13
+returns-5 : tie.Need-returns-5 Inv-loop μ-loop
+returns-5 c =
+    let v = c .before .before .before .before .before .before .before .loop in
+    let a = c .before .before .before .before .before .before .before .before .before .args in
+    simp (ne-eqb _ _ (c .before .before .before .before .if1 .left), le-ltb _ _ (c .before .before .before .if3 .left), le-ltb _ _ (c .before .before .if4 .left),
+      sym (c .before .has-leading-zero .ensures) ∙ c .if5 .taken) at
+    (sym (number-at (a .bound) (a .end) (v .v) (v .i) (a .s .now) (v .i) (omega arith))) ∙ v .inv .2
+
+-- src/fields.rt:106:20
+mul-next : tie.Need-mul-next Inv-loop μ-loop
+mul-next c = search needs
+
+-- src/fields.rt:106:29
+wide-requires : tie.Need-wide-requires Inv-loop μ-loop
+wide-requires c κs = search needs
+
+-- src/fields.rt:106:20
+add-next : tie.Need-add-next Inv-loop μ-loop
+add-next c = search needs
+
+-- src/fields.rt:108:13
+returns-6 : tie.Need-returns-6 Inv-loop μ-loop
+returns-6 c =
+    let v = c .before .before .before .before .before .before .before .before .before .loop in
+    let a = c .before .before .before .before .before .before .before .before .before .before .before .args in
+    simp (ne-eqb _ _ (c .before .before .before .before .before .before .if1 .left), le-ltb _ _ (c .before .before .before .before .before .if3 .left), le-ltb _ _ (c .before .before .before .before .if4 .left),
+      sym (c .before .before .before .has-leading-zero .ensures) ∙ c .before .before .if5 .left,
+      le-leb (a .bound) (v .v * 10 + (getD (a .s .now) (v .i) 0 - 48)) (omega (arith, c .before .wide .ensures))) at
+    (sym (number-at (a .bound) (a .end) (v .v) (v .i) (a .s .now) (v .i) (omega arith))) ∙ v .inv .2
+
+-- src/fields.rt:111:9
+add-i : tie.Need-add-i Inv-loop μ-loop
+add-i c = search needs
+
+-- src/fields.rt:89:5
+loop-less : tie.Need-loop-less Inv-loop μ-loop
+loop-less c = search needs
+
+-- src/fields.rt:89:5
+loop-again : tie.Need-loop-again Inv-loop μ-loop
+loop-again c =
+    let v = c .before .before .before .before .before .before .before .before .before .loop in
+    let a = c .before .before .before .before .before .before .before .before .before .before .before .args in
+    (omega arith, omega arith,
+    rw (c .before .wide .ensures)
+    (simp (ne-eqb _ _ (c .before .before .before .before .before .before .if1 .left), le-ltb _ _ (c .before .before .before .before .before .if3 .left), le-ltb _ _ (c .before .before .before .before .if4 .left),
+      sym (c .before .before .before .has-leading-zero .ensures) ∙ c .before .before .if5 .left,
+      lt-leb (a .bound) (v .v * 10 + (getD (a .s .now) (v .i) 0 - 48)) (omega (arith, c .before .wide .ensures))) at
+    (sym (number-at (a .bound) (a .end) (v .v) (v .i) (a .s .now) (v .i) (omega arith))) ∙ v .inv .2))
+
+-- src/fields.rt:83:1
+returns-7 : tie.Need-returns-7 Inv-loop μ-loop
+unfolding numberFrom
+returns-7 c =
+    let v = c .before .loop in
+    rw (drop-end (c .before .before .before .args .s .now) (v .i) (omega arith) (omega arith)) at (v .inv .2)
+
+pub number-at-spec : {M : Type 1} → statement M
+number-at-spec =
+    tie.close
+    (tie.spec
+    Inv-loop
+    μ-loop
+    loop-holds
+    shared-slice-read-x
+    returns
+    add-t13
+    returns-2
+    returns-3
+    returns-4
+    has-leading-zero-requires
+    returns-5
+    mul-next
+    wide-requires
+    add-next
+    returns-6
+    add-i
+    loop-less
+    loop-again
+    returns-7)

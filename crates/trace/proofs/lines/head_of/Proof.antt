@@ -1,0 +1,172 @@
+use Prim.Native.Nat.{ℕ, _+_, _-_, _≤_, _<_}
+use mathlib.Core.Path.{_≡_, refl, sym, ap, _∙_}
+use mathlib.Core.Bool.{true, false, not}
+use native.Mathlib.Omega.{arith}
+use borrow.Author.Tests.{lt-ltb, le-ltb, not-true, not-false}
+use lib.Dec.{ltb}
+use lib.ListN.{length, take, drop}
+use Rattle.model.specs.declared.Head.the-variants.{Values, Refused}
+use Rattle.model.specs.Readings.{startsWith}
+use Rattle.model.specs.States.{countStands, limitsStand}
+use Rattle.model.specs.Texts.{valueNames, eventNames}
+use Rattle.model.specs.Readings.{valuesAt}
+use Rattle.model.specs.Readings.{headOf}
+use Rattle.grammar.proofs.Lists.{part-is, part-within}
+use Rattle.grammar.proofs.Fields.{took-le, starts-took}
+use Rattle.grammar.proofs.Lines.{values-was}
+use borrow.Author.Needs.{needs}
+use Rattle.trace.proofs.lines.head_of.Statement.{statement}
+use Rattle.trace.proofs.lines.head_of.Tie as tie
+use Rattle.trace.proofs.lines.head_of.Reads as reads
+use Rattle.trace.proofs.lines.head_of.Lts as lts
+use Rattle.fischer.proofs.limits.count_stands.Reads as count-stands-reads
+use Rattle.fischer.proofs.limits.limits_stand.Reads as limits-stand-reads
+use Rattle.trace.proofs.fields.starts_with.Reads as starts-with-reads
+use Rattle.trace.proofs.lines.values_at.Reads as values-at-reads
+
+short : (c : tie.Else1) → ltb 65536 (length (c .before .before .args .text .now)) ≡ false
+short c = le-ltb _ _ (c .if1 .left)
+
+named : (c : tie.Else2) → startsWith valueNames (c .before .before .before .before .before .args .text .now) ≡ true
+named c = sym (c .before .starts-with .ensures) ∙ not-false _ (c .if2 .left)
+
+after-names : (c : tie.Else2) → 14 ≤ length (c .before .before .before .before .before .args .text .now)
+after-names c = took-le (starts-took valueNames _ (named c))
+
+values-read : (c : tie.After-known-told) → valuesAt (drop 14 (c .before .before .before .before .before .before .before .before .before .before .args .text .now)) ≡ Values (c .before .values .given .0 .0) (c .before .values .given .0 .1 .0) (c .before .values .given .0 .1 .1 .0) (c .before .values .given .0 .1 .1 .1 .0) (c .before .values .given .0 .1 .1 .1 .1 .0)
+values-read c = rw part-is at (sym (c .before .before .before .values-at .ensures) ∙ c .before .values .given .1)
+
+after-values : (c : tie.After-known-told) → 14 + c .before .values .given .0 .1 .1 .1 .1 .0 ≤ length (c .before .before .before .before .before .before .before .before .before .before .args .text .now)
+after-values c = part-within (c .before .before .before .before .before .before .before .before .before .before .args .text .now) 14 _ (after-names (c .before .before .before .before .before)) (took-le (values-was _ _ _ _ _ _ (sym (c .before .before .before .values-at .ensures) ∙ c .before .values .given .1)))
+
+-- src/lines.rt:230:9
+returns : tie.Need-returns
+unfolding headOf
+returns c = simp (lt-ltb _ _ (c .if1 .taken))
+
+-- src/lines.rt:232:22
+slice-aggregate-starts-with : tie.Need-slice-aggregate-starts-with
+slice-aggregate-starts-with c = search needs
+
+-- src/lines.rt:232:9
+starts-with-requires : tie.Need-starts-with-requires
+starts-with-requires c κs = search needs
+
+-- src/lines.rt:233:9
+returns-2 : tie.Need-returns-2
+unfolding headOf
+returns-2 c = rw (short (c .before .before .before), sym (c .before .starts-with .ensures) ∙ not-true _ (c .if2 .taken))
+
+-- src/lines.rt:235:30
+sub-values-at : tie.Need-sub-values-at
+sub-values-at c = after-names c
+
+-- src/lines.rt:235:30
+part-values-at-start : tie.Need-part-values-at-start
+part-values-at-start c = after-names c
+
+-- src/lines.rt:235:30
+part-values-at-end : tie.Need-part-values-at-end
+part-values-at-end c = search needs
+
+-- src/lines.rt:235:9
+values-at-requires : tie.Need-values-at-requires
+values-at-requires c κs = search needs
+
+-- src/lines.rt:236:22
+enum-known-values : tie.Need-enum-known-values
+enum-known-values c = search needs
+
+-- src/lines.rt:237:9
+enum-told : tie.Need-enum-told
+enum-told c = search needs
+
+-- src/lines.rt:237:9
+returns-3 : tie.Need-returns-3
+unfolding headOf
+returns-3 c = rw (short (c .before .before .before .before .before .before .before), named (c .before .before .before .before), rw part-is at (sym (c .before .before .values-at .ensures) ∙ c .enum-told .given .1))
+
+-- src/lines.rt:239:9
+count-stands-requires : tie.Need-count-stands-requires
+count-stands-requires c κs = search needs
+
+-- src/lines.rt:240:9
+returns-4 : tie.Need-returns-4
+unfolding headOf
+returns-4 c = rw (short (c .before .before .before .before .before .before .before .before .before .before), named (c .before .before .before .before .before .before .before), values-read (c .before .before), sym (c .before .count-stands .ensures) ∙ not-true _ (c .if3 .taken))
+
+-- src/lines.rt:242:9
+limits-stand-requires : tie.Need-limits-stand-requires
+limits-stand-requires c κs = search needs
+
+-- src/lines.rt:243:9
+returns-5 : tie.Need-returns-5
+unfolding headOf
+returns-5 c = rw (short (c .before .before .before .before .before .before .before .before .before .before .before .before), named (c .before .before .before .before .before .before .before .before .before), values-read (c .before .before .before .before), sym (c .before .before .before .count-stands .ensures) ∙ not-false _ (c .before .before .if3 .left), sym (c .before .limits-stand .ensures) ∙ not-true _ (c .if4 .taken))
+
+-- src/lines.rt:245:14
+add-at : tie.Need-add-at
+add-at c = omega (arith, after-values (c .before .before .before .before))
+
+-- src/lines.rt:246:16
+sub-starts-with : tie.Need-sub-starts-with
+sub-starts-with c = after-values (c .before .before .before .before)
+
+-- src/lines.rt:246:16
+part-starts-with-start : tie.Need-part-starts-with-start
+part-starts-with-start c = after-values (c .before .before .before .before)
+
+-- src/lines.rt:246:16
+part-starts-with-end : tie.Need-part-starts-with-end
+part-starts-with-end c = search needs
+
+-- src/lines.rt:246:29
+slice-aggregate-starts-with-2 : tie.Need-slice-aggregate-starts-with-2
+slice-aggregate-starts-with-2 c = search needs
+
+-- src/lines.rt:246:9
+starts-with-requires-2 : tie.Need-starts-with-requires-2
+starts-with-requires-2 c κs = search needs
+
+-- src/lines.rt:247:9
+returns-6 : tie.Need-returns-6
+unfolding headOf
+returns-6 c = rw (short (c .before .before .before .before .before .before .before .before .before .before .before .before .before .before .before .before), named (c .before .before .before .before .before .before .before .before .before .before .before .before .before), values-read (c .before .before .before .before .before .before .before .before), sym (c .before .before .before .before .before .before .before .count-stands .ensures) ∙ not-false _ (c .before .before .before .before .before .before .if3 .left), sym (c .before .before .before .before .before .limits-stand .ensures) ∙ not-false _ (c .before .before .before .before .if4 .left), rw part-is at (sym (c .before .starts-with2 .ensures) ∙ not-true _ (c .if5 .taken)))
+
+-- src/lines.rt:249:30
+add-t11 : tie.Need-add-t11
+add-t11 c = omega (arith, after-values (c .before .before .before .before .before .before .before .before))
+
+-- src/lines.rt:226:1
+returns-7 : tie.Need-returns-7
+unfolding headOf
+returns-7 c = rw (short (c .before .before .before .before .before .before .before .before .before .before .before .before .before .before .before .before), named (c .before .before .before .before .before .before .before .before .before .before .before .before .before), values-read (c .before .before .before .before .before .before .before .before), sym (c .before .before .before .before .before .before .before .count-stands .ensures) ∙ not-false _ (c .before .before .before .before .before .before .if3 .left), sym (c .before .before .before .before .before .limits-stand .ensures) ∙ not-false _ (c .before .before .before .before .if4 .left), rw part-is at (sym (c .before .starts-with2 .ensures) ∙ not-false _ (c .if5 .left)))
+
+pub head-of-spec : {M : Type 1} → statement M
+head-of-spec =
+    tie.close
+    (tie.spec
+    returns
+    slice-aggregate-starts-with
+    starts-with-requires
+    returns-2
+    sub-values-at
+    part-values-at-start
+    part-values-at-end
+    values-at-requires
+    enum-known-values
+    enum-told
+    returns-3
+    count-stands-requires
+    returns-4
+    limits-stand-requires
+    returns-5
+    add-at
+    sub-starts-with
+    part-starts-with-start
+    part-starts-with-end
+    slice-aggregate-starts-with-2
+    starts-with-requires-2
+    returns-6
+    add-t11
+    returns-7)

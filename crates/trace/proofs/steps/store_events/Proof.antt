@@ -1,0 +1,191 @@
+use borrow.Author.Needs.{needs}
+use Prim.Native.Nat.{ℕ, _+_, _-_, _≤_, _<_}
+use mathlib.Core.Path.{_≡_, refl, sym, ap, _∙_}
+use native.Mathlib.Omega.{arith}
+use lib.ListN.{length, take, drop, length-set}
+use Rattle.model.specs.declared.Row.the-variants.{Step, Unread}
+use Rattle.model.specs.Texts.{Event}
+use Rattle.model.specs.Readings.{eventAt}
+use Rattle.grammar.proofs.Lists.{part-is}
+use Rattle.grammar.proofs.Bodies.{Along, along-start, along-step, along-more, along-inside}
+use Rattle.trace.proofs.Stores.{Stored, stored-start, stored-step, stored-place, stored-end, stored-fault}
+use Rattle.trace.proofs.steps.store_events.Statement.{statement}
+use Rattle.trace.proofs.steps.store_events.Tie as tie
+use Rattle.trace.proofs.steps.store_events.Reads as reads
+use Rattle.trace.proofs.steps.store_events.Lts as lts
+use Rattle.trace.proofs.lines.event_at.Reads as event-at-reads
+
+abbrev Inv-loop : tie.InvT-loop
+Inv-loop s times₀ processes₀ actions₀ at₀ i₀ times processes actions at i =
+    Along s at i × Stored (λ (x : Event). x .time) s at i times₀ times × Stored (λ (x : Event). x .process) s at i processes₀ processes
+    × Stored (λ (x : Event). x .action) s at i actions₀ actions
+
+abbrev μ-loop : tie.MeasureT-loop
+μ-loop s times₀ processes₀ actions₀ at₀ i₀ times processes actions at i = length s - at
+
+-- the step that was read, and its places
+read : (c : tie.After-known-told Inv-loop μ-loop)
+    → eventAt (c .before .before .before .before .before .before .loop .i + 4) (drop (c .before .before .before .before .before .before .loop .at) (c .before .before .before .before .before .before .before .before .before .before .before .args .s .now))
+      ≡ Step (c .before .row .given .0 .0) (c .before .row .given .0 .1 .0) (c .before .row .given .0 .1 .1 .0) (c .before .row .given .0 .1 .1 .1 .0)
+read c = rw part-is at (sym (c .before .before .before .event-at .ensures) ∙ c .before .row .given .1)
+
+place-times : (c : tie.After-known-told Inv-loop μ-loop) → c .before .before .before .before .before .before .loop .i < length (c .before .before .before .before .before .before .loop .times)
+place-times c = stored-place _ _ _ _ _ _ (c .before .before .before .before .before .before .loop .inv .1) _ _ _ _ (c .before .before .before .before .before .loop-test .taken) (read c) (c .before .before .before .before .before .before .loop .inv .0) (c .before .before .before .before .before .before .before .before .before .before .before .pre .0)
+
+place-processes : (c : tie.After-known-told Inv-loop μ-loop) → c .before .before .before .before .before .before .loop .i < length (c .before .before .before .before .before .before .loop .processes)
+place-processes c = stored-place _ _ _ _ _ _ (c .before .before .before .before .before .before .loop .inv .2) _ _ _ _ (c .before .before .before .before .before .loop-test .taken) (read c) (c .before .before .before .before .before .before .loop .inv .0) (c .before .before .before .before .before .before .before .before .before .before .before .pre .1 .0)
+
+place-actions : (c : tie.After-known-told Inv-loop μ-loop) → c .before .before .before .before .before .before .loop .i < length (c .before .before .before .before .before .before .loop .actions)
+place-actions c = stored-place _ _ _ _ _ _ (c .before .before .before .before .before .before .loop .inv .3) _ _ _ _ (c .before .before .before .before .before .loop-test .taken) (read c) (c .before .before .before .before .before .before .loop .inv .0) (c .before .before .before .before .before .before .before .before .before .before .before .pre .1 .1)
+
+-- the line that is no step
+fault : (c : tie.After-enum-told Inv-loop μ-loop)
+    → eventAt (c .before .before .before .before .before .loop .i + 4) (drop (c .before .before .before .before .before .loop .at) (c .before .before .before .before .before .before .before .before .before .before .args .s .now)) ≡ Unread (c .enum-told .given .0 .0) (c .enum-told .given .0 .1 .0)
+fault c = rw part-is at (sym (c .before .before .event-at .ensures) ∙ c .enum-told .given .1)
+
+-- src/steps.rt:282:5
+loop-holds : tie.Need-loop-holds Inv-loop μ-loop
+loop-holds c = (along-start _, stored-start _ _ _, stored-start _ _ _, stored-start _ _ _)
+
+-- src/steps.rt:283:20
+add-line : tie.Need-add-line Inv-loop μ-loop
+add-line c = omega (arith, c .before .loop .inv .0 .fewer)
+
+-- src/steps.rt:284:29
+sub-event-at : tie.Need-sub-event-at Inv-loop μ-loop
+sub-event-at c = search needs
+
+-- src/steps.rt:284:29
+part-event-at-start : tie.Need-part-event-at-start Inv-loop μ-loop
+part-event-at-start c = search needs
+
+-- src/steps.rt:284:29
+part-event-at-end : tie.Need-part-event-at-end Inv-loop μ-loop
+part-event-at-end c = search needs
+
+-- src/steps.rt:284:13
+event-at-requires : tie.Need-event-at-requires Inv-loop μ-loop
+event-at-requires c κs = search needs
+
+-- src/steps.rt:285:23
+enum-known-row : tie.Need-enum-known-row Inv-loop μ-loop
+enum-known-row c = search needs
+
+-- src/steps.rt:286:13
+enum-told : tie.Need-enum-told Inv-loop μ-loop
+enum-told c = search needs
+
+-- src/steps.rt:286:13
+same-length : tie.Need-same-length Inv-loop μ-loop
+same-length c = c .before .before .before .before .before .loop .inv .1 .long
+
+-- src/steps.rt:286:13
+same-length-2 : tie.Need-same-length-2 Inv-loop μ-loop
+same-length-2 c = c .before .before .before .before .before .loop .inv .2 .long
+
+-- src/steps.rt:286:13
+same-length-3 : tie.Need-same-length-3 Inv-loop μ-loop
+same-length-3 c = c .before .before .before .before .before .loop .inv .3 .long
+
+-- src/steps.rt:286:13
+returns : tie.Need-returns Inv-loop μ-loop
+returns c =
+    (stored-fault _ _ _ _ _ _ (c .before .before .before .before .before .loop .inv .1) _ _ (c .before .before .before .before .loop-test .taken) (fault c) (c .before .before .before .before .before .before .before .before .before .before .pre .0),
+    (stored-fault _ _ _ _ _ _ (c .before .before .before .before .before .loop .inv .2) _ _ (c .before .before .before .before .loop-test .taken) (fault c) (c .before .before .before .before .before .before .before .before .before .before .pre .1 .0),
+    stored-fault _ _ _ _ _ _ (c .before .before .before .before .before .loop .inv .3) _ _ (c .before .before .before .before .loop-test .taken) (fault c) (c .before .before .before .before .before .before .before .before .before .before .pre .1 .1)))
+
+-- src/steps.rt:288:9
+mul-times : tie.Need-mul-times Inv-loop μ-loop
+mul-times c = omega (arith, place-times c, c .before .before .before .before .before .before .loop .inv .1 .long, c .before .before .before .before .before .before .before .before .before .before .before .good)
+
+-- src/steps.rt:288:9
+slice-write-times : tie.Need-slice-write-times Inv-loop μ-loop
+slice-write-times c = place-times c
+
+-- src/steps.rt:289:9
+mul-processes : tie.Need-mul-processes Inv-loop μ-loop
+mul-processes c = omega (arith, place-processes c, c .before .before .before .before .before .before .loop .inv .2 .long, c .before .before .before .before .before .before .before .before .before .before .before .good)
+
+-- src/steps.rt:289:9
+slice-write-processes : tie.Need-slice-write-processes Inv-loop μ-loop
+slice-write-processes c = place-processes c
+
+-- src/steps.rt:290:9
+mul-actions : tie.Need-mul-actions Inv-loop μ-loop
+mul-actions c = omega (arith, place-actions c, c .before .before .before .before .before .before .loop .inv .3 .long, c .before .before .before .before .before .before .before .before .before .before .before .good)
+
+-- src/steps.rt:290:9
+slice-write-actions : tie.Need-slice-write-actions Inv-loop μ-loop
+slice-write-actions c = place-actions c
+
+-- src/steps.rt:291:9
+add-at : tie.Need-add-at Inv-loop μ-loop
+add-at c = omega (arith, along-inside (c .before .before .before .before .before .before .before .before .before .before .before .args .s .now) (c .before .before .before .before .before .before .loop .at) (c .before .before .before .before .before .before .loop .i) _ _ _ _ (c .before .before .before .before .before .loop-test .taken) (read c))
+
+-- src/steps.rt:292:9
+add-i : tie.Need-add-i Inv-loop μ-loop
+add-i c = omega (arith, c .before .before .before .before .before .before .loop .inv .0 .fewer)
+
+-- src/steps.rt:282:5
+loop-less : tie.Need-loop-less Inv-loop μ-loop
+loop-less c = omega (arith, along-more (c .before .before .before .before .before .before .before .before .before .before .before .args .s .now) (c .before .before .before .before .before .before .loop .at) (c .before .before .before .before .before .before .loop .i) _ _ _ _ (c .before .before .before .before .before .loop-test .taken) (read c))
+
+-- src/steps.rt:282:5
+loop-again : tie.Need-loop-again Inv-loop μ-loop
+loop-again c =
+    (along-step (c .before .before .before .before .before .before .before .before .before .before .before .args .s .now) (c .before .before .before .before .before .before .loop .at) (c .before .before .before .before .before .before .loop .i) _ _ _ _ (c .before .before .before .before .before .loop-test .taken) (read c) (c .before .before .before .before .before .before .loop .inv .0),
+    stored-step _ _ _ _ _ _ (c .before .before .before .before .before .before .loop .inv .1) _ _ _ _ (c .before .before .before .before .before .loop-test .taken) (read c),
+    stored-step _ _ _ _ _ _ (c .before .before .before .before .before .before .loop .inv .2) _ _ _ _ (c .before .before .before .before .before .loop-test .taken) (read c),
+    stored-step _ _ _ _ _ _ (c .before .before .before .before .before .before .loop .inv .3) _ _ _ _ (c .before .before .before .before .before .loop-test .taken) (read c))
+
+-- src/steps.rt:272:1
+same-length-4 : tie.Need-same-length-4 Inv-loop μ-loop
+same-length-4 c = c .before .loop .inv .1 .long
+
+-- src/steps.rt:272:1
+same-length-5 : tie.Need-same-length-5 Inv-loop μ-loop
+same-length-5 c = c .before .loop .inv .2 .long
+
+-- src/steps.rt:272:1
+same-length-6 : tie.Need-same-length-6 Inv-loop μ-loop
+same-length-6 c = c .before .loop .inv .3 .long
+
+-- src/steps.rt:272:1
+returns-2 : tie.Need-returns-2 Inv-loop μ-loop
+returns-2 c =
+    (stored-end _ _ _ _ _ _ (c .before .loop .inv .1) (c .loop-test .left) (c .before .loop .inv .0 .inside) (c .before .before .before .before .before .before .pre .0),
+    (stored-end _ _ _ _ _ _ (c .before .loop .inv .2) (c .loop-test .left) (c .before .loop .inv .0 .inside) (c .before .before .before .before .before .before .pre .1 .0),
+    stored-end _ _ _ _ _ _ (c .before .loop .inv .3) (c .loop-test .left) (c .before .loop .inv .0 .inside) (c .before .before .before .before .before .before .pre .1 .1)))
+
+pub store-events-spec : {M : Type 1} → statement M
+store-events-spec =
+    tie.close
+    (tie.spec
+    Inv-loop
+    μ-loop
+    loop-holds
+    add-line
+    sub-event-at
+    part-event-at-start
+    part-event-at-end
+    event-at-requires
+    enum-known-row
+    enum-told
+    same-length
+    same-length-2
+    same-length-3
+    returns
+    mul-times
+    slice-write-times
+    mul-processes
+    slice-write-processes
+    mul-actions
+    slice-write-actions
+    add-at
+    add-i
+    loop-less
+    loop-again
+    same-length-4
+    same-length-5
+    same-length-6
+    returns-2)

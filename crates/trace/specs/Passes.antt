@@ -1,0 +1,23 @@
+-- What the passes over a recording's lines ensure: parts of `readOf` and `writeOf`, which no reader has to believe.
+-- Assumes nothing.
+use Prim.Native.Nat.{ℕ, _+_}
+use mathlib.Core.Path.{_≡_}
+use mathlib.Core.Bool.{cond}
+use mathlib.Core.List.{List}
+use lib.Dec.{ltb, eqb}
+use lib.ListN.{length}
+use lib.Seq.{sets}
+use Rattle.model.specs.Texts.{textLimit}
+use Rattle.model.specs.Readings.{Body}
+use Rattle.trace.specs.declared.steps.Tally.{Tally}
+use Rattle.trace.specs.declared.steps.Tally.the-variants.{Steps, Fault}
+use Rattle.trace.specs.declared.texts.Size.{Size}
+use Rattle.trace.specs.declared.texts.Size.the-variants.{Bytes, Long}
+
+-- how many steps there are, or the refusal of the first line that is none
+abbrev pub tallyOf : Body → Tally
+tallyOf b = cond (eqb (b .fault) 0) (Steps (length (b .events))) (Fault 14 (b .fault))
+
+-- how many bytes there are, up to 65,536
+abbrev pub sizeOf : ℕ → Size
+sizeOf k = cond (ltb textLimit k) Long (Bytes k)

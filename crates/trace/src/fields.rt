@@ -1,0 +1,115 @@
+// The fields of a line, read at the start of a text. A reader of a field answers with an enum: the value and how many
+// bytes the field takes, or that it fails.
+use model::Field;
+ghost use mathlib.Core.Path.{_≡_};
+ghost use mathlib.Core.Bool.{_&&_};
+ghost use Prim.Native.Nat.{_≤_};
+ghost use lib.Dec.{eqb, ltb};
+ghost use Rattle.model.specs.Readings.{startsWith, numberAt, wordAt};
+
+// A time is below this, "at most 13 digits".
+pub(crate) const TIME_BOUND: u64 = 10000000000000;
+
+// Other numbers are below this, "at most 8".
+pub(crate) const NUMBER_BOUND: u64 = 100000000;
+
+// s starts with w.
+pub(crate) fn starts_with(s: &[u8], w: &[u8]) -> bool
+    ensures { λ r. ⌜ r ≡ startsWith (now (w .entry)) (now (s .entry)) ⌝ }
+{
+    let mut i: usize = 0;
+    while i < w.len() {
+        if s.len() <= i {
+            return false;
+        }
+        if s[i] != w[i] {
+            return false;
+        }
+        i += 1;
+    }
+    true
+}
+
+// A zero that is not the only digit.
+fn has_leading_zero(v: u64, i: usize) -> bool
+    ensures { λ r. ⌜ r ≡ (eqb v 0 && ltb 0 i) ⌝ }
+{
+    if v != 0 {
+        return false;
+    }
+    0 < i
+}
+
+fn wide(x: u8) -> u64
+    ensures { λ r. ⌜ r ≡ x ⌝ }
+{
+    x as u64
+}
+
+// A number below `bound`, up to the byte `end`. The bound on the bound keeps the next digit's value from overflowing.
+pub(crate) fn number_at(s: &[u8], bound: u64, end: u8) -> Field
+    requires { ⌜ bound ≤ 10000000000000 ⌝ }
+    ensures { λ r. ⌜ r ≡ numberAt bound end (now (s .entry)) ⌝ }
+{
+    let mut v: u64 = 0;
+    let mut i: usize = 0;
+    while i < s.len() {
+        let x = s[i];
+        if x == end {
+            if i == 0 {
+                return Field::Bad;
+            }
+            return Field::Value(v, i + 1);
+        }
+        if x < 48 {
+            return Field::Bad;
+        }
+        if 57 < x {
+            return Field::Bad;
+        }
+        if has_leading_zero(v, i) {
+            return Field::Bad;
+        }
+        let next = v * 10 + wide(x - 48);
+        if bound <= next {
+            return Field::Bad;
+        }
+        v = next;
+        i += 1;
+    }
+    Field::Bad
+}
+
+// The action whose word fills the line.
+pub(crate) fn word_at(s: &[u8]) -> Field
+    ensures { λ r. ⌜ r ≡ wordAt (now (s .entry)) ⌝ }
+{
+    if starts_with(s, b"wait\n") {
+        return Field::Value(0, 5);
+    }
+    if starts_with(s, b"try\n") {
+        return Field::Value(1, 4);
+    }
+    if starts_with(s, b"test\n") {
+        return Field::Value(2, 5);
+    }
+    if starts_with(s, b"set\n") {
+        return Field::Value(3, 4);
+    }
+    if starts_with(s, b"check\n") {
+        return Field::Value(4, 6);
+    }
+    if starts_with(s, b"crit\n") {
+        return Field::Value(5, 5);
+    }
+    if starts_with(s, b"exit\n") {
+        return Field::Value(6, 5);
+    }
+    if starts_with(s, b"reset\n") {
+        return Field::Value(7, 6);
+    }
+    if starts_with(s, b"rem\n") {
+        return Field::Value(8, 4);
+    }
+    Field::Bad
+}

@@ -1,0 +1,121 @@
+// Reader and writer of recordings: `read` takes a text apart into lent lists, `write` makes a text of lists. Both take
+// anything, and give back what `readOf` and `writeOf` of the model say, refusals included.
+mod fields;
+mod lines;
+pub mod puts;
+mod steps;
+mod texts;
+
+use crate::lines::head_of;
+use crate::steps::Tally;
+use crate::steps::count_events;
+use crate::steps::store_events;
+use crate::texts::Size;
+use crate::texts::formless;
+use crate::texts::least;
+use crate::texts::put_trace;
+use fischer::limits::count_stands;
+use fischer::limits::limits_stand;
+use model::Answer;
+use model::Head;
+use model::Reading;
+ghost use mathlib.Core.Path.{_≡_};
+ghost use Rattle.model.specs.Answers.{answerOf};
+ghost use Rattle.model.specs.Readings.{lists, readingOf, readOf};
+ghost use Rattle.model.specs.Writings.{eventsOf, writeOf};
+
+fn answer_with(code: u64, time: u64) -> Answer
+    ensures { λ r. ⌜ r ≡ answerOf code 0 time ⌝ }
+{
+    Answer {
+        code: code,
+        process: 0,
+        time: time,
+    }
+}
+
+fn reading_with(code: u64, time: u64, n: u64, a: u64, b: u64, c: u64) -> Reading
+    ensures { λ r. ⌜ r ≡ readingOf code time n a b c ⌝ }
+{
+    Reading {
+        answer: Answer {
+            code: code,
+            process: 0,
+            time: time,
+        },
+        n: n,
+        a: a,
+        b: b,
+        c: c,
+    }
+}
+
+// A refused reading: n, a, b, c are 0.
+fn unread(code: u64, line: u64) -> Reading
+    ensures { λ r. ⌜ r ≡ readingOf code line 0 0 0 0 ⌝ }
+{
+    reading_with(code, line, 0, 0, 0, 0)
+}
+
+// Reads a recording: its steps go to the three lists. A refused reading stores nothing.
+pub fn read(text: &[u8], times: &mut [u64], processes: &mut [u64], actions: &mut [u64]) -> Reading
+    ensures reading { λ r. ⌜ r ≡ readOf (now (text .entry)) (lists (now (times .entry)) (now (processes .entry)) (now (actions .entry))) .reading ⌝ }
+    ensures times { λ _. ⌜ now (times .exit) ≡ readOf (now (text .entry)) (lists (now (times .entry)) (now (processes .entry)) (now (actions .entry))) .kept .times ⌝ }
+    ensures processes { λ _. ⌜ now (processes .exit) ≡ readOf (now (text .entry)) (lists (now (times .entry)) (now (processes .entry)) (now (actions .entry))) .kept .processes ⌝ }
+    ensures actions { λ _. ⌜ now (actions .exit) ≡ readOf (now (text .entry)) (lists (now (times .entry)) (now (processes .entry)) (now (actions .entry))) .kept .actions ⌝ }
+{
+    let first = head_of(text);
+    match first {
+        Head::Refused(code, line) => unread(code, line),
+        Head::Values(n, a, b, c, k) => {
+            let body = &text[k..];
+            let counted = count_events(body);
+            match counted {
+                Tally::Fault(code, line) => unread(code, line),
+                Tally::Steps(count) => {
+                    let room = least(times.len(), least(processes.len(), actions.len()));
+                    if room < count {
+                        return unread(16, 0);
+                    }
+                    store_events(body, times, processes, actions);
+                    reading_with(0, count as u64, n, a, b, c)
+                }
+            }
+        }
+    }
+}
+
+// Writes a recording of the steps in the three lists, as many as the shortest holds. A refused writing stores nothing.
+pub fn write(
+    n: u64,
+    a: u64,
+    b: u64,
+    c: u64,
+    times: &[u64],
+    processes: &[u64],
+    actions: &[u64],
+    out: &mut [u8],
+) -> Answer
+    ensures answer { λ r. ⌜ r ≡ writeOf n a b c (eventsOf (lists (now (times .entry)) (now (processes .entry)) (now (actions .entry)))) (now (out .entry)) .answer ⌝ }
+    ensures out { λ _. ⌜ now (out .exit) ≡ writeOf n a b c (eventsOf (lists (now (times .entry)) (now (processes .entry)) (now (actions .entry)))) (now (out .entry)) .out ⌝ }
+{
+    if !count_stands(n) {
+        return answer_with(11, 0);
+    }
+    if !limits_stand(a, b, c) {
+        return answer_with(12, 0);
+    }
+    let line = formless(times, processes, actions);
+    if line != 0 {
+        return answer_with(14, line);
+    }
+    let measured = put_trace(&mut out[..0], n, a, b, c, times, processes, actions);
+    let Size::Bytes(size) = measured else {
+        return answer_with(15, 0);
+    };
+    if out.len() < size {
+        return answer_with(16, 0);
+    }
+    put_trace(out, n, a, b, c, times, processes, actions);
+    answer_with(0, size as u64)
+}
