@@ -7,7 +7,6 @@ use lib.ListN.{length, drop, length-drop}
 use lib.Seq.{drop-drop}
 use Rattle.model.specs.declared.Row.{Row}
 use Rattle.model.specs.declared.Row.the-variants.{Step, Unread}
-use Rattle.model.specs.Texts.{Event}
 use Rattle.model.specs.Readings.{eventAt, Body, before, bodyIn, bodyOf}
 use Rattle.grammar.proofs.Lists.{drop-end}
 use Rattle.grammar.proofs.Fields.{took-le}
@@ -17,7 +16,8 @@ use Rattle.grammar.proofs.Lines.{event-some, event-was}
 
 -- what a step takes is something
 taken-some : (line : ℕ) (s : List ℕ) (t p a i : ℕ) → eventAt line s ≡ Step t p a i → 0 < i
-taken-some line s t p a i e = omega (arith, event-some (record { time = t; process = p; action = a }), event-was line s t p a i e .took .size)
+taken-some line s t p a i e =
+    omega (arith, event-some (record { time = t; process = p; action = a }), event-was line s t p a i e .took .size)
 
 -- as many lines as may be are the same lines
 body-enough : (f g line : ℕ) (s : List ℕ) → length s ≤ f → length s ≤ g → bodyIn f line s ≡ bodyIn g line s
@@ -37,7 +37,7 @@ body-enough (suc f) (suc g) line (x ∷ s) h k =
         → bodyIn (suc f) line (x ∷ s) ≡ bodyIn (suc g) line (x ∷ s)
     go (Unread code at) e same = rw (e, bodyIn)
     go (Step t p a i) e same =
-        rw (e, bodyIn) (ap (λ (b : Body). before (record { time = t; process = p; action = a }) b) (same i (taken-some line (x ∷ s) t p a i e)))
+        rw (e, bodyIn, same i (taken-some line (x ∷ s) t p a i e))
 
 pub body-step : (line : ℕ) (s : List ℕ) → 0 < length s → (t p a i : ℕ) → eventAt line s ≡ Step t p a i
     → bodyOf line s ≡ before (record { time = t; process = p; action = a }) (bodyOf (line + 1) (drop i s))
@@ -45,9 +45,8 @@ unfolding bodyOf bodyIn
 body-step line [] h t p a i e = absurd (omega arith)
 body-step line (x ∷ s) h t p a i e =
     let m = taken-some line (x ∷ s) t p a i e in
-    rw (e, bodyIn)
-    (ap (λ (b : Body). before (record { time = t; process = p; action = a }) b)
-    (body-enough (length s) (length (drop i (x ∷ s))) (line + 1) (drop i (x ∷ s)) (omega (arith, length-drop i (x ∷ s))) (omega arith)))
+    let rest : List ℕ = drop i (x ∷ s) in
+    rw (e, bodyIn, body-enough (length s) (length rest) (line + 1) rest (omega (arith, length-drop i (x ∷ s))) (omega arith))
 
 pub body-fault : (line : ℕ) (s : List ℕ) → 0 < length s → (code at : ℕ) → eventAt line s ≡ Unread code at
     → bodyOf line s ≡ record { events = []; fault = line }
@@ -74,7 +73,8 @@ pub some-left : (s : List ℕ) (at : ℕ) → at < length s → 0 < length (drop
 some-left s at h = omega (arith, length-drop at s)
 
 module _ (s : List ℕ) (at count t p a k : ℕ) (more : at < length s) (e : eventAt (count + 4) (drop at s) ≡ Step t p a k) where
-  pub along-turn : bodyOf (count + 4) (drop at s) ≡ before (record { time = t; process = p; action = a }) (bodyOf (count + 1 + 4) (drop (at + k) s))
+  pub along-turn : bodyOf (count + 4) (drop at s)
+      ≡ before (record { time = t; process = p; action = a }) (bodyOf (count + 1 + 4) (drop (at + k) s))
   along-turn =
       let q : count + 4 + 1 ≡ count + 1 + 4 = omega arith in
       rw (q, drop-drop) at (body-step (count + 4) (drop at s) (some-left s at more) t p a k e)
@@ -87,20 +87,19 @@ module _ (s : List ℕ) (at count t p a k : ℕ) (more : at < length s) (e : eve
 
   pub along-step : Along s at count → Along s (at + k) (count + 1)
   along-step g =
-      record
-      { inside = along-inside
-      ; fewer = omega (arith, along-more, g .fewer)
-      ; counted = omega (arith, g .counted, ap (λ (b : Body). length (b .events)) along-turn)
-      ; fault = sym (ap (λ (b : Body). b .fault) along-turn) ∙ g .fault
+      record {
+        inside = along-inside;
+        fewer = omega (arith, along-more, g .fewer);
+        counted = omega (arith, g .counted, ap (λ (b : Body). length (b .events)) along-turn);
+        fault = sym (ap (λ (b : Body). b .fault) along-turn) ∙ g .fault;
       }
 
 module _ (s : List ℕ) (at count : ℕ) (g : Along s at count) where
   pub along-end : length s ≤ at → (count ≡ length (bodyOf 4 s .events)) × (bodyOf 4 s .fault ≡ 0)
   along-end h =
-      let e : drop at s ≡ [] = drop-end s at h (g .inside) in
-      let b = rw e at (g .counted) in
-      let f = rw e at (g .fault) in
-      (omega (arith, b, ap (λ (x : Body). length (x .events)) (body-end (count + 4))), sym f ∙ ap (λ (x : Body). x .fault) (body-end (count + 4)))
+      let b : bodyOf (count + 4) (drop at s) ≡ record { events = []; fault = 0 } =
+      rw (drop-end s at h (g .inside)) (body-end (count + 4)) in
+      (omega (arith, g .counted, ap (λ (x : Body). length (x .events)) b), sym (g .fault) ∙ ap (λ (x : Body). x .fault) b)
 
   pub along-fault : (code line : ℕ) → at < length s → eventAt (count + 4) (drop at s) ≡ Unread code line
       → (count ≡ length (bodyOf 4 s .events)) × (bodyOf 4 s .fault ≡ count + 4)

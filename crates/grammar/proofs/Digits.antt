@@ -1,8 +1,7 @@
 -- Laws of decimal digits. Assumes nothing.
-use Prim.Native.Nat.{ℕ, zero, suc, _+_, _-_, _*_, _/_, _%_, _^_, _≤_, _<_}
-use mathlib.Core.Path.{_≡_, refl, sym, ap, _∙_}
-use mathlib.Core.Bool.{true, false}
-use mathlib.Core.List.{List, [], _∷_, _++_}
+use Prim.Native.Nat.{ℕ, zero, suc, _+_, _*_, _/_, _%_, _^_, _≤_, _<_}
+use mathlib.Core.Path.{_≡_, sym, _∙_}
+use mathlib.Core.List.{[], _∷_, _++_}
 use native.Mathlib.Omega.{arith}
 use native.Mathlib.Nat.{pow-suc}
 use lib.ListN.{length, length-append}
@@ -25,7 +24,7 @@ enough (suc k) zero v h g = absurd (omega arith)
 enough (suc k) (suc j) v h g =
     if-lt v 10
     (λ h. in-small k v h ∙ sym (in-small j v h))
-    (λ m. in-more k v m ∙ (ap (λ (l : List ℕ). l ++ ((48 + v % 10) ∷ [])) (enough k j (v / 10) (omega arith) (omega arith)) ∙ sym (in-more j v m)))
+    (λ m. rw (in-more k v m, in-more j v m, enough k j (v / 10) (omega arith) (omega arith)))
 
 pub decimal-small : (v : ℕ) → v < 10 → decimal v ≡ (48 + v) ∷ []
 unfolding decimal
@@ -34,7 +33,7 @@ decimal-small v h = in-small v v h
 pub decimal-more : (v : ℕ) → 10 ≤ v → decimal v ≡ decimal (v / 10) ++ ((48 + v % 10) ∷ [])
 unfolding decimal
 decimal-more v h =
-    in-more v v h ∙ ap (λ (l : List ℕ). l ++ ((48 + v % 10) ∷ [])) (enough v (suc (v / 10)) (v / 10) (omega arith) (omega arith))
+    rw (in-more v v h, enough v (suc (v / 10)) (v / 10) (omega arith) (omega arith))
 
 -- one digit more
 pub decimal-next : (v d : ℕ) → 0 < v → d < 10 → decimal (v * 10 + d) ≡ decimal v ++ ((48 + d) ∷ [])
@@ -56,9 +55,9 @@ digits-below (suc d) v h =
     if-lt v 10
     (λ h. rw (decimal-small v h) (omega arith))
     (λ m.
-        let q : 10 ^ suc (suc d) ≡ 10 ^ suc d * 10 = pow-suc 10 (suc d) in
-        let g : v / 10 < 10 ^ suc d = omega arith in
-        rw (decimal-more v m) (omega (arith, length-append (decimal (v / 10)) ((48 + v % 10) ∷ []), digits-below d (v / 10) g)))
+    let q : 10 ^ suc (suc d) ≡ 10 ^ suc d * 10 = pow-suc 10 (suc d) in
+    let g : v / 10 < 10 ^ suc d = omega arith in
+    rw (decimal-more v m) (omega (arith, length-append (decimal (v / 10)) ((48 + v % 10) ∷ []), digits-below d (v / 10) g)))
 
 -- a u64 has at most 20 digits
 pub digits-word : (v : ℕ) → v < 2 ^ 64 → length (decimal v) ≤ 20

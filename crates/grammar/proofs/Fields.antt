@@ -7,12 +7,12 @@ use native.Mathlib.Omega.{arith}
 use lib.Dec.{leb, ltb, eqb}
 use lib.ListN.{length, getD, drop, length-append}
 use lib.Seq.{drop-at, append-snoc}
-use borrow.Author.Tests.{le-ltb, lt-leb, eq-eqb, ne-eqb, eqb-true, leb-false}
+use borrow.Author.Tests.{lt-leb, eq-eqb, ne-eqb, eqb-true, leb-false}
 use Rattle.model.specs.declared.Field.{Field}
 use Rattle.model.specs.declared.Field.the-variants.{Value, Bad}
 use Rattle.model.specs.Texts.{decimal, numberText, newline, words, wordText}
 use Rattle.model.specs.Readings.{startsWith, numberFrom, numberAt, wordFrom, wordAt}
-use Rattle.model.proofs.Tests.{by-test, if-lt, if-eq, tests}
+use Rattle.model.proofs.Tests.{by-cond, if-lt, if-eq, tests}
 use Rattle.grammar.proofs.Digits.{decimal-small, decimal-more, decimal-next, some-digit}
 
 -- What is taken
@@ -28,9 +28,6 @@ took-le {s} {text} {k} t = omega (arith, ap length (t .split) ∙ length-append 
 pub took : (text s : List ℕ) (k : ℕ) → k ≡ length text → Took (text ++ s) text k
 took text s k e = record { split = ap (λ (l : List ℕ). text ++ l) (sym (drop-at text s k (sym e))); size = e }
 
-never-read : {P : Type 0} {v k : ℕ} → Bad ≡ Value v k → P
-never-read {v = v} {k = k} e = let z : _≡_ {A = ℕ} 0 1 = cc in absurd (omega arith)
-
 -- A number that is written is read
 
 module _ (bound end : ℕ) (small : end < 48) where
@@ -41,7 +38,8 @@ module _ (bound end : ℕ) (small : end < 48) where
       let q : 48 + d - 48 ≡ d = omega arith in
       let other : eqb (48 + d) end ≡ false = simp tests (λ (e : 48 + d ≡ end). omega arith) in
       let digit : (ltb (48 + d) 48 || ltb 57 (48 + d)) ≡ false = simp tests (omega arith, omega arith) in
-      let led : (eqb v 0 && ltb 0 k) ≡ false = simp tests (λ (e : v ≡ 0). if-lt 0 k (λ g. omega (arith, pos g)) (λ g. omega arith)) in
+      let led : (eqb v 0 && ltb 0 k) ≡ false =
+      simp tests (λ (e : v ≡ 0). if-lt 0 k (λ g. omega (arith, pos g)) (λ g. omega arith)) in
       rw q (simp (other, digit, led, lt-leb bound (v * 10 + d) l))
 
   digits-taken : (f v : ℕ) (s : List ℕ) → v < f → v < bound
@@ -50,20 +48,22 @@ module _ (bound end : ℕ) (small : end < 48) where
   digits-taken (suc f) v s h l =
       if-lt v 10
       (λ t. let z : 0 + v ≡ v = omega arith in
-          rw (decimal-small v t) (digit-taken 0 0 v s t (λ (g : 0 < 0). omega arith) (omega arith) ∙ rw z))
+      rw (decimal-small v t) (digit-taken 0 0 v s t (λ (g : 0 < 0). omega arith) (omega arith) ∙ rw z))
       (λ m. let q : v / 10 * 10 + v % 10 ≡ v = omega arith in
-          let k : ℕ = length (decimal (v / 10)) in
-          let size : length (decimal v) ≡ k + 1 = rw (decimal-more v m) (length-append (decimal (v / 10)) ((48 + v % 10) ∷ [])) in
-          rw (size, decimal-more v m, append-snoc)
-          (digits-taken f (v / 10) ((48 + v % 10) ∷ s) (omega arith) (omega arith)
-          ∙ (digit-taken (v / 10) k (v % 10) s (omega arith) (λ (g : 0 < k). omega arith) (omega arith) ∙ rw q)))
+      let k : ℕ = length (decimal (v / 10)) in
+      let size : length (decimal v) ≡ k + 1 =
+      rw (decimal-more v m) (length-append (decimal (v / 10)) ((48 + v % 10) ∷ [])) in
+      rw (size, decimal-more v m, append-snoc)
+      (digits-taken f (v / 10) ((48 + v % 10) ∷ s) (omega arith) (omega arith)
+      ∙ (digit-taken (v / 10) k (v % 10) s (omega arith) (λ (g : 0 < k). omega arith) (omega arith) ∙ rw q)))
 
-  pub number-reads : (v : ℕ) (s : List ℕ) → v < bound → numberAt bound end (numberText end v ++ s) ≡ Value v (length (numberText end v))
+  pub number-reads : (v : ℕ) (s : List ℕ) → v < bound
+      → numberAt bound end (numberText end v ++ s) ≡ Value v (length (numberText end v))
   unfolding numberText numberFrom
   number-reads v s l =
-      rw (append-snoc (decimal v) end s)
-      (digits-taken (suc v) v (end ∷ s) (omega arith) l
-      ∙ simp (eq-eqb end end refl, ne-eqb (length (decimal v)) 0 (λ (z : length (decimal v) ≡ 0). omega (arith, some-digit v)), length-append))
+      let some : eqb (length (decimal v)) 0 ≡ false = ne-eqb _ _ (λ (z : length (decimal v) ≡ 0). omega (arith, some-digit v)) in
+      rw (append-snoc (decimal v) end s, digits-taken (suc v) v (end ∷ s) (omega arith) l)
+      (simp (eq-eqb end end refl, some, length-append))
 
 -- A number that is read was written
 
@@ -74,58 +74,56 @@ record Digits (p : List ℕ) (v k : ℕ) : Type 0 where
   size : k ≡ length p
 
 -- one digit more
-more-digits : (p : List ℕ) (v k d : ℕ) → Digits p v k → d < 10 → (0 < k → 0 < v) → Digits (p ++ ((48 + d) ∷ [])) (v * 10 + d) (k + 1)
+more-digits : (p : List ℕ) (v k d : ℕ) → Digits p v k → d < 10 → (0 < k → 0 < v)
+    → Digits (p ++ ((48 + d) ∷ [])) (v * 10 + d) (k + 1)
 more-digits p v k d s h pos =
-    record
-    { none = λ (z : k + 1 ≡ 0). absurd (omega arith)
-    ; some = λ _.
-        if-lt 0 k
-        (λ g. rw (decimal-next v d (pos g) h) (ap (λ (l : List ℕ). l ++ ((48 + d) ∷ [])) (s .some g)))
-        (λ g. let n = s .none (omega arith) in let q : 0 + d ≡ d = omega arith in rw (n .0, n .1, q) (sym (decimal-small d h)))
-    ; size = omega (arith, length-append p ((48 + d) ∷ []), s .size)
+    record {
+      none = λ (z : k + 1 ≡ 0). absurd (omega arith);
+      some = λ _.
+          if-lt 0 k
+          (λ g. rw (decimal-next v d (pos g) h) (ap (λ (l : List ℕ). l ++ ((48 + d) ∷ [])) (s .some g)))
+          (λ g. let n = s .none (omega arith) in let q : 0 + d ≡ d = omega arith in rw (n .0, n .1, q) (sym (decimal-small d h)));
+      size = omega (arith, length-append p ((48 + d) ∷ []), s .size);
     }
 
 module _ (bound end : ℕ) where
-  ended : (s p : List ℕ) (v k w j : ℕ) → Digits p v k → v < bound → 0 < k → Value v (k + 1) ≡ Value w j
-      → Took (p ++ end ∷ s) (numberText end w) j × (w < bound)
+  ended : (s p : List ℕ) (v k : ℕ) → Digits p v k → 0 < k → Took (p ++ end ∷ s) (numberText end v) (k + 1)
   unfolding numberText
-  ended s p v k w j st l g e =
-      let ew : v ≡ w = cc in
-      let ej : k + 1 ≡ j = cc in
-      let text : List ℕ = decimal w ++ (end ∷ []) in
-      let pe : p ≡ decimal w = st .some g ∙ ap decimal ew in
-      let size : j ≡ length text = omega (arith, length-append (decimal w) (end ∷ []), st .size, ap length pe) in
-      let whole : text ++ s ≡ p ++ end ∷ s = rw pe (append-snoc (decimal w) end s) in
-      (rw whole at (took text s j size), omega arith)
+  ended s p v k d g =
+      let text : List ℕ = decimal v ++ (end ∷ []) in
+      let size : k + 1 ≡ length text = omega (arith, length-append (decimal v) (end ∷ []), d .size, ap length (d .some g)) in
+      rw (d .some g, ← append-snoc (decimal v) end s) (took text s (k + 1) size)
 
-  read-from : (s p : List ℕ) (v k w j : ℕ) → Digits p v k → v < bound → numberFrom bound end v k s ≡ Value w j
-      → Took (p ++ s) (numberText end w) j × (w < bound)
+  -- what a field tells of the text that it was read from
+  abbrev NumberTells : List ℕ → Field → Type 0
+  NumberTells s (Value v k) = Took s (numberText end v) k × (v < bound)
+  NumberTells s Bad = Unit
+
+  number-tells : (s p : List ℕ) (v k : ℕ) → Digits p v k → v < bound → NumberTells (p ++ s) (numberFrom bound end v k s)
   unfolding numberFrom
-  read-from [] p v k w j st l e = never-read e
-  read-from (x ∷ s) p v k w j st l e =
-      by-test (eqb x end)
-      (λ t. by-test (eqb k 0)
-          (λ z. never-read (simp (t, z) at e))
-          (λ z. rw (eqb-true x end t) (ended s p v k w j st l (omega (arith, simp tests at z)) (simp (t, z) at e))))
-      (λ t. by-test (ltb x 48 || ltb 57 x)
-          (λ z. never-read (simp (t, z) at e))
-          (λ z. by-test (eqb v 0 && ltb 0 k)
-              (λ y. never-read (simp (t, z, y) at e))
-              (λ y. by-test (leb bound (v * 10 + (x - 48)))
-                  (λ m. never-read (simp (t, z, y, m) at e))
-                  (λ m.
-                      let digit = simp tests at z in
-                      let led = simp tests at y in
-                      let q : 48 + (x - 48) ≡ x = omega arith in
-                      rw append-snoc at
-                      (read-from s (p ++ (x ∷ [])) (v * 10 + (x - 48)) (k + 1) w j
-                      (rw q at (more-digits p v k (x - 48) st (omega arith) (λ (g : 0 < k). if-eq v 0 (λ z. omega (arith, led z)) (λ n. omega arith))))
-                      (leb-false bound (v * 10 + (x - 48)) m)
-                      (simp (t, z, y, m) at e))))))
+  number-tells [] p v k d l = tt
+  number-tells (x ∷ s) p v k d l =
+      by-cond (NumberTells (p ++ x ∷ s)) (eqb x end)
+      (λ t.
+      by-cond (NumberTells (p ++ x ∷ s)) (eqb k 0) (λ _. tt) (λ z.
+      (rw (eqb-true x end t) (ended s p v k d (omega (arith, simp tests at z))), l)))
+      (λ _.
+      by-cond (NumberTells (p ++ x ∷ s)) (ltb x 48 || ltb 57 x) (λ _. tt) (λ z.
+      by-cond (NumberTells (p ++ x ∷ s)) (eqb v 0 && ltb 0 k) (λ _. tt) (λ y.
+      by-cond (NumberTells (p ++ x ∷ s)) (leb bound (v * 10 + (x - 48))) (λ _. tt) (λ m.
+      let digit = simp tests at z in
+      let led = simp tests at y in
+      let pos : 0 < k → 0 < v = λ (g : 0 < k). if-eq v 0 (λ e. omega (arith, led e)) (λ n. omega arith) in
+      let q : 48 + (x - 48) ≡ x = omega arith in
+      rw append-snoc at
+      (number-tells s (p ++ (x ∷ [])) (v * 10 + (x - 48)) (k + 1)
+      (rw q at (more-digits p v k (x - 48) d (omega arith) pos)) (leb-false _ _ m))))))
 
-  pub number-was : (s : List ℕ) (v k : ℕ) → 0 < bound → numberAt bound end s ≡ Value v k → Took s (numberText end v) k × (v < bound)
+  pub number-was : (s : List ℕ) (v k : ℕ) → 0 < bound → numberAt bound end s ≡ Value v k
+      → Took s (numberText end v) k × (v < bound)
   number-was s v k h e =
-      read-from s [] 0 0 v k (record { none = λ _. (refl, refl); some = λ (g : 0 < 0). absurd (omega arith); size = refl }) h e
+      rw e at
+      (number-tells s [] 0 0 (record { none = λ _. (refl, refl); some = λ (g : 0 < 0). absurd (omega arith); size = refl }) h)
 
 -- A word
 
@@ -138,43 +136,39 @@ starts-was (x ∷ w) (y ∷ s) e = let f = simp tests at e in rw (f .0) (ap (λ 
 pub starts-took : (w s : List ℕ) → startsWith w s ≡ true → Took s w (length w)
 starts-took w s e = record { split = starts-was w s e; size = refl }
 
-pub starts-here : (w s : List ℕ) → startsWith w (w ++ s) ≡ true
-unfolding startsWith
-starts-here [] s = refl
-starts-here (x ∷ w) s = simp (eq-eqb x x refl) (starts-here w s)
+-- the bytes that one of some words takes
+record Worded (base : ℕ) (ws : List (List ℕ)) (s : List ℕ) (a k : ℕ) : Type 0 where
+  place : ℕ
+  named : a ≡ base + place
+  below : place < length ws
+  took : Took s (getD ws place [] ++ (newline ∷ [])) k
 
--- the bytes that a word takes
-pub record Worded (base : ℕ) (ws : List (List ℕ)) (s : List ℕ) (a k : ℕ) : Type 0 where
-  pub place : ℕ
-  pub named : a ≡ base + place
-  pub below : place < length ws
-  pub took : Took s (getD ws place [] ++ (newline ∷ [])) k
+abbrev WordTells : ℕ → List (List ℕ) → List ℕ → Field → Type 0
+WordTells base ws s (Value a k) = Worded base ws s a k
+WordTells base ws s Bad = Unit
 
-word-among : (base : ℕ) (ws : List (List ℕ)) (s : List ℕ) (a k : ℕ) → wordFrom base ws s ≡ Value a k → Worded base ws s a k
+later : (base : ℕ) (w : List ℕ) (ws : List (List ℕ)) (s : List ℕ) (f : Field) → WordTells (base + 1) ws s f
+    → WordTells base (w ∷ ws) s f
+later base w ws s Bad r = tt
+later base w ws s (Value a k) r =
+    record { place = suc (r .place); named = omega (arith, r .named); below = omega (arith, r .below); took = r .took }
+
+word-tells : (base : ℕ) (ws : List (List ℕ)) (s : List ℕ) → WordTells base ws s (wordFrom base ws s)
 unfolding wordFrom
-word-among base [] s a k e = never-read e
-word-among base (w ∷ ws) s a k e =
-    by-test (startsWith (w ++ (newline ∷ [])) s)
+word-tells base [] s = tt
+word-tells base (w ∷ ws) s =
+    by-cond (WordTells base (w ∷ ws) s) (startsWith (w ++ (newline ∷ [])) s)
     (λ t.
-        let m : Value base (length w + 1) ≡ Value a k = simp t at e in
-        let ea : base ≡ a = cc in
-        let ek : length w + 1 ≡ k = cc in
-        let size : length (w ++ (newline ∷ [])) ≡ k = length-append w (newline ∷ []) ∙ ek in
-        record
-        { place = 0
-        ; named = omega arith
-        ; below = omega arith
-        ; took = subst (λ (n : ℕ). Took s (w ++ (newline ∷ [])) n) size (starts-took (w ++ (newline ∷ [])) s t)
-        })
-    (λ t.
-        let r = word-among (base + 1) ws s a k (simp t at e) in
-        record { place = suc (r .place); named = omega (arith, r .named); below = omega (arith, r .below); took = r .took })
+    let size = length-append w (newline ∷ []) in
+    let taken = rw size at (starts-took (w ++ (newline ∷ [])) s t) in
+    record { place = 0; named = omega arith; below = omega arith; took = taken })
+    (λ _. later base w ws s (wordFrom (base + 1) ws s) (word-tells (base + 1) ws s))
 
 -- a word that is read was written
 pub word-was : (s : List ℕ) (a k : ℕ) → wordAt s ≡ Value a k → Took s (wordText a) k × (a < length words)
 unfolding wordText
 word-was s a k e =
-    let r = word-among 0 words s a k e in
+    let r = rw e at (word-tells 0 words s) in
     let n : r .place ≡ a = omega (arith, r .named) in
     (subst (λ (i : ℕ). Took s (getD words i [] ++ (newline ∷ [])) k) n (r .took), omega (arith, r .below))
 

@@ -1,22 +1,23 @@
 -- The first three lines, and what a text says by them and by its steps. Assumes nothing.
 use Prim.Native.Nat.{ℕ, _+_, _≤_, _<_}
-use mathlib.Core.Path.{_≡_, refl, sym, _∙_}
+use mathlib.Core.Path.{_≡_, sym, _∙_}
 use mathlib.Core.Logic.{_≢_}
-use mathlib.Core.Bool.{true}
+use mathlib.Core.Bool.{true, not}
 use mathlib.Core.List.{List, _++_, append-assoc}
 use native.Mathlib.Omega.{arith}
+use native.Mathlib.Nat.{add-assoc}
 use lib.Dec.{ltb}
 use lib.ListN.{length, drop, length-append}
-use lib.Seq.{drop-at, drop-drop}
-use borrow.Author.Tests.{ltb-false, le-ltb, eq-eqb, ne-eqb}
+use lib.Seq.{drop-append-seam, drop-drop}
+use borrow.Author.Tests.{ltb-false, le-ltb, eq-eqb, ne-eqb, not-false}
 use Rattle.model.specs.declared.Head.{Head}
 use Rattle.model.specs.declared.Head.the-variants.{Values, Refused}
 use Rattle.model.specs.States.{countStands, limitsStand}
 use Rattle.model.specs.Texts.{valueNames, valuesText, eventNames, headText, textLimit}
 use Rattle.model.specs.Readings.{startsWith, valuesAt, afterValues, headOf, bodyOf, refused, trace, traceOf}
-use Rattle.model.proofs.Tests.{by-test, tests}
-use Rattle.grammar.proofs.Fields.{Took, starts-took, starts-here}
-use Rattle.grammar.proofs.Lines.{took-both, not-values, values-was, values-reads}
+use Rattle.model.proofs.Tests.{by-cond, tests}
+use Rattle.grammar.proofs.Fields.{Took, starts-took}
+use Rattle.grammar.proofs.Lines.{took-both, ValuesTell, values-tell, values-reads}
 
 -- A head that is read was written
 
@@ -26,62 +27,55 @@ pub record HeadTook (text : List ℕ) (n a b c k : ℕ) : Type 0 where
   pub count : countStands n ≡ true
   pub limits : limitsStand a b c ≡ true
 
-module _ (text : List ℕ) (n a b c k : ℕ) (short : length text ≤ textLimit) (named : startsWith valueNames text ≡ true) where
-  values-then : (h : Head) → valuesAt (drop (length valueNames) text) ≡ h → afterValues text h ≡ Values n a b c k → HeadTook text n a b c k
-  unfolding headText
-  values-then (Refused code line) e1 e = not-values e
-  values-then (Values n' a' b' c' i) e1 e =
-      by-test (countStands n')
-      (λ t. by-test (limitsStand a' b' c')
-          (λ u. by-test (startsWith eventNames (drop (length valueNames + i) text))
-              (λ v.
-                  let w : Values n' a' b' c' (14 + i + 16) ≡ Values n a b c k = simp (t, u, v) at e in
-                  let en : n' ≡ n = cc in
-                  let ea : a' ≡ a = cc in
-                  let eb : b' ≡ b = cc in
-                  let ec : c' ≡ c = cc in
-                  let ek : 14 + i + 16 ≡ k = cc in
-                  let sum : 14 + (i + 16) ≡ 14 + i + 16 = omega arith in
-                  let last : Took (drop i (drop 14 text)) eventNames 16 = rw drop-drop (starts-took eventNames (drop (14 + i) text) v) in
-                  let all : Took text (headText n' a' b' c') (14 + (i + 16)) =
-                      took-both (starts-took valueNames text named) (took-both (values-was (drop 14 text) n' a' b' c' i e1) last) in
-                  record
-                  { took = rw (sum, ek, en, ea, eb, ec) at all
-                  ; short = short
-                  ; count = rw en at t
-                  ; limits = rw (ea, eb, ec) at u
-                  })
-              (λ v. not-values (simp (t, u, v) at e)))
-          (λ u. not-values (simp (t, u) at e)))
-      (λ t. not-values (simp t at e))
+-- what a head tells of the text that it was read from; a refusal has a number that is not 0
+abbrev pub HeadTells : List ℕ → Head → Type 0
+HeadTells text (Values n a b c k) = HeadTook text n a b c k
+HeadTells text (Refused code line) = 0 < code
+
+values-then : (text : List ℕ) → length text ≤ textLimit → startsWith valueNames text ≡ true
+    → (h : Head) → ValuesTell (drop (length valueNames) text) h → HeadTells text (afterValues text h)
+unfolding headText
+values-then text short named (Refused code line) told = omega arith
+values-then text short named (Values n a b c i) told =
+    by-cond (HeadTells text) (not (countStands n)) (λ _. omega arith) (λ t.
+    by-cond (HeadTells text) (not (limitsStand a b c)) (λ _. omega arith) (λ u.
+    by-cond (HeadTells text) (not (startsWith eventNames (drop (length valueNames + i) text))) (λ _. omega arith) (λ v.
+    let last : Took (drop i (drop 14 text)) eventNames 16 =
+    rw drop-drop (starts-took eventNames (drop (14 + i) text) (not-false _ v)) in
+    record {
+      took = rw (add-assoc 14 i 16) (took-both (starts-took valueNames text named) (took-both told last));
+      short = short;
+      count = not-false (countStands n) t;
+      limits = not-false (limitsStand a b c) u;
+    })))
+
+pub head-tells : (text : List ℕ) → HeadTells text (headOf text)
+unfolding headOf
+head-tells text =
+    by-cond (HeadTells text) (ltb textLimit (length text)) (λ _. omega arith) (λ t.
+    by-cond (HeadTells text) (not (startsWith valueNames text)) (λ _. omega arith) (λ u.
+    let s = drop (length valueNames) text in
+    values-then text (ltb-false _ _ t) (not-false _ u) (valuesAt s) (values-tell s)))
 
 pub head-was : (text : List ℕ) (n a b c k : ℕ) → headOf text ≡ Values n a b c k → HeadTook text n a b c k
-unfolding headOf
-head-was text n a b c k e =
-    by-test (ltb textLimit (length text))
-    (λ t. not-values (simp t at e))
-    (λ t. by-test (startsWith valueNames text)
-        (λ u. values-then text n a b c k (ltb-false textLimit (length text) t) u (valuesAt (drop (length valueNames) text)) refl (simp (t, u) at e))
-        (λ u. not-values (simp (t, u) at e)))
+head-was text n a b c k e = rw e at (head-tells text)
 
 -- A head that is written is read
 
-pub head-reads : (n a b c : ℕ) (s : List ℕ) → countStands n ≡ true → limitsStand a b c ≡ true → length (headText n a b c ++ s) ≤ textLimit
-    → headOf (headText n a b c ++ s) ≡ Values n a b c (length (headText n a b c))
-unfolding headOf headText
+pub head-reads : (n a b c : ℕ) (s : List ℕ) → countStands n ≡ true → limitsStand a b c ≡ true
+    → length (headText n a b c ++ s) ≤ textLimit → headOf (headText n a b c ++ s) ≡ Values n a b c (length (headText n a b c))
+unfolding headOf headText startsWith
 head-reads n a b c s e f l =
     let m = simp tests at e in
     let r = simp tests at f in
     let v = valuesText n a b c in
     let text : List ℕ = (valueNames ++ (v ++ eventNames)) ++ s in
-    let named : startsWith valueNames text ≡ true = rw (append-assoc valueNames (v ++ eventNames) s) (starts-here valueNames ((v ++ eventNames) ++ s)) in
     let values : valuesAt ((v ++ eventNames) ++ s) ≡ Values n a b c (length v) =
-        rw (append-assoc v eventNames s) (values-reads n a b c (eventNames ++ s) (omega arith) (omega arith) (omega arith) (omega arith)) in
+    rw append-assoc (values-reads n a b c (eventNames ++ s) (omega arith) (omega arith) (omega arith) (omega arith)) in
     let rest : drop (14 + length v) text ≡ eventNames ++ s =
-        sym (drop-drop (length v) 14 text) ∙ rw (append-assoc v eventNames s) (drop-at v (eventNames ++ s) (length v) refl) in
-    let steps : startsWith eventNames (drop (14 + length v) text) ≡ true = rw rest (starts-here eventNames s) in
+    sym (drop-drop (length v) 14 text) ∙ simp (append-assoc, drop-append-seam) in
     let size : 14 + length v + 16 ≡ length (valueNames ++ (v ++ eventNames)) = omega (arith, length-append v eventNames) in
-    rw (le-ltb textLimit (length text) l, named, values, e, f, steps, size)
+    rw (le-ltb textLimit (length text) l, values, e, f, rest, size)
 
 -- What a text says, by its head and its body
 

@@ -4,3 +4,7 @@ pub mod Fields
 pub mod Lines
 pub mod Bodies
 pub mod Heads
+pub mod Exact
+pub mod Fits
+pub mod RoundTrips
+pub mod Wholes

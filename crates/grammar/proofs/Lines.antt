@@ -1,12 +1,12 @@
 -- What is written for a line is read back, and what is read was so written. Assumes nothing.
 use Prim.Native.Nat.{ℕ, _+_, _≤_, _<_}
-use mathlib.Core.Path.{_≡_, refl, sym, ap, _∙_}
+use mathlib.Core.Path.{_≡_, refl, ap, _∙_}
 use mathlib.Core.Bool.{true}
 use mathlib.Core.List.{List, [], _∷_, _++_, append-assoc}
 use native.Mathlib.Omega.{arith}
 use native.Mathlib.Nat.{add-assoc}
 use lib.ListN.{length, drop, length-append}
-use lib.Seq.{drop-at, drop-drop}
+use lib.Seq.{drop-append-seam, drop-drop}
 use Rattle.model.specs.declared.Field.{Field}
 use Rattle.model.specs.declared.Field.the-variants.{Value, Bad}
 use Rattle.model.specs.declared.Row.{Row}
@@ -26,31 +26,23 @@ pub number-length : (v end : ℕ) → length (numberText end v) ≡ length (deci
 unfolding numberText
 number-length v end = length-append (decimal v) (end ∷ [])
 
-pub event-length : (e : Event) → length (eventText e) ≡ length (decimal (e .time)) + 1 + (length (decimal (e .process)) + 1 + length (wordText (e .action)))
+pub event-length : (e : Event)
+    → length (eventText e) ≡ length (decimal (e .time)) + 1 + (length (decimal (e .process)) + 1 + length (wordText (e .action)))
 unfolding eventText
-event-length e =
-    let one = numberText comma (e .time) in
-    let two = numberText comma (e .process) in
-    let three = wordText (e .action) in
-    omega (arith, length-append one (two ++ three), length-append two three, number-length (e .time) comma, number-length (e .process) comma)
+event-length e = simp (length-append, number-length)
 
-pub values-length : (n a b c : ℕ) → length (valuesText n a b c) ≡ length (decimal n) + length (decimal a) + length (decimal b) + length (decimal c) + 4
+pub values-length : (n a b c : ℕ)
+    → length (valuesText n a b c) ≡ length (decimal n) + length (decimal a) + length (decimal b) + length (decimal c) + 4
 unfolding valuesText
-values-length n a b c =
-    let one = numberText comma n in
-    let two = numberText comma a in
-    let three = numberText comma b in
-    let four = numberText newline c in
-    omega (
-      arith, length-append one (two ++ (three ++ four)), length-append two (three ++ four), length-append three four,
-      number-length n comma, number-length a comma, number-length b comma, number-length c newline)
+values-length n a b c = simp (length-append, number-length) (omega arith)
 
 -- a word has three letters or more
 word-length : (a : ℕ) → a < length words → 4 ≤ length (wordText a)
 unfolding wordText
 word-length a h =
     each-word (λ i. 4 ≤ length (wordText i))
-    (omega arith) (omega arith) (omega arith) (omega arith) (omega arith) (omega arith) (omega arith) (omega arith) (omega arith) a h
+    (omega arith) (omega arith) (omega arith) (omega arith) (omega arith) (omega arith) (omega arith) (omega arith) (omega arith)
+    a h
 
 -- a step has a byte
 pub event-some : (e : Event) → 0 < length (eventText e)
@@ -58,7 +50,9 @@ event-some e = omega (arith, event-length e)
 
 -- a step that has a form has eight bytes or more
 pub event-eight : (e : Event) → hasForm e ≡ true → 8 ≤ length (eventText e)
-event-eight e h = let f = simp tests at h in omega (arith, event-length e, some-digit (e .time), some-digit (e .process), word-length (e .action) (f .1))
+event-eight e h =
+    let f = simp tests at h in
+    omega (arith, event-length e, some-digit (e .time), some-digit (e .process), word-length (e .action) (f .1))
 
 -- Fields one after the other
 
@@ -70,9 +64,9 @@ by-opened P (Value v k) bad value = value v k refl
 
 pub took-both : {s x y : List ℕ} {i j : ℕ} → Took s x i → Took (drop i s) y j → Took s (x ++ y) (i + j)
 took-both {s} {x} {y} {i} {j} f g =
-    record
-    { split = f .split ∙ (ap (λ (l : List ℕ). x ++ l) (g .split ∙ ap (λ (l : List ℕ). y ++ l) (drop-drop j i s)) ∙ sym (append-assoc x y (drop (i + j) s)))
-    ; size = omega (arith, length-append x y, f .size, g .size)
+    record {
+      split = rw (append-assoc x y (drop (i + j) s), ← drop-drop j i s) (f .split ∙ ap (λ (l : List ℕ). x ++ l) (g .split));
+      size = omega (arith, length-append x y, f .size, g .size);
     }
 
 -- A step
@@ -81,36 +75,29 @@ pub record EventTook (s : List ℕ) (e : Event) (k : ℕ) : Type 0 where
   pub took : Took s (eventText e) k
   pub formed : hasForm e ≡ true
 
-not-step : {P : Type 0} {code line t p a k : ℕ} → Unread code line ≡ Step t p a k → P
-not-step {code = code} {line = line} {t = t} {p = p} {a = a} {k = k} e = let z : _≡_ {A = ℕ} 0 1 = cc in absurd (omega arith)
+-- what a row tells of the text that it was read from
+abbrev RowTells : List ℕ → Row → Type 0
+RowTells s (Step t p a k) = EventTook s (record { time = t; process = p; action = a }) k
+RowTells s (Unread code line) = Unit
 
-fields-took : (s : List ℕ) (t p a i j k : ℕ) → numberAt timeBound comma s ≡ Value t i → numberAt numberBound comma (drop i s) ≡ Value p j
-    → wordAt (drop j (drop i s)) ≡ Value a k → EventTook s (record { time = t; process = p; action = a }) (i + j + k)
-unfolding eventText
-fields-took s t p a i j k e1 e2 e3 =
+row-tells : (line : ℕ) (s : List ℕ) → RowTells s (eventAt line s)
+unfolding eventAt eventText
+row-tells line s =
+    by-opened (RowTells s) (numberAt timeBound comma s) tt (λ t i e1.
+    by-opened (RowTells s) (numberAt numberBound comma (drop i s)) tt (λ p j e2.
+    by-opened (RowTells s) (wordAt (drop j (drop i s))) tt (λ a k e3.
     let w1 = number-was timeBound comma s t i (omega arith) e1 in
     let w2 = number-was numberBound comma (drop i s) p j (omega arith) e2 in
     let w3 = word-was (drop j (drop i s)) a k e3 in
-    record
-    { took = rw (add-assoc i j k) (took-both (w1 .0) (took-both (w2 .0) (w3 .0)))
-    ; formed = simp tests ((w1 .1, w2 .1), w3 .1)
-    }
+    record {
+      took = rw (add-assoc i j k) (took-both (w1 .0) (took-both (w2 .0) (w3 .0)));
+      formed = simp tests ((w1 .1, w2 .1), w3 .1);
+    })))
 
 -- a step that is read was written
-pub event-was : (line : ℕ) (s : List ℕ) (t p a k : ℕ) → eventAt line s ≡ Step t p a k → EventTook s (record { time = t; process = p; action = a }) k
-unfolding eventAt
-event-was line s t p a k =
-    by-opened Was (numberAt timeBound comma s) not-step (λ u i e1.
-    by-opened Was (numberAt numberBound comma (drop i s)) not-step (λ q j e2.
-    by-opened Was (wordAt (drop j (drop i s))) not-step (λ b h e3 e.
-    let et : u ≡ t = cc in
-    let ep : q ≡ p = cc in
-    let ea : b ≡ a = cc in
-    let ek : i + j + h ≡ k = cc in
-    rw (et, ep, ea, ek) at (fields-took s u q b i j h e1 e2 e3))))
-  where
-    Was : Row → Type 0
-    Was r = r ≡ Step t p a k → EventTook s (record { time = t; process = p; action = a }) k
+pub event-was : (line : ℕ) (s : List ℕ) (t p a k : ℕ) → eventAt line s ≡ Step t p a k
+    → EventTook s (record { time = t; process = p; action = a }) k
+event-was line s t p a k e = rw e at (row-tells line s)
 
 -- a step that is written is read
 pub event-reads : (line : ℕ) (e : Event) (s : List ℕ) → hasForm e ≡ true
@@ -118,68 +105,54 @@ pub event-reads : (line : ℕ) (e : Event) (s : List ℕ) → hasForm e ≡ true
 unfolding eventAt eventText
 event-reads line e s h =
     let f = simp tests at h in
-    let one = numberText comma (e .time) in
-    let two = numberText comma (e .process) in
-    let three = wordText (e .action) in
-    let e1 = number-reads timeBound comma (omega arith) (e .time) (two ++ (three ++ s)) (f .0 .0) in
-    let e2 = number-reads numberBound comma (omega arith) (e .process) (three ++ s) (f .0 .1) in
-    let e3 = word-reads (e .action) s (f .1) in
-    let d1 = drop-at one (two ++ (three ++ s)) (length one) refl in
-    let d2 = drop-at two (three ++ s) (length two) refl in
-    let size : length one + length two + length three ≡ length (one ++ (two ++ three)) = omega (arith, length-append one (two ++ three), length-append two three) in
-    rw (append-assoc one (two ++ three) s, append-assoc two three s) (rw (e1, d1, e2, d2, e3) (rw size))
+    let t : e .time < timeBound = f .0 .0 in
+    let p : e .process < numberBound = f .0 .1 in
+    let a : e .action < length words = f .1 in
+    simp (
+      append-assoc,
+      number-reads timeBound comma (omega arith),
+      number-reads numberBound comma (omega arith),
+      word-reads,
+      drop-append-seam,
+      length-append,
+      add-assoc,
+    )
 
 -- The values
 
-pub not-values : {P : Type 0} {code line n a b c k : ℕ} → Refused code line ≡ Values n a b c k → P
-not-values {code = code} {line = line} {n = n} {a = a} {b = b} {c = c} {k = k} e = let z : _≡_ {A = ℕ} 0 1 = cc in absurd (omega arith)
+-- what a reading of values tells of the text that they were read from
+abbrev pub ValuesTell : List ℕ → Head → Type 0
+ValuesTell s (Values n a b c k) = Took s (valuesText n a b c) k
+ValuesTell s (Refused code line) = Unit
 
-numbers-took : (s : List ℕ) (n a b c i j k l : ℕ) → numberAt numberBound comma s ≡ Value n i → numberAt numberBound comma (drop i s) ≡ Value a j
-    → numberAt numberBound comma (drop j (drop i s)) ≡ Value b k → numberAt numberBound newline (drop k (drop j (drop i s))) ≡ Value c l
-    → Took s (valuesText n a b c) (i + j + k + l)
-unfolding valuesText
-numbers-took s n a b c i j k l e1 e2 e3 e4 =
-    let sum : i + j + k + l ≡ i + (j + (k + l)) = omega arith in
+pub values-tell : (s : List ℕ) → ValuesTell s (valuesAt s)
+unfolding valuesAt valuesText
+values-tell s =
+    by-opened (ValuesTell s) (numberAt numberBound comma s) tt (λ n i e1.
+    by-opened (ValuesTell s) (numberAt numberBound comma (drop i s)) tt (λ a j e2.
+    by-opened (ValuesTell s) (numberAt numberBound comma (drop j (drop i s))) tt (λ b k e3.
+    by-opened (ValuesTell s) (numberAt numberBound newline (drop k (drop j (drop i s)))) tt (λ c l e4.
     let w1 = number-was numberBound comma s n i (omega arith) e1 in
     let w2 = number-was numberBound comma (drop i s) a j (omega arith) e2 in
     let w3 = number-was numberBound comma (drop j (drop i s)) b k (omega arith) e3 in
     let w4 = number-was numberBound newline (drop k (drop j (drop i s))) c l (omega arith) e4 in
-    rw sum (took-both (w1 .0) (took-both (w2 .0) (took-both (w3 .0) (w4 .0))))
+    let sum : i + j + k + l ≡ i + (j + (k + l)) = omega arith in
+    rw sum (took-both (w1 .0) (took-both (w2 .0) (took-both (w3 .0) (w4 .0))))))))
 
 -- values that are read were written
 pub values-was : (s : List ℕ) (n a b c k : ℕ) → valuesAt s ≡ Values n a b c k → Took s (valuesText n a b c) k
-unfolding valuesAt
-values-was s n a b c k =
-    by-opened Was (numberAt numberBound comma s) not-values (λ n' i e1.
-    by-opened Was (numberAt numberBound comma (drop i s)) not-values (λ a' j e2.
-    by-opened Was (numberAt numberBound comma (drop j (drop i s))) not-values (λ b' h e3.
-    by-opened Was (numberAt numberBound newline (drop h (drop j (drop i s)))) not-values (λ c' l e4 e.
-    let en : n' ≡ n = cc in
-    let ea : a' ≡ a = cc in
-    let eb : b' ≡ b = cc in
-    let ec : c' ≡ c = cc in
-    let ek : i + j + h + l ≡ k = cc in
-    rw (en, ea, eb, ec, ek) at (numbers-took s n' a' b' c' i j h l e1 e2 e3 e4)))))
-  where
-    Was : Head → Type 0
-    Was r = r ≡ Values n a b c k → Took s (valuesText n a b c) k
+values-was s n a b c k e = rw e at (values-tell s)
 
 -- values that are written are read
 pub values-reads : (n a b c : ℕ) (s : List ℕ) → n < numberBound → a < numberBound → b < numberBound → c < numberBound
     → valuesAt (valuesText n a b c ++ s) ≡ Values n a b c (length (valuesText n a b c))
 unfolding valuesAt valuesText
 values-reads n a b c s hn ha hb hc =
-    let one = numberText comma n in
-    let two = numberText comma a in
-    let three = numberText comma b in
-    let four = numberText newline c in
-    let e1 = number-reads numberBound comma (omega arith) n (two ++ (three ++ (four ++ s))) hn in
-    let e2 = number-reads numberBound comma (omega arith) a (three ++ (four ++ s)) ha in
-    let e3 = number-reads numberBound comma (omega arith) b (four ++ s) hb in
-    let e4 = number-reads numberBound newline (omega arith) c s hc in
-    let d1 = drop-at one (two ++ (three ++ (four ++ s))) (length one) refl in
-    let d2 = drop-at two (three ++ (four ++ s)) (length two) refl in
-    let d3 = drop-at three (four ++ s) (length three) refl in
-    let size : length one + length two + length three + length four ≡ length (one ++ (two ++ (three ++ four))) =
-        omega (arith, length-append one (two ++ (three ++ four)), length-append two (three ++ four), length-append three four) in
-    rw (append-assoc one (two ++ (three ++ four)) s, append-assoc two (three ++ four) s, append-assoc three four s) (rw (e1, d1, e2, d2, e3, d3, e4) (rw size))
+    simp (
+      append-assoc,
+      number-reads numberBound comma (omega arith),
+      number-reads numberBound newline (omega arith),
+      drop-append-seam,
+      length-append,
+      add-assoc,
+    )

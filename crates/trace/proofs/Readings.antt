@@ -1,14 +1,12 @@
 -- What a reading gives back, by what the passes over its text found: one law for each way out of `read`. Assumes nothing.
 use Prim.Native.Nat.{ℕ, _≤_, _<_, min}
-use mathlib.Core.Path.{_≡_, sym, ap, _∙_}
-use mathlib.Core.Bool.{true, false}
+use mathlib.Core.Path.{_≡_}
 use mathlib.Core.List.{List}
 use native.Mathlib.Omega.{arith}
-use lib.Dec.{ltb, eqb}
 use lib.ListN.{length, drop}
 use borrow.Author.Tests.{lt-ltb, le-ltb, eq-eqb, ne-eqb}
 use Rattle.model.specs.declared.Head.the-variants.{Values, Refused}
-use Rattle.model.specs.Readings.{Body, bodyOf, headOf, traceOf, Lists, room, stored, readingOf, unread, readOf}
+use Rattle.model.specs.Readings.{Body, bodyOf, headOf, Lists, room, stored, readingOf, unread, readOf}
 use Rattle.model.proofs.Tests.{if-eq}
 use Rattle.trace.specs.declared.steps.Tally.the-variants.{Steps, Fault}
 use Rattle.trace.specs.Passes.{tallyOf}

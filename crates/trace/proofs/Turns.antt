@@ -5,6 +5,7 @@ use mathlib.Core.Bool.{true, false, cond, _&&_, _||_}
 use mathlib.Core.List.{List, [], _∷_, _++_}
 use lib.Dec.{leb, ltb, eqb}
 use lib.ListN.{length, getD, drop}
+use Rattle.model.specs.declared.Field.{Field}
 use Rattle.model.specs.declared.Field.the-variants.{Value, Bad}
 use Rattle.model.specs.Texts.{newline}
 use Rattle.model.specs.Readings.{startsWith, numberFrom, wordFrom}
@@ -19,15 +20,19 @@ module _ (w s : List ℕ) (i : ℕ) (hw : i < length w) where
   unfolding startsWith
   starts-at hs = rw (drop-at w i 0 hw, drop-at s i 0 hs)
 
-module _ (bound end v k : ℕ) (s : List ℕ) (i : ℕ) (h : i < length s) where
-  pub number-at : numberFrom bound end v k (drop i s)
-      ≡ cond (eqb (getD s i 0) end) (cond (eqb k 0) Bad (Value v (k + 1)))
-        (cond (ltb (getD s i 0) 48 || ltb 57 (getD s i 0)) Bad
-        (cond (eqb v 0 && ltb 0 k) Bad
-        (cond (leb bound (v * 10 + (getD s i 0 - 48))) Bad
-        (numberFrom bound end (v * 10 + (getD s i 0 - 48)) (k + 1) (drop (i + 1) s)))))
-  unfolding numberFrom
-  number-at = rw (drop-at s i 0 h)
+-- a number at the byte x, of which k digits made v
+abbrev pub numberTurn : ℕ → ℕ → ℕ → ℕ → ℕ → List ℕ → Field
+numberTurn bound end v k x rest =
+    cond (eqb x end) (cond (eqb k 0) Bad (Value v (k + 1)))
+    (cond (ltb x 48 || ltb 57 x) Bad
+    (cond (eqb v 0 && ltb 0 k) Bad
+    (cond (leb bound (v * 10 + (x - 48))) Bad
+    (numberFrom bound end (v * 10 + (x - 48)) (k + 1) rest))))
+
+pub number-at : (bound end v k : ℕ) (s : List ℕ) (i : ℕ) → i < length s
+    → numberFrom bound end v k (drop i s) ≡ numberTurn bound end v k (getD s i 0) (drop (i + 1) s)
+unfolding numberFrom
+number-at bound end v k s i h = rw (drop-at s i 0 h)
 
 -- one word more is tried
 module _ (base : ℕ) (w : List ℕ) (ws : List (List ℕ)) (s : List ℕ) where

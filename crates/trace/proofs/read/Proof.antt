@@ -1,11 +1,11 @@
-use Prim.Native.Nat.{ℕ, _+_, _-_, _≤_, _<_}
-use mathlib.Core.Path.{_≡_, sym, ap, _∙_}
+use Prim.Native.Nat.{ℕ, _≤_}
+use mathlib.Core.Path.{_≡_, sym, _∙_}
 use mathlib.Core.List.{List}
 use native.Mathlib.Omega.{arith}
-use lib.ListN.{length, take, drop, length-drop}
-use Rattle.model.specs.declared.Head.the-variants.{Values, Refused}
+use lib.ListN.{length, drop, length-drop}
+use Rattle.model.specs.declared.Head.the-variants.{Values}
 use Rattle.model.specs.Readings.{headOf, bodyOf, Lists, lists, room}
-use Rattle.trace.specs.declared.steps.Tally.the-variants.{Steps, Fault}
+use Rattle.trace.specs.declared.steps.Tally.the-variants.{Steps}
 use Rattle.trace.specs.Passes.{tallyOf}
 use Rattle.grammar.proofs.Lists.{part-is}
 use Rattle.grammar.proofs.Fields.{took-le}

@@ -1,13 +1,15 @@
 use borrow.Author.Needs.{needs}
-use Prim.Native.Nat.{ℕ, _+_, _-_, _*_, _≤_, _<_}
-use mathlib.Core.Path.{_≡_, refl, sym, ap, _∙_}
-use mathlib.Core.Bool.{Bool, true, false, cond, _&&_}
+use Prim.Native.Nat.{_+_, _-_, _*_, _≤_, _<_}
+use mathlib.Core.Path.{_≡_, refl, sym, _∙_}
+use mathlib.Core.Bool.{cond}
 use native.Mathlib.Omega.{arith}
 use borrow.Author.Tests.{eq-eqb, ne-eqb, lt-ltb, le-ltb, le-leb, lt-leb}
+use lib.Dec.{leb}
 use lib.ListN.{length, getD, drop}
+use Rattle.model.specs.declared.Field.the-variants.{Bad}
 use Rattle.model.specs.Readings.{numberFrom, numberAt}
 use Rattle.grammar.proofs.Lists.{drop-end}
-use Rattle.trace.proofs.Turns.{number-at}
+use Rattle.trace.proofs.Turns.{numberTurn, number-at}
 use Rattle.trace.proofs.fields.number_at.Statement.{statement}
 use Rattle.trace.proofs.fields.number_at.Tie as tie
 use Rattle.trace.proofs.fields.number_at.Reads as reads
@@ -21,6 +23,30 @@ Inv-loop s bound end v₀ i₀ v i = (i ≤ length s) × (v < 10000000000000) ×
 abbrev μ-loop : tie.MeasureT-loop
 μ-loop s bound end v₀ i₀ v i = length s - i
 
+-- what is left of the number at the byte that was read
+turn : (c : tie.After-shared-slice-known2 Inv-loop μ-loop)
+    → (let v = c .before .before .loop in
+      let a = c .before .before .before .before .args in
+      numberTurn (a .bound) (a .end) (v .v) (v .i) (getD (a .s .now) (v .i) 0) (drop (v .i + 1) (a .s .now)) ≡ numberAt (a .bound) (a .end) (a .s .now))
+turn c =
+    let v = c .before .before .loop in
+    let a = c .before .before .before .before .args in
+    sym (number-at (a .bound) (a .end) (v .v) (v .i) (a .s .now) (v .i) (omega arith)) ∙ v .inv .2
+
+-- where the byte is a digit that may stand there
+abbrev digit : tie.Else5 Inv-loop μ-loop → tie.After-shared-slice-known2 Inv-loop μ-loop
+digit c = c .before .before .before .before .before
+
+digit-turn : (c : tie.Else5 Inv-loop μ-loop)
+    → (let v = c .before .before .before .before .before .before .before .loop in
+      let a = c .before .before .before .before .before .before .before .before .before .args in
+      cond (leb (a .bound) (v .v * 10 + (getD (a .s .now) (v .i) 0 - 48))) Bad
+      (numberFrom (a .bound) (a .end) (v .v * 10 + (getD (a .s .now) (v .i) 0 - 48)) (v .i + 1) (drop (v .i + 1) (a .s .now)))
+      ≡ numberAt (a .bound) (a .end) (a .s .now))
+digit-turn c =
+    simp (ne-eqb _ _ (c .before .before .before .before .if1 .left), le-ltb _ _ (c .before .before .before .if3 .left), le-ltb _ _ (c .before .before .if4 .left), sym (c .before .has-leading-zero .ensures) ∙ c .if5 .left) at
+    (turn (digit c))
+
 -- src/fields.rt:89:5
 loop-holds : tie.Need-loop-holds Inv-loop μ-loop
 loop-holds c = (omega arith, omega arith, refl)
@@ -31,11 +57,7 @@ shared-slice-read-x c = search needs
 
 -- src/fields.rt:93:17
 returns : tie.Need-returns Inv-loop μ-loop
-returns c =
-    let v = c .before .before .before .before .loop in
-    let a = c .before .before .before .before .before .before .args in
-    simp (eq-eqb _ _ (c .before .if1 .taken), eq-eqb _ _ (c .if2 .taken)) at
-    (sym (number-at (a .bound) (a .end) (v .v) (v .i) (a .s .now) (v .i) (omega arith))) ∙ v .inv .2
+returns c = simp (eq-eqb _ _ (c .before .if1 .taken), eq-eqb _ _ (c .if2 .taken)) at (turn (c .before .before))
 
 -- src/fields.rt:95:36
 add-t13 : tie.Need-add-t13 Inv-loop μ-loop
@@ -43,27 +65,16 @@ add-t13 c = search needs
 
 -- src/fields.rt:95:13
 returns-2 : tie.Need-returns-2 Inv-loop μ-loop
-returns-2 c =
-    let v = c .before .before .before .before .loop in
-    let a = c .before .before .before .before .before .before .args in
-    simp (eq-eqb _ _ (c .before .if1 .taken), ne-eqb _ _ (c .if2 .left)) at
-    (sym (number-at (a .bound) (a .end) (v .v) (v .i) (a .s .now) (v .i) (omega arith))) ∙ v .inv .2
+returns-2 c = simp (eq-eqb _ _ (c .before .if1 .taken), ne-eqb _ _ (c .if2 .left)) at (turn (c .before .before))
 
 -- src/fields.rt:98:13
 returns-3 : tie.Need-returns-3 Inv-loop μ-loop
-returns-3 c =
-    let v = c .before .before .before .before .loop in
-    let a = c .before .before .before .before .before .before .args in
-    simp (ne-eqb _ _ (c .before .if1 .left), lt-ltb _ _ (c .if3 .taken)) at
-    (sym (number-at (a .bound) (a .end) (v .v) (v .i) (a .s .now) (v .i) (omega arith))) ∙ v .inv .2
+returns-3 c = simp (ne-eqb _ _ (c .before .if1 .left), lt-ltb _ _ (c .if3 .taken)) at (turn (c .before .before))
 
 -- src/fields.rt:101:13
 returns-4 : tie.Need-returns-4 Inv-loop μ-loop
-returns-4 c =
-    let v = c .before .before .before .before .before .loop in
-    let a = c .before .before .before .before .before .before .before .args in
-    simp (ne-eqb _ _ (c .before .before .if1 .left), le-ltb _ _ (c .before .if3 .left), lt-ltb _ _ (c .if4 .taken)) at
-    (sym (number-at (a .bound) (a .end) (v .v) (v .i) (a .s .now) (v .i) (omega arith))) ∙ v .inv .2
+returns-4 c = 
+    simp (ne-eqb _ _ (c .before .before .if1 .left), le-ltb _ _ (c .before .if3 .left), lt-ltb _ _ (c .if4 .taken)) at (turn (c .before .before .before))
 
 -- src/fields.rt:103:12
 has-leading-zero-requires : tie.Need-has-leading-zero-requires Inv-loop μ-loop
@@ -71,12 +82,9 @@ has-leading-zero-requires c κs = search needs
 
 -- src/fields.rt:104:13
 returns-5 : tie.Need-returns-5 Inv-loop μ-loop
-returns-5 c =
-    let v = c .before .before .before .before .before .before .before .loop in
-    let a = c .before .before .before .before .before .before .before .before .before .args in
-    simp (ne-eqb _ _ (c .before .before .before .before .if1 .left), le-ltb _ _ (c .before .before .before .if3 .left), le-ltb _ _ (c .before .before .if4 .left),
-      sym (c .before .has-leading-zero .ensures) ∙ c .if5 .taken) at
-    (sym (number-at (a .bound) (a .end) (v .v) (v .i) (a .s .now) (v .i) (omega arith))) ∙ v .inv .2
+returns-5 c = 
+    simp (ne-eqb _ _ (c .before .before .before .before .if1 .left), le-ltb _ _ (c .before .before .before .if3 .left), le-ltb _ _ (c .before .before .if4 .left), sym (c .before .has-leading-zero .ensures) ∙ c .if5 .taken) at
+    (turn (c .before .before .before .before .before))
 
 -- src/fields.rt:106:20
 mul-next : tie.Need-mul-next Inv-loop μ-loop
@@ -92,13 +100,7 @@ add-next c = search needs
 
 -- src/fields.rt:108:13
 returns-6 : tie.Need-returns-6 Inv-loop μ-loop
-returns-6 c =
-    let v = c .before .before .before .before .before .before .before .before .before .loop in
-    let a = c .before .before .before .before .before .before .before .before .before .before .before .args in
-    simp (ne-eqb _ _ (c .before .before .before .before .before .before .if1 .left), le-ltb _ _ (c .before .before .before .before .before .if3 .left), le-ltb _ _ (c .before .before .before .before .if4 .left),
-      sym (c .before .before .before .has-leading-zero .ensures) ∙ c .before .before .if5 .left,
-      le-leb (a .bound) (v .v * 10 + (getD (a .s .now) (v .i) 0 - 48)) (omega (arith, c .before .wide .ensures))) at
-    (sym (number-at (a .bound) (a .end) (v .v) (v .i) (a .s .now) (v .i) (omega arith))) ∙ v .inv .2
+returns-6 c = simp (le-leb _ _ (rw (c .before .wide .ensures) at (c .if6 .taken))) at (digit-turn (c .before .before))
 
 -- src/fields.rt:111:9
 add-i : tie.Need-add-i Inv-loop μ-loop
@@ -110,15 +112,8 @@ loop-less c = search needs
 
 -- src/fields.rt:89:5
 loop-again : tie.Need-loop-again Inv-loop μ-loop
-loop-again c =
-    let v = c .before .before .before .before .before .before .before .before .before .loop in
-    let a = c .before .before .before .before .before .before .before .before .before .before .before .args in
-    (omega arith, omega arith,
-    rw (c .before .wide .ensures)
-    (simp (ne-eqb _ _ (c .before .before .before .before .before .before .if1 .left), le-ltb _ _ (c .before .before .before .before .before .if3 .left), le-ltb _ _ (c .before .before .before .before .if4 .left),
-      sym (c .before .before .before .has-leading-zero .ensures) ∙ c .before .before .if5 .left,
-      lt-leb (a .bound) (v .v * 10 + (getD (a .s .now) (v .i) 0 - 48)) (omega (arith, c .before .wide .ensures))) at
-    (sym (number-at (a .bound) (a .end) (v .v) (v .i) (a .s .now) (v .i) (omega arith))) ∙ v .inv .2))
+loop-again c = 
+    (omega arith, omega arith, rw (c .before .wide .ensures) (simp (lt-leb _ _ (rw (c .before .wide .ensures) at (c .if6 .left))) at (digit-turn (c .before .before))))
 
 -- src/fields.rt:83:1
 returns-7 : tie.Need-returns-7 Inv-loop μ-loop

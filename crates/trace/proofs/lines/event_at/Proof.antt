@@ -1,10 +1,10 @@
-use Prim.Native.Nat.{ℕ, _+_, _-_, _≤_, _<_}
-use mathlib.Core.Path.{_≡_, refl, sym, ap, _∙_}
+use Prim.Native.Nat.{ℕ, _+_, _≤_}
+use mathlib.Core.Path.{_≡_, sym, _∙_}
 use mathlib.Core.List.{List}
 use native.Mathlib.Omega.{arith}
-use lib.ListN.{length, take, drop, length-take, length-drop}
-use Rattle.model.specs.declared.Field.the-variants.{Value, Bad}
-use Rattle.model.specs.Texts.{timeBound, numberBound}
+use lib.ListN.{length, drop, length-drop}
+use Rattle.model.specs.declared.Field.the-variants.{Value}
+use Rattle.model.specs.Texts.{comma, timeBound, numberBound}
 use Rattle.model.specs.Readings.{numberAt, wordAt}
 use Rattle.model.specs.Readings.{eventAt}
 use Rattle.grammar.proofs.Lists.{part-is}
@@ -17,36 +17,66 @@ use Rattle.trace.proofs.lines.event_at.Lts as lts
 use Rattle.trace.proofs.fields.number_at.Reads as number-at-reads
 use Rattle.trace.proofs.fields.word_at.Reads as word-at-reads
 
--- what the fields that were read say
-time-read : (c : tie.After-known-told) → numberAt timeBound 44 (c .before .before .before .before .before .args .s .now) ≡ Value (c .before .first .given .0 .0) (c .before .first .given .0 .1 .0)
-time-read c = sym (c .before .before .before .number-at .ensures) ∙ c .before .first .given .1
+-- Where a field is known: the text that it was read from, its value, and how many bytes it takes; that it was read so, and
+-- that it lies within that text
 
-time-fits : (c : tie.After-known-told) → c .before .first .given .0 .1 .0 ≤ length (c .before .before .before .before .before .args .s .now)
-time-fits c = took-le (number-was timeBound 44 _ _ _ (omega arith) (time-read c) .0)
+abbrev s1 : tie.After-known-told → List ℕ
+s1 c = c .before .before .before .before .before .args .s .now
 
-abbrev after-time : tie.After-known-told2 → List ℕ
-after-time c = let s = c .before .before .before .before .before .before .before .before .before .before .args .s .now in let i = c .before .before .before .before .before .before .first .given .0 .1 .0 in take (length s - i) (drop i s)
+abbrev v1 : tie.After-known-told → ℕ
+v1 c = c .before .first .given .0 .0
 
-process-part : (c : tie.After-known-told2) → numberAt numberBound 44 (after-time c) ≡ Value (c .before .second .given .0 .0) (c .before .second .given .0 .1 .0)
-process-part c = sym (c .before .before .before .number-at2 .ensures) ∙ c .before .second .given .1
+abbrev k1 : tie.After-known-told → ℕ
+k1 c = c .before .first .given .0 .1 .0
 
-process-fits : (c : tie.After-known-told2) → c .before .second .given .0 .1 .0 ≤ length (after-time c)
-process-fits c = took-le (number-was numberBound 44 _ _ _ (omega arith) (process-part c) .0)
+read1 : (c : tie.After-known-told) → numberAt timeBound comma (s1 c) ≡ Value (v1 c) (k1 c)
+read1 c = sym (c .before .before .before .number-at .ensures) ∙ c .before .first .given .1
 
-process-read : (c : tie.After-known-told2) → numberAt numberBound 44 (drop (c .before .before .before .before .before .before .first .given .0 .1 .0) (c .before .before .before .before .before .before .before .before .before .before .args .s .now)) ≡ Value (c .before .second .given .0 .0) (c .before .second .given .0 .1 .0)
-process-read c = rw part-is at (process-part c)
+fits1 : (c : tie.After-known-told) → k1 c ≤ length (s1 c)
+fits1 c = took-le (number-was timeBound comma _ _ _ (omega arith) (read1 c) .0)
 
-abbrev after-process : tie.After-known-told3 → List ℕ
-after-process c = let s = after-time (c .before .before .before .before .before) in let j = c .before .before .before .before .before .before .second .given .0 .1 .0 in take (length s - j) (drop j s)
+abbrev to1 : tie.After-known-told2 → tie.After-known-told
+to1 c = c .before .before .before .before .before
 
-action-part : (c : tie.After-known-told3) → wordAt (after-process c) ≡ Value (c .before .third .given .0 .0) (c .before .third .given .0 .1 .0)
-action-part c = sym (c .before .before .before .word-at .ensures) ∙ c .before .third .given .1
+abbrev s2 : tie.After-known-told2 → List ℕ
+s2 c = drop (k1 (to1 c)) (s1 (to1 c))
 
-action-fits : (c : tie.After-known-told3) → c .before .third .given .0 .1 .0 ≤ length (after-process c)
-action-fits c = took-le (word-was _ _ _ (action-part c) .0)
+abbrev v2 : tie.After-known-told2 → ℕ
+v2 c = c .before .second .given .0 .0
 
-action-read : (c : tie.After-known-told3) → wordAt (drop (c .before .before .before .before .before .before .second .given .0 .1 .0) (drop (c .before .before .before .before .before .before .before .before .before .before .before .first .given .0 .1 .0) (c .before .before .before .before .before .before .before .before .before .before .before .before .before .before .before .args .s .now))) ≡ Value (c .before .third .given .0 .0) (c .before .third .given .0 .1 .0)
-action-read c = rw (part-is, part-is) at (action-part c)
+abbrev k2 : tie.After-known-told2 → ℕ
+k2 c = c .before .second .given .0 .1 .0
+
+read2 : (c : tie.After-known-told2) → numberAt numberBound comma (s2 c) ≡ Value (v2 c) (k2 c)
+read2 c = rw part-is at (sym (c .before .before .before .number-at2 .ensures) ∙ c .before .second .given .1)
+
+fits2 : (c : tie.After-known-told2) → k2 c ≤ length (s2 c)
+fits2 c = took-le (number-was numberBound comma _ _ _ (omega arith) (read2 c) .0)
+
+abbrev to2 : tie.After-known-told3 → tie.After-known-told2
+to2 c = c .before .before .before .before .before
+
+abbrev s3 : tie.After-known-told3 → List ℕ
+s3 c = drop (k2 (to2 c)) (s2 (to2 c))
+
+abbrev v3 : tie.After-known-told3 → ℕ
+v3 c = c .before .third .given .0 .0
+
+abbrev k3 : tie.After-known-told3 → ℕ
+k3 c = c .before .third .given .0 .1 .0
+
+read3 : (c : tie.After-known-told3) → wordAt (s3 c) ≡ Value (v3 c) (k3 c)
+read3 c = rw (part-is, part-is) at (sym (c .before .before .before .word-at .ensures) ∙ c .before .third .given .1)
+
+fits3 : (c : tie.After-known-told3) → k3 c ≤ length (s3 c)
+fits3 c = took-le (word-was _ _ _ (read3 c) .0)
+
+-- the three fields lie within the text
+within : (c : tie.After-known-told3) → k1 (to1 (to2 c)) + k2 (to2 c) + k3 c ≤ length (s1 (to1 (to2 c)))
+within c =
+    omega
+    (arith, length-drop (k1 (to1 (to2 c))) (s1 (to1 (to2 c))), length-drop (k2 (to2 c)) (s2 (to2 c)),
+    fits1 (to1 (to2 c)), fits2 (to2 c), fits3 c)
 
 -- src/lines.rt:154:9
 number-at-requires : tie.Need-number-at-requires
@@ -67,11 +97,11 @@ returns c = rw (sym (c .before .before .number-at .ensures) ∙ c .enum-told .gi
 
 -- src/lines.rt:158:22
 sub-after-time : tie.Need-sub-after-time
-sub-after-time c = time-fits c
+sub-after-time c = fits1 c
 
 -- src/lines.rt:158:22
 part-after-time-start : tie.Need-part-after-time-start
-part-after-time-start c = time-fits c
+part-after-time-start c = fits1 c
 
 -- src/lines.rt:158:22
 part-after-time-end : tie.Need-part-after-time-end
@@ -92,15 +122,15 @@ enum-told-2 c = search needs
 -- src/lines.rt:161:9
 returns-2 : tie.Need-returns-2
 unfolding eventAt
-returns-2 c = rw (time-read (c .before .before .before .before), rw part-is at (sym (c .before .before .number-at2 .ensures) ∙ c .enum-told2 .given .1))
+returns-2 c = let k = c .before .before .before .before in rw (read1 k, rw part-is at (sym (c .before .before .number-at2 .ensures) ∙ c .enum-told2 .given .1))
 
 -- src/lines.rt:163:22
 sub-word-at : tie.Need-sub-word-at
-sub-word-at c = process-fits c
+sub-word-at c = rw part-is (fits2 c)
 
 -- src/lines.rt:163:22
 part-word-at-start : tie.Need-part-word-at-start
-part-word-at-start c = process-fits c
+part-word-at-start c = rw part-is (fits2 c)
 
 -- src/lines.rt:163:22
 part-word-at-end : tie.Need-part-word-at-end
@@ -121,20 +151,20 @@ enum-told-3 c = search needs
 -- src/lines.rt:165:9
 returns-3 : tie.Need-returns-3
 unfolding eventAt
-returns-3 c = rw (time-read (c .before .before .before .before .before .before .before .before .before), process-read (c .before .before .before .before), rw (part-is, part-is) at (sym (c .before .before .word-at .ensures) ∙ c .enum-told3 .given .1))
+returns-3 c = let k = c .before .before .before .before in rw (read1 (to1 k), read2 k, rw (part-is, part-is) at (sym (c .before .before .word-at .ensures) ∙ c .enum-told3 .given .1))
 
 -- src/lines.rt:167:24
 add-t14 : tie.Need-add-t14
-add-t14 c = omega (arith, time-fits (c .before .before .before .before .before .before .before .before .before .before), simp (length-take, length-drop) at (process-fits (c .before .before .before .before .before)))
+add-t14 c = omega (arith, within c)
 
 -- src/lines.rt:167:24
 add-t19 : tie.Need-add-t19
-add-t19 c = omega (arith, time-fits (c .before .before .before .before .before .before .before .before .before .before), simp (length-take, length-drop) at (process-fits (c .before .before .before .before .before)), simp (length-take, length-drop) at (action-fits c))
+add-t19 c = omega (arith, within c)
 
 -- src/lines.rt:151:1
 returns-4 : tie.Need-returns-4
 unfolding eventAt
-returns-4 c = rw (time-read (c .before .before .before .before .before .before .before .before .before .before), process-read (c .before .before .before .before .before), action-read c)
+returns-4 c = rw (read1 (to1 (to2 c)), read2 (to2 c), read3 c)
 
 pub event-at-spec : {M : Type 1} → statement M
 event-at-spec =

@@ -1,17 +1,18 @@
-use Prim.Native.Nat.{ℕ, _+_, _-_, _≤_, _<_}
-use mathlib.Core.Path.{_≡_, refl, sym, ap, _∙_}
-use mathlib.Core.Bool.{true, false, not}
+use Prim.Native.Nat.{ℕ, _+_, _≤_}
+use mathlib.Core.Path.{_≡_, sym, ap, _∙_}
+use mathlib.Core.Bool.{true}
+use mathlib.Core.List.{List}
 use native.Mathlib.Omega.{arith}
 use borrow.Author.Tests.{lt-ltb, le-ltb, not-true, not-false}
-use lib.Dec.{ltb}
-use lib.ListN.{length, take, drop}
-use Rattle.model.specs.declared.Head.the-variants.{Values, Refused}
-use Rattle.model.specs.Readings.{startsWith}
+use lib.ListN.{length, drop, length-drop}
+use Rattle.model.specs.declared.Head.{Head}
+use Rattle.model.specs.declared.Head.the-variants.{Values}
+use Rattle.model.specs.Readings.{startsWith, afterValues}
 use Rattle.model.specs.States.{countStands, limitsStand}
-use Rattle.model.specs.Texts.{valueNames, eventNames}
+use Rattle.model.specs.Texts.{valueNames}
 use Rattle.model.specs.Readings.{valuesAt}
 use Rattle.model.specs.Readings.{headOf}
-use Rattle.grammar.proofs.Lists.{part-is, part-within}
+use Rattle.grammar.proofs.Lists.{part-is}
 use Rattle.grammar.proofs.Fields.{took-le, starts-took}
 use Rattle.grammar.proofs.Lines.{values-was}
 use borrow.Author.Needs.{needs}
@@ -24,20 +25,46 @@ use Rattle.fischer.proofs.limits.limits_stand.Reads as limits-stand-reads
 use Rattle.trace.proofs.fields.starts_with.Reads as starts-with-reads
 use Rattle.trace.proofs.lines.values_at.Reads as values-at-reads
 
-short : (c : tie.Else1) → ltb 65536 (length (c .before .before .args .text .now)) ≡ false
-short c = le-ltb _ _ (c .if1 .left)
+-- What is left of the head past its first line, and past line 2
 
-named : (c : tie.Else2) → startsWith valueNames (c .before .before .before .before .before .args .text .now) ≡ true
+abbrev text2 : tie.Else2 → List ℕ
+text2 c = c .before .before .before .before .before .args .text .now
+
+named : (c : tie.Else2) → startsWith valueNames (text2 c) ≡ true
 named c = sym (c .before .starts-with .ensures) ∙ not-false _ (c .if2 .left)
 
-after-names : (c : tie.Else2) → 14 ≤ length (c .before .before .before .before .before .args .text .now)
-after-names c = took-le (starts-took valueNames _ (named c))
+after-names : (c : tie.Else2) → 14 ≤ length (text2 c)
+after-names c = took-le (starts-took valueNames (text2 c) (named c))
 
-values-read : (c : tie.After-known-told) → valuesAt (drop 14 (c .before .before .before .before .before .before .before .before .before .before .args .text .now)) ≡ Values (c .before .values .given .0 .0) (c .before .values .given .0 .1 .0) (c .before .values .given .0 .1 .1 .0) (c .before .values .given .0 .1 .1 .1 .0) (c .before .values .given .0 .1 .1 .1 .1 .0)
+head2 : (c : tie.Else2) → headOf (text2 c) ≡ afterValues (text2 c) (valuesAt (drop 14 (text2 c)))
+unfolding headOf
+head2 c = rw (le-ltb _ _ (c .before .before .before .if1 .left), named c)
+
+abbrev past-names : tie.After-known-told → tie.Else2
+past-names c = c .before .before .before .before .before
+
+abbrev text3 : tie.After-known-told → List ℕ
+text3 c = text2 (past-names c)
+
+abbrev values : tie.After-known-told → Head
+values c = let v = c .before .values .given .0 in Values (v .0) (v .1 .0) (v .1 .1 .0) (v .1 .1 .1 .0) (v .1 .1 .1 .1 .0)
+
+values-read : (c : tie.After-known-told) → valuesAt (drop 14 (text3 c)) ≡ values c
 values-read c = rw part-is at (sym (c .before .before .before .values-at .ensures) ∙ c .before .values .given .1)
 
-after-values : (c : tie.After-known-told) → 14 + c .before .values .given .0 .1 .1 .1 .1 .0 ≤ length (c .before .before .before .before .before .before .before .before .before .before .args .text .now)
-after-values c = part-within (c .before .before .before .before .before .before .before .before .before .before .args .text .now) 14 _ (after-names (c .before .before .before .before .before)) (took-le (values-was _ _ _ _ _ _ (sym (c .before .before .before .values-at .ensures) ∙ c .before .values .given .1)))
+after-values : (c : tie.After-known-told) → 14 + c .before .values .given .0 .1 .1 .1 .1 .0 ≤ length (text3 c)
+after-values c =
+    omega (arith, length-drop 14 (text3 c), after-names (past-names c), took-le (values-was _ _ _ _ _ _ (values-read c)))
+
+head3 : (c : tie.After-known-told) → headOf (text3 c) ≡ afterValues (text3 c) (values c)
+head3 c = head2 (past-names c) ∙ ap (afterValues (text3 c)) (values-read c)
+
+-- where n stands, and where the limits stand too
+counted : (c : tie.Else3) → countStands (c .before .before .before .values .given .0 .0) ≡ true
+counted c = sym (c .before .count-stands .ensures) ∙ not-false _ (c .if3 .left)
+
+limited : (c : tie.Else4) → (let v = c .before .before .before .before .before .values .given .0 in limitsStand (v .1 .0) (v .1 .1 .0) (v .1 .1 .1 .0) ≡ true)
+limited c = sym (c .before .limits-stand .ensures) ∙ not-false _ (c .if4 .left)
 
 -- src/lines.rt:230:9
 returns : tie.Need-returns
@@ -55,7 +82,7 @@ starts-with-requires c κs = search needs
 -- src/lines.rt:233:9
 returns-2 : tie.Need-returns-2
 unfolding headOf
-returns-2 c = rw (short (c .before .before .before), sym (c .before .starts-with .ensures) ∙ not-true _ (c .if2 .taken))
+returns-2 c = rw (le-ltb _ _ (c .before .before .before .if1 .left), sym (c .before .starts-with .ensures) ∙ not-true _ (c .if2 .taken))
 
 -- src/lines.rt:235:30
 sub-values-at : tie.Need-sub-values-at
@@ -83,8 +110,7 @@ enum-told c = search needs
 
 -- src/lines.rt:237:9
 returns-3 : tie.Need-returns-3
-unfolding headOf
-returns-3 c = rw (short (c .before .before .before .before .before .before .before), named (c .before .before .before .before), rw part-is at (sym (c .before .before .values-at .ensures) ∙ c .enum-told .given .1))
+returns-3 c = let k = c .before .before .before .before in sym (rw (rw part-is at (sym (c .before .before .values-at .ensures) ∙ c .enum-told .given .1)) at (head2 k))
 
 -- src/lines.rt:239:9
 count-stands-requires : tie.Need-count-stands-requires
@@ -92,8 +118,7 @@ count-stands-requires c κs = search needs
 
 -- src/lines.rt:240:9
 returns-4 : tie.Need-returns-4
-unfolding headOf
-returns-4 c = rw (short (c .before .before .before .before .before .before .before .before .before .before), named (c .before .before .before .before .before .before .before), values-read (c .before .before), sym (c .before .count-stands .ensures) ∙ not-true _ (c .if3 .taken))
+returns-4 c = sym (simp (sym (c .before .count-stands .ensures) ∙ not-true _ (c .if3 .taken)) at (head3 (c .before .before)))
 
 -- src/lines.rt:242:9
 limits-stand-requires : tie.Need-limits-stand-requires
@@ -101,8 +126,7 @@ limits-stand-requires c κs = search needs
 
 -- src/lines.rt:243:9
 returns-5 : tie.Need-returns-5
-unfolding headOf
-returns-5 c = rw (short (c .before .before .before .before .before .before .before .before .before .before .before .before), named (c .before .before .before .before .before .before .before .before .before), values-read (c .before .before .before .before), sym (c .before .before .before .count-stands .ensures) ∙ not-false _ (c .before .before .if3 .left), sym (c .before .limits-stand .ensures) ∙ not-true _ (c .if4 .taken))
+returns-5 c = sym (simp (counted (c .before .before), sym (c .before .limits-stand .ensures) ∙ not-true _ (c .if4 .taken)) at (head3 (c .before .before .before .before)))
 
 -- src/lines.rt:245:14
 add-at : tie.Need-add-at
@@ -130,8 +154,8 @@ starts-with-requires-2 c κs = search needs
 
 -- src/lines.rt:247:9
 returns-6 : tie.Need-returns-6
-unfolding headOf
-returns-6 c = rw (short (c .before .before .before .before .before .before .before .before .before .before .before .before .before .before .before .before), named (c .before .before .before .before .before .before .before .before .before .before .before .before .before), values-read (c .before .before .before .before .before .before .before .before), sym (c .before .before .before .before .before .before .before .count-stands .ensures) ∙ not-false _ (c .before .before .before .before .before .before .if3 .left), sym (c .before .before .before .before .before .limits-stand .ensures) ∙ not-false _ (c .before .before .before .before .if4 .left), rw part-is at (sym (c .before .starts-with2 .ensures) ∙ not-true _ (c .if5 .taken)))
+returns-6 c = 
+    sym (simp (counted (c .before .before .before .before .before .before), limited (c .before .before .before .before), rw part-is at (sym (c .before .starts-with2 .ensures) ∙ not-true _ (c .if5 .taken))) at (head3 (c .before .before .before .before .before .before .before .before)))
 
 -- src/lines.rt:249:30
 add-t11 : tie.Need-add-t11
@@ -139,8 +163,8 @@ add-t11 c = omega (arith, after-values (c .before .before .before .before .befor
 
 -- src/lines.rt:226:1
 returns-7 : tie.Need-returns-7
-unfolding headOf
-returns-7 c = rw (short (c .before .before .before .before .before .before .before .before .before .before .before .before .before .before .before .before), named (c .before .before .before .before .before .before .before .before .before .before .before .before .before), values-read (c .before .before .before .before .before .before .before .before), sym (c .before .before .before .before .before .before .before .count-stands .ensures) ∙ not-false _ (c .before .before .before .before .before .before .if3 .left), sym (c .before .before .before .before .before .limits-stand .ensures) ∙ not-false _ (c .before .before .before .before .if4 .left), rw part-is at (sym (c .before .starts-with2 .ensures) ∙ not-false _ (c .if5 .left)))
+returns-7 c = 
+    sym (simp (counted (c .before .before .before .before .before .before), limited (c .before .before .before .before), rw part-is at (sym (c .before .starts-with2 .ensures) ∙ not-false _ (c .if5 .left))) at (head3 (c .before .before .before .before .before .before .before .before)))
 
 pub head-of-spec : {M : Type 1} → statement M
 head-of-spec =

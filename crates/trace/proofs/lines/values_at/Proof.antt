@@ -1,13 +1,13 @@
-use Prim.Native.Nat.{ℕ, _+_, _-_, _≤_, _<_}
-use mathlib.Core.Path.{_≡_, refl, sym, ap, _∙_}
+use Prim.Native.Nat.{ℕ, _+_, _≤_}
+use mathlib.Core.Path.{_≡_, sym, _∙_}
 use mathlib.Core.List.{List}
 use native.Mathlib.Omega.{arith}
-use lib.ListN.{length, take, drop, length-take, length-drop}
-use Rattle.model.specs.declared.Field.the-variants.{Value, Bad}
-use Rattle.model.specs.Texts.{numberBound}
+use lib.ListN.{length, drop, length-drop}
+use Rattle.model.specs.declared.Field.the-variants.{Value}
+use Rattle.model.specs.Texts.{comma, newline, numberBound}
 use Rattle.model.specs.Readings.{numberAt}
 use Rattle.model.specs.Readings.{valuesAt}
-use Rattle.grammar.proofs.Lists.{part-is, part-within}
+use Rattle.grammar.proofs.Lists.{part-is}
 use Rattle.grammar.proofs.Fields.{took-le, number-was}
 use borrow.Author.Needs.{needs}
 use Rattle.trace.proofs.lines.values_at.Statement.{statement}
@@ -16,61 +16,85 @@ use Rattle.trace.proofs.lines.values_at.Reads as reads
 use Rattle.trace.proofs.lines.values_at.Lts as lts
 use Rattle.trace.proofs.fields.number_at.Reads as number-at-reads
 
--- what the fields that were read say
-abbrev part1 : tie.After-known-told → List ℕ
-part1 c = c .before .before .before .before .before .args .s .now
+-- Where a field is known: the text that it was read from, its value, and how many bytes it takes; that it was read so, and
+-- that it lies within that text
 
-taken1 : (c : tie.After-known-told) → numberAt numberBound 44 (part1 c) ≡ Value (c .before .first .given .0 .0) (c .before .first .given .0 .1 .0)
-taken1 c = sym (c .before .before .before .number-at .ensures) ∙ c .before .first .given .1
+abbrev s1 : tie.After-known-told → List ℕ
+s1 c = c .before .before .before .before .before .args .s .now
 
-fits1 : (c : tie.After-known-told) → c .before .first .given .0 .1 .0 ≤ length (part1 c)
-fits1 c = took-le (number-was numberBound 44 _ _ _ (omega arith) (taken1 c) .0)
+abbrev v1 : tie.After-known-told → ℕ
+v1 c = c .before .first .given .0 .0
 
-read1 : (c : tie.After-known-told) → numberAt numberBound 44 (c .before .before .before .before .before .args .s .now) ≡ Value (c .before .first .given .0 .0) (c .before .first .given .0 .1 .0)
-read1 c = taken1 c
+abbrev k1 : tie.After-known-told → ℕ
+k1 c = c .before .first .given .0 .1 .0
 
-abbrev part2 : tie.After-known-told2 → List ℕ
-part2 c = let s = part1 (c .before .before .before .before .before) in let i = c .before .before .before .before .before .before .first .given .0 .1 .0 in take (length s - i) (drop i s)
+read1 : (c : tie.After-known-told) → numberAt numberBound comma (s1 c) ≡ Value (v1 c) (k1 c)
+read1 c = sym (c .before .before .before .number-at .ensures) ∙ c .before .first .given .1
 
-taken2 : (c : tie.After-known-told2) → numberAt numberBound 44 (part2 c) ≡ Value (c .before .second .given .0 .0) (c .before .second .given .0 .1 .0)
-taken2 c = sym (c .before .before .before .number-at2 .ensures) ∙ c .before .second .given .1
+fits1 : (c : tie.After-known-told) → k1 c ≤ length (s1 c)
+fits1 c = took-le (number-was numberBound comma _ _ _ (omega arith) (read1 c) .0)
 
-fits2 : (c : tie.After-known-told2) → c .before .second .given .0 .1 .0 ≤ length (part2 c)
-fits2 c = took-le (number-was numberBound 44 _ _ _ (omega arith) (taken2 c) .0)
+abbrev to1 : tie.After-known-told2 → tie.After-known-told
+to1 c = c .before .before .before .before .before
 
-read2 : (c : tie.After-known-told2) → numberAt numberBound 44 (drop (c .before .before .before .before .before .before .first .given .0 .1 .0) (c .before .before .before .before .before .before .before .before .before .before .args .s .now)) ≡ Value (c .before .second .given .0 .0) (c .before .second .given .0 .1 .0)
-read2 c = rw (part-is) at (taken2 c)
+abbrev s2 : tie.After-known-told2 → List ℕ
+s2 c = drop (k1 (to1 c)) (s1 (to1 c))
 
-abbrev part3 : tie.After-known-told3 → List ℕ
-part3 c = let s = part2 (c .before .before .before .before .before) in let i = c .before .before .before .before .before .before .second .given .0 .1 .0 in take (length s - i) (drop i s)
+abbrev v2 : tie.After-known-told2 → ℕ
+v2 c = c .before .second .given .0 .0
 
-taken3 : (c : tie.After-known-told3) → numberAt numberBound 44 (part3 c) ≡ Value (c .before .third .given .0 .0) (c .before .third .given .0 .1 .0)
-taken3 c = sym (c .before .before .before .number-at3 .ensures) ∙ c .before .third .given .1
+abbrev k2 : tie.After-known-told2 → ℕ
+k2 c = c .before .second .given .0 .1 .0
 
-fits3 : (c : tie.After-known-told3) → c .before .third .given .0 .1 .0 ≤ length (part3 c)
-fits3 c = took-le (number-was numberBound 44 _ _ _ (omega arith) (taken3 c) .0)
+read2 : (c : tie.After-known-told2) → numberAt numberBound comma (s2 c) ≡ Value (v2 c) (k2 c)
+read2 c = rw part-is at (sym (c .before .before .before .number-at2 .ensures) ∙ c .before .second .given .1)
 
-read3 : (c : tie.After-known-told3) → numberAt numberBound 44 (drop (c .before .before .before .before .before .before .second .given .0 .1 .0) (drop (c .before .before .before .before .before .before .before .before .before .before .before .first .given .0 .1 .0) (c .before .before .before .before .before .before .before .before .before .before .before .before .before .before .before .args .s .now))) ≡ Value (c .before .third .given .0 .0) (c .before .third .given .0 .1 .0)
-read3 c = rw (part-is, part-is) at (taken3 c)
+fits2 : (c : tie.After-known-told2) → k2 c ≤ length (s2 c)
+fits2 c = took-le (number-was numberBound comma _ _ _ (omega arith) (read2 c) .0)
 
-abbrev part4 : tie.After-known-told4 → List ℕ
-part4 c = let s = part3 (c .before .before .before .before .before) in let i = c .before .before .before .before .before .before .third .given .0 .1 .0 in take (length s - i) (drop i s)
+abbrev to2 : tie.After-known-told3 → tie.After-known-told2
+to2 c = c .before .before .before .before .before
 
-taken4 : (c : tie.After-known-told4) → numberAt numberBound 10 (part4 c) ≡ Value (c .before .fourth .given .0 .0) (c .before .fourth .given .0 .1 .0)
-taken4 c = sym (c .before .before .before .number-at4 .ensures) ∙ c .before .fourth .given .1
+abbrev s3 : tie.After-known-told3 → List ℕ
+s3 c = drop (k2 (to2 c)) (s2 (to2 c))
 
-fits4 : (c : tie.After-known-told4) → c .before .fourth .given .0 .1 .0 ≤ length (part4 c)
-fits4 c = took-le (number-was numberBound 10 _ _ _ (omega arith) (taken4 c) .0)
+abbrev v3 : tie.After-known-told3 → ℕ
+v3 c = c .before .third .given .0 .0
 
-read4 : (c : tie.After-known-told4) → numberAt numberBound 10 (drop (c .before .before .before .before .before .before .third .given .0 .1 .0) (drop (c .before .before .before .before .before .before .before .before .before .before .before .second .given .0 .1 .0) (drop (c .before .before .before .before .before .before .before .before .before .before .before .before .before .before .before .before .first .given .0 .1 .0) (c .before .before .before .before .before .before .before .before .before .before .before .before .before .before .before .before .before .before .before .before .args .s .now)))) ≡ Value (c .before .fourth .given .0 .0) (c .before .fourth .given .0 .1 .0)
-read4 c = rw (part-is, part-is, part-is) at (taken4 c)
+abbrev k3 : tie.After-known-told3 → ℕ
+k3 c = c .before .third .given .0 .1 .0
 
--- all four fit
-within : (c : tie.After-known-told4) → c .before .before .before .before .before .before .before .before .before .before .before .before .before .before .before .before .first .given .0 .1 .0 + (c .before .before .before .before .before .before .before .before .before .before .before .second .given .0 .1 .0 + (c .before .before .before .before .before .before .third .given .0 .1 .0 + c .before .fourth .given .0 .1 .0)) ≤ length (part1 (c .before .before .before .before .before .before .before .before .before .before .before .before .before .before .before))
+read3 : (c : tie.After-known-told3) → numberAt numberBound comma (s3 c) ≡ Value (v3 c) (k3 c)
+read3 c = rw (part-is, part-is) at (sym (c .before .before .before .number-at3 .ensures) ∙ c .before .third .given .1)
+
+fits3 : (c : tie.After-known-told3) → k3 c ≤ length (s3 c)
+fits3 c = took-le (number-was numberBound comma _ _ _ (omega arith) (read3 c) .0)
+
+abbrev to3 : tie.After-known-told4 → tie.After-known-told3
+to3 c = c .before .before .before .before .before
+
+abbrev s4 : tie.After-known-told4 → List ℕ
+s4 c = drop (k3 (to3 c)) (s3 (to3 c))
+
+abbrev v4 : tie.After-known-told4 → ℕ
+v4 c = c .before .fourth .given .0 .0
+
+abbrev k4 : tie.After-known-told4 → ℕ
+k4 c = c .before .fourth .given .0 .1 .0
+
+read4 : (c : tie.After-known-told4) → numberAt numberBound newline (s4 c) ≡ Value (v4 c) (k4 c)
+read4 c = rw (part-is, part-is, part-is) at (sym (c .before .before .before .number-at4 .ensures) ∙ c .before .fourth .given .1)
+
+fits4 : (c : tie.After-known-told4) → k4 c ≤ length (s4 c)
+fits4 c = took-le (number-was numberBound newline _ _ _ (omega arith) (read4 c) .0)
+
+-- the four fields lie within the text
+within : (c : tie.After-known-told4)
+    → k1 (to1 (to2 (to3 c))) + k2 (to2 (to3 c)) + k3 (to3 c) + k4 c ≤ length (s1 (to1 (to2 (to3 c))))
 within c =
-    part-within (part1 (c .before .before .before .before .before .before .before .before .before .before .before .before .before .before .before)) _ _ (fits1 (c .before .before .before .before .before .before .before .before .before .before .before .before .before .before .before))
-    (part-within (part2 (c .before .before .before .before .before .before .before .before .before .before)) _ _ (fits2 (c .before .before .before .before .before .before .before .before .before .before))
-    (part-within (part3 (c .before .before .before .before .before)) _ _ (fits3 (c .before .before .before .before .before)) (fits4 c)))
+    omega
+    (arith, length-drop (k1 (to1 (to2 (to3 c)))) (s1 (to1 (to2 (to3 c)))), length-drop (k2 (to2 (to3 c))) (s2 (to2 (to3 c))),
+    length-drop (k3 (to3 c)) (s3 (to3 c)), fits1 (to1 (to2 (to3 c))), fits2 (to2 (to3 c)), fits3 (to3 c), fits4 c)
 
 -- src/lines.rt:174:9
 number-at-requires : tie.Need-number-at-requires
@@ -116,15 +140,15 @@ enum-told-2 c = search needs
 -- src/lines.rt:181:9
 returns-2 : tie.Need-returns-2
 unfolding valuesAt
-returns-2 c = rw (read1 (c .before .before .before .before), rw (part-is) at (sym (c .before .before .number-at2 .ensures) ∙ c .enum-told2 .given .1))
+returns-2 c = let k = c .before .before .before .before in rw (read1 k, rw part-is at (sym (c .before .before .number-at2 .ensures) ∙ c .enum-told2 .given .1))
 
 -- src/lines.rt:183:19
 sub-after-a : tie.Need-sub-after-a
-sub-after-a c = fits2 c
+sub-after-a c = rw part-is (fits2 c)
 
 -- src/lines.rt:183:19
 part-after-a-start : tie.Need-part-after-a-start
-part-after-a-start c = fits2 c
+part-after-a-start c = rw part-is (fits2 c)
 
 -- src/lines.rt:183:19
 part-after-a-end : tie.Need-part-after-a-end
@@ -145,15 +169,15 @@ enum-told-3 c = search needs
 -- src/lines.rt:186:9
 returns-3 : tie.Need-returns-3
 unfolding valuesAt
-returns-3 c = rw (read1 (c .before .before .before .before .before .before .before .before .before), read2 (c .before .before .before .before), rw (part-is, part-is) at (sym (c .before .before .number-at3 .ensures) ∙ c .enum-told3 .given .1))
+returns-3 c = let k = c .before .before .before .before in rw (read1 (to1 k), read2 k, rw (part-is, part-is) at (sym (c .before .before .number-at3 .ensures) ∙ c .enum-told3 .given .1))
 
 -- src/lines.rt:188:25
 sub-number-at : tie.Need-sub-number-at
-sub-number-at c = fits3 c
+sub-number-at c = rw (part-is, part-is) (fits3 c)
 
 -- src/lines.rt:188:25
 part-number-at-start : tie.Need-part-number-at-start
-part-number-at-start c = fits3 c
+part-number-at-start c = rw (part-is, part-is) (fits3 c)
 
 -- src/lines.rt:188:25
 part-number-at-end : tie.Need-part-number-at-end
@@ -174,7 +198,9 @@ enum-told-4 c = search needs
 -- src/lines.rt:190:9
 returns-4 : tie.Need-returns-4
 unfolding valuesAt
-returns-4 c = rw (read1 (c .before .before .before .before .before .before .before .before .before .before .before .before .before .before), read2 (c .before .before .before .before .before .before .before .before .before), read3 (c .before .before .before .before), rw (part-is, part-is, part-is) at (sym (c .before .before .number-at4 .ensures) ∙ c .enum-told4 .given .1))
+returns-4 c = 
+    let k = c .before .before .before .before in
+    rw (read1 (to1 (to2 k)), read2 (to2 k), read3 k, rw (part-is, part-is, part-is) at (sym (c .before .before .number-at4 .ensures) ∙ c .enum-told4 .given .1))
 
 -- src/lines.rt:192:30
 add-t17 : tie.Need-add-t17
@@ -191,7 +217,7 @@ add-t25 c = omega (arith, within c)
 -- src/lines.rt:171:1
 returns-5 : tie.Need-returns-5
 unfolding valuesAt
-returns-5 c = rw (read1 (c .before .before .before .before .before .before .before .before .before .before .before .before .before .before .before), read2 (c .before .before .before .before .before .before .before .before .before .before), read3 (c .before .before .before .before .before), read4 (c))
+returns-5 c = rw (read1 (to1 (to2 (to3 c))), read2 (to2 (to3 c)), read3 (to3 c), read4 c)
 
 pub values-at-spec : {M : Type 1} → statement M
 values-at-spec =

@@ -1,10 +1,11 @@
 use borrow.Author.Needs.{needs}
-use Prim.Native.Nat.{ℕ, _+_, _-_, _≤_, _<_}
-use mathlib.Core.Path.{_≡_, refl, sym, ap, _∙_}
+use Prim.Native.Nat.{ℕ, _+_, _-_, _<_}
+use mathlib.Core.Path.{_≡_, sym, _∙_}
+use mathlib.Core.List.{List}
 use native.Mathlib.Omega.{arith}
-use borrow.Author.Tests.{eq-eqb, ne-eqb}
-use lib.ListN.{length, take, drop}
-use Rattle.model.specs.declared.Row.the-variants.{Step, Unread}
+use borrow.Author.Tests.{ne-eqb}
+use lib.ListN.{length, drop}
+use Rattle.model.specs.declared.Row.the-variants.{Step}
 use Rattle.model.specs.Readings.{eventAt}
 use Rattle.grammar.proofs.Lists.{part-is}
 use Rattle.grammar.proofs.Bodies.{Along, along-start, along-step, along-more, along-inside, along-end, along-fault}
@@ -20,11 +21,26 @@ Inv-loop s at₀ count₀ at count = Along s at count
 abbrev μ-loop : tie.MeasureT-loop
 μ-loop s at₀ count₀ at count = length s - at
 
--- the step that was read
-read : (c : tie.After-known-told Inv-loop μ-loop)
-    → eventAt (c .before .before .before .before .before .before .loop .count + 4) (drop (c .before .before .before .before .before .before .loop .at) (c .before .before .before .before .before .before .before .before .args .s .now))
-      ≡ Step (c .before .row .given .0 .0) (c .before .row .given .0 .1 .0) (c .before .row .given .0 .1 .1 .0) (c .before .row .given .0 .1 .1 .1 .0)
-read c = rw part-is at (sym (c .before .before .before .event-at .ensures) ∙ c .before .row .given .1)
+-- Where a line is known to be a step: the text, where the line starts, how many lines come before it, how many bytes it takes
+abbrev text : tie.After-known-told Inv-loop μ-loop → List ℕ
+text c = c .before .before .before .before .before .before .before .before .args .s .now
+
+abbrev start : tie.After-known-told Inv-loop μ-loop → ℕ
+start c = c .before .before .before .before .before .before .loop .at
+
+abbrev past : tie.After-known-told Inv-loop μ-loop → ℕ
+past c = c .before .before .before .before .before .before .loop .count
+
+abbrev width : tie.After-known-told Inv-loop μ-loop → ℕ
+width c = c .before .row .given .0 .1 .1 .1 .0
+
+more : (c : tie.After-known-told Inv-loop μ-loop) → start c < length (text c)
+more c = c .before .before .before .before .before .loop-test .taken
+
+step-read : (c : tie.After-known-told Inv-loop μ-loop)
+    → eventAt (past c + 4) (drop (start c) (text c))
+      ≡ Step (c .before .row .given .0 .0) (c .before .row .given .0 .1 .0) (c .before .row .given .0 .1 .1 .0) (width c)
+step-read c = rw part-is at (sym (c .before .before .before .event-at .ensures) ∙ c .before .row .given .1)
 
 -- src/steps.rt:259:5
 loop-holds : tie.Need-loop-holds Inv-loop μ-loop
@@ -60,13 +76,14 @@ enum-told c = search needs
 
 -- src/steps.rt:263:13
 returns : tie.Need-returns Inv-loop μ-loop
-returns c =
-    let f = along-fault (c .before .before .before .before .before .before .before .args .s .now) (c .before .before .before .before .before .loop .at) (c .before .before .before .before .before .loop .count) (c .before .before .before .before .before .loop .inv) _ _ (c .before .before .before .before .loop-test .taken) (rw part-is at (sym (c .before .before .event-at .ensures) ∙ c .enum-told .given .1)) in
-    rw (f .1) (simp (ne-eqb (c .before .before .before .before .before .loop .count + 4) 0 (λ (z : c .before .before .before .before .before .loop .count + 4 ≡ 0). omega arith)))
+returns c = 
+    let v = c .before .before .before .before .before .loop in
+    let f = along-fault (c .before .before .before .before .before .before .before .args .s .now) (v .at) (v .count) (v .inv) _ _ (c .before .before .before .before .loop-test .taken) (rw part-is at (sym (c .before .before .event-at .ensures) ∙ c .enum-told .given .1)) in
+    rw (f .1) (simp (ne-eqb (v .count + 4) 0 (λ (z : v .count + 4 ≡ 0). omega arith)))
 
 -- src/steps.rt:265:9
 add-at : tie.Need-add-at Inv-loop μ-loop
-add-at c = omega (arith, along-inside (c .before .before .before .before .before .before .before .before .args .s .now) (c .before .before .before .before .before .before .loop .at) (c .before .before .before .before .before .before .loop .count) _ _ _ _ (c .before .before .before .before .before .loop-test .taken) (read c))
+add-at c = omega (arith, along-inside (text c) (start c) (past c) _ _ _ (width c) (more c) (step-read c))
 
 -- src/steps.rt:266:9
 add-count : tie.Need-add-count Inv-loop μ-loop
@@ -74,11 +91,11 @@ add-count c = omega (arith, c .before .before .before .before .before .before .l
 
 -- src/steps.rt:259:5
 loop-less : tie.Need-loop-less Inv-loop μ-loop
-loop-less c = omega (arith, along-more (c .before .before .before .before .before .before .before .before .args .s .now) (c .before .before .before .before .before .before .loop .at) (c .before .before .before .before .before .before .loop .count) _ _ _ _ (c .before .before .before .before .before .loop-test .taken) (read c))
+loop-less c = omega (arith, along-more (text c) (start c) (past c) _ _ _ (width c) (more c) (step-read c))
 
 -- src/steps.rt:259:5
 loop-again : tie.Need-loop-again Inv-loop μ-loop
-loop-again c = along-step (c .before .before .before .before .before .before .before .before .args .s .now) (c .before .before .before .before .before .before .loop .at) (c .before .before .before .before .before .before .loop .count) _ _ _ _ (c .before .before .before .before .before .loop-test .taken) (read c) (c .before .before .before .before .before .before .loop .inv)
+loop-again c = along-step (text c) (start c) (past c) _ _ _ (width c) (more c) (step-read c) (c .before .before .before .before .before .before .loop .inv)
 
 -- src/steps.rt:253:1
 returns-2 : tie.Need-returns-2 Inv-loop μ-loop

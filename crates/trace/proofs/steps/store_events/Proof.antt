@@ -1,8 +1,9 @@
 use borrow.Author.Needs.{needs}
-use Prim.Native.Nat.{ℕ, _+_, _-_, _≤_, _<_}
-use mathlib.Core.Path.{_≡_, refl, sym, ap, _∙_}
+use Prim.Native.Nat.{ℕ, _+_, _-_, _<_}
+use mathlib.Core.Path.{_≡_, sym, _∙_}
+use mathlib.Core.List.{List}
 use native.Mathlib.Omega.{arith}
-use lib.ListN.{length, take, drop, length-set}
+use lib.ListN.{length, drop}
 use Rattle.model.specs.declared.Row.the-variants.{Step, Unread}
 use Rattle.model.specs.Texts.{Event}
 use Rattle.model.specs.Readings.{eventAt}
@@ -23,24 +24,40 @@ Inv-loop s times₀ processes₀ actions₀ at₀ i₀ times processes actions a
 abbrev μ-loop : tie.MeasureT-loop
 μ-loop s times₀ processes₀ actions₀ at₀ i₀ times processes actions at i = length s - at
 
--- the step that was read, and its places
-read : (c : tie.After-known-told Inv-loop μ-loop)
-    → eventAt (c .before .before .before .before .before .before .loop .i + 4) (drop (c .before .before .before .before .before .before .loop .at) (c .before .before .before .before .before .before .before .before .before .before .before .args .s .now))
-      ≡ Step (c .before .row .given .0 .0) (c .before .row .given .0 .1 .0) (c .before .row .given .0 .1 .1 .0) (c .before .row .given .0 .1 .1 .1 .0)
-read c = rw part-is at (sym (c .before .before .before .event-at .ensures) ∙ c .before .row .given .1)
+-- Where a line is known to be a step: the text, where the line starts, how many lines come before it, how many bytes it takes
+abbrev text : tie.After-known-told Inv-loop μ-loop → List ℕ
+text c = c .before .before .before .before .before .before .before .before .before .before .before .args .s .now
 
-place-times : (c : tie.After-known-told Inv-loop μ-loop) → c .before .before .before .before .before .before .loop .i < length (c .before .before .before .before .before .before .loop .times)
-place-times c = stored-place _ _ _ _ _ _ (c .before .before .before .before .before .before .loop .inv .1) _ _ _ _ (c .before .before .before .before .before .loop-test .taken) (read c) (c .before .before .before .before .before .before .loop .inv .0) (c .before .before .before .before .before .before .before .before .before .before .before .pre .0)
+abbrev start : tie.After-known-told Inv-loop μ-loop → ℕ
+start c = c .before .before .before .before .before .before .loop .at
 
-place-processes : (c : tie.After-known-told Inv-loop μ-loop) → c .before .before .before .before .before .before .loop .i < length (c .before .before .before .before .before .before .loop .processes)
-place-processes c = stored-place _ _ _ _ _ _ (c .before .before .before .before .before .before .loop .inv .2) _ _ _ _ (c .before .before .before .before .before .loop-test .taken) (read c) (c .before .before .before .before .before .before .loop .inv .0) (c .before .before .before .before .before .before .before .before .before .before .before .pre .1 .0)
+abbrev past : tie.After-known-told Inv-loop μ-loop → ℕ
+past c = c .before .before .before .before .before .before .loop .i
 
-place-actions : (c : tie.After-known-told Inv-loop μ-loop) → c .before .before .before .before .before .before .loop .i < length (c .before .before .before .before .before .before .loop .actions)
-place-actions c = stored-place _ _ _ _ _ _ (c .before .before .before .before .before .before .loop .inv .3) _ _ _ _ (c .before .before .before .before .before .loop-test .taken) (read c) (c .before .before .before .before .before .before .loop .inv .0) (c .before .before .before .before .before .before .before .before .before .before .before .pre .1 .1)
+abbrev width : tie.After-known-told Inv-loop μ-loop → ℕ
+width c = c .before .row .given .0 .1 .1 .1 .0
+
+more : (c : tie.After-known-told Inv-loop μ-loop) → start c < length (text c)
+more c = c .before .before .before .before .before .loop-test .taken
+
+step-read : (c : tie.After-known-told Inv-loop μ-loop)
+    → eventAt (past c + 4) (drop (start c) (text c))
+      ≡ Step (c .before .row .given .0 .0) (c .before .row .given .0 .1 .0) (c .before .row .given .0 .1 .1 .0) (width c)
+step-read c = rw part-is at (sym (c .before .before .before .event-at .ensures) ∙ c .before .row .given .1)
+
+place-times : (c : tie.After-known-told Inv-loop μ-loop) → past c < length (c .before .before .before .before .before .before .loop .times)
+place-times c = let v = c .before .before .before .before .before .before .loop in stored-place _ _ _ _ _ _ (v .inv .1) _ _ _ (width c) (more c) (step-read c) (v .inv .0) (c .before .before .before .before .before .before .before .before .before .before .before .pre .0)
+
+place-processes : (c : tie.After-known-told Inv-loop μ-loop) → past c < length (c .before .before .before .before .before .before .loop .processes)
+place-processes c = let v = c .before .before .before .before .before .before .loop in stored-place _ _ _ _ _ _ (v .inv .2) _ _ _ (width c) (more c) (step-read c) (v .inv .0) (c .before .before .before .before .before .before .before .before .before .before .before .pre .1 .0)
+
+place-actions : (c : tie.After-known-told Inv-loop μ-loop) → past c < length (c .before .before .before .before .before .before .loop .actions)
+place-actions c = let v = c .before .before .before .before .before .before .loop in stored-place _ _ _ _ _ _ (v .inv .3) _ _ _ (width c) (more c) (step-read c) (v .inv .0) (c .before .before .before .before .before .before .before .before .before .before .before .pre .1 .1)
 
 -- the line that is no step
 fault : (c : tie.After-enum-told Inv-loop μ-loop)
-    → eventAt (c .before .before .before .before .before .loop .i + 4) (drop (c .before .before .before .before .before .loop .at) (c .before .before .before .before .before .before .before .before .before .before .args .s .now)) ≡ Unread (c .enum-told .given .0 .0) (c .enum-told .given .0 .1 .0)
+    → (let v = c .before .before .before .before .before .loop in
+      eventAt (v .i + 4) (drop (v .at) (c .before .before .before .before .before .before .before .before .before .before .args .s .now)) ≡ Unread (c .enum-told .given .0 .0) (c .enum-told .given .0 .1 .0))
 fault c = rw part-is at (sym (c .before .before .event-at .ensures) ∙ c .enum-told .given .1)
 
 -- src/steps.rt:282:5
@@ -89,14 +106,17 @@ same-length-3 c = c .before .before .before .before .before .loop .inv .3 .long
 
 -- src/steps.rt:286:13
 returns : tie.Need-returns Inv-loop μ-loop
-returns c =
-    (stored-fault _ _ _ _ _ _ (c .before .before .before .before .before .loop .inv .1) _ _ (c .before .before .before .before .loop-test .taken) (fault c) (c .before .before .before .before .before .before .before .before .before .before .pre .0),
-    (stored-fault _ _ _ _ _ _ (c .before .before .before .before .before .loop .inv .2) _ _ (c .before .before .before .before .loop-test .taken) (fault c) (c .before .before .before .before .before .before .before .before .before .before .pre .1 .0),
-    stored-fault _ _ _ _ _ _ (c .before .before .before .before .before .loop .inv .3) _ _ (c .before .before .before .before .loop-test .taken) (fault c) (c .before .before .before .before .before .before .before .before .before .before .pre .1 .1)))
+returns c = 
+    let v = c .before .before .before .before .before .loop in
+    let h = c .before .before .before .before .loop-test .taken in
+    let fits = c .before .before .before .before .before .before .before .before .before .before .pre in
+    (stored-fault _ _ _ _ _ _ (v .inv .1) _ _ h (fault c) (fits .0),
+    (stored-fault _ _ _ _ _ _ (v .inv .2) _ _ h (fault c) (fits .1 .0),
+    stored-fault _ _ _ _ _ _ (v .inv .3) _ _ h (fault c) (fits .1 .1)))
 
 -- src/steps.rt:288:9
 mul-times : tie.Need-mul-times Inv-loop μ-loop
-mul-times c = omega (arith, place-times c, c .before .before .before .before .before .before .loop .inv .1 .long, c .before .before .before .before .before .before .before .before .before .before .before .good)
+mul-times c = let v = c .before .before .before .before .before .before .loop in omega (arith, place-times c, v .inv .1 .long, c .before .before .before .before .before .before .before .before .before .before .before .good)
 
 -- src/steps.rt:288:9
 slice-write-times : tie.Need-slice-write-times Inv-loop μ-loop
@@ -104,7 +124,7 @@ slice-write-times c = place-times c
 
 -- src/steps.rt:289:9
 mul-processes : tie.Need-mul-processes Inv-loop μ-loop
-mul-processes c = omega (arith, place-processes c, c .before .before .before .before .before .before .loop .inv .2 .long, c .before .before .before .before .before .before .before .before .before .before .before .good)
+mul-processes c = let v = c .before .before .before .before .before .before .loop in omega (arith, place-processes c, v .inv .2 .long, c .before .before .before .before .before .before .before .before .before .before .before .good)
 
 -- src/steps.rt:289:9
 slice-write-processes : tie.Need-slice-write-processes Inv-loop μ-loop
@@ -112,7 +132,7 @@ slice-write-processes c = place-processes c
 
 -- src/steps.rt:290:9
 mul-actions : tie.Need-mul-actions Inv-loop μ-loop
-mul-actions c = omega (arith, place-actions c, c .before .before .before .before .before .before .loop .inv .3 .long, c .before .before .before .before .before .before .before .before .before .before .before .good)
+mul-actions c = let v = c .before .before .before .before .before .before .loop in omega (arith, place-actions c, v .inv .3 .long, c .before .before .before .before .before .before .before .before .before .before .before .good)
 
 -- src/steps.rt:290:9
 slice-write-actions : tie.Need-slice-write-actions Inv-loop μ-loop
@@ -120,7 +140,7 @@ slice-write-actions c = place-actions c
 
 -- src/steps.rt:291:9
 add-at : tie.Need-add-at Inv-loop μ-loop
-add-at c = omega (arith, along-inside (c .before .before .before .before .before .before .before .before .before .before .before .args .s .now) (c .before .before .before .before .before .before .loop .at) (c .before .before .before .before .before .before .loop .i) _ _ _ _ (c .before .before .before .before .before .loop-test .taken) (read c))
+add-at c = omega (arith, along-inside (text c) (start c) (past c) _ _ _ (width c) (more c) (step-read c))
 
 -- src/steps.rt:292:9
 add-i : tie.Need-add-i Inv-loop μ-loop
@@ -128,15 +148,16 @@ add-i c = omega (arith, c .before .before .before .before .before .before .loop 
 
 -- src/steps.rt:282:5
 loop-less : tie.Need-loop-less Inv-loop μ-loop
-loop-less c = omega (arith, along-more (c .before .before .before .before .before .before .before .before .before .before .before .args .s .now) (c .before .before .before .before .before .before .loop .at) (c .before .before .before .before .before .before .loop .i) _ _ _ _ (c .before .before .before .before .before .loop-test .taken) (read c))
+loop-less c = omega (arith, along-more (text c) (start c) (past c) _ _ _ (width c) (more c) (step-read c))
 
 -- src/steps.rt:282:5
 loop-again : tie.Need-loop-again Inv-loop μ-loop
-loop-again c =
-    (along-step (c .before .before .before .before .before .before .before .before .before .before .before .args .s .now) (c .before .before .before .before .before .before .loop .at) (c .before .before .before .before .before .before .loop .i) _ _ _ _ (c .before .before .before .before .before .loop-test .taken) (read c) (c .before .before .before .before .before .before .loop .inv .0),
-    stored-step _ _ _ _ _ _ (c .before .before .before .before .before .before .loop .inv .1) _ _ _ _ (c .before .before .before .before .before .loop-test .taken) (read c),
-    stored-step _ _ _ _ _ _ (c .before .before .before .before .before .before .loop .inv .2) _ _ _ _ (c .before .before .before .before .before .loop-test .taken) (read c),
-    stored-step _ _ _ _ _ _ (c .before .before .before .before .before .before .loop .inv .3) _ _ _ _ (c .before .before .before .before .before .loop-test .taken) (read c))
+loop-again c = 
+    let v = c .before .before .before .before .before .before .loop in
+    (along-step (text c) (start c) (past c) _ _ _ (width c) (more c) (step-read c) (v .inv .0),
+    stored-step _ _ _ _ _ _ (v .inv .1) _ _ _ (width c) (more c) (step-read c),
+    stored-step _ _ _ _ _ _ (v .inv .2) _ _ _ (width c) (more c) (step-read c),
+    stored-step _ _ _ _ _ _ (v .inv .3) _ _ _ (width c) (more c) (step-read c))
 
 -- src/steps.rt:272:1
 same-length-4 : tie.Need-same-length-4 Inv-loop μ-loop
@@ -152,10 +173,13 @@ same-length-6 c = c .before .loop .inv .3 .long
 
 -- src/steps.rt:272:1
 returns-2 : tie.Need-returns-2 Inv-loop μ-loop
-returns-2 c =
-    (stored-end _ _ _ _ _ _ (c .before .loop .inv .1) (c .loop-test .left) (c .before .loop .inv .0 .inside) (c .before .before .before .before .before .before .pre .0),
-    (stored-end _ _ _ _ _ _ (c .before .loop .inv .2) (c .loop-test .left) (c .before .loop .inv .0 .inside) (c .before .before .before .before .before .before .pre .1 .0),
-    stored-end _ _ _ _ _ _ (c .before .loop .inv .3) (c .loop-test .left) (c .before .loop .inv .0 .inside) (c .before .before .before .before .before .before .pre .1 .1)))
+returns-2 c = 
+    let v = c .before .loop in
+    let h = c .loop-test .left in
+    let fits = c .before .before .before .before .before .before .pre in
+    (stored-end _ _ _ _ _ _ (v .inv .1) h (v .inv .0 .inside) (fits .0),
+    (stored-end _ _ _ _ _ _ (v .inv .2) h (v .inv .0 .inside) (fits .1 .0),
+    stored-end _ _ _ _ _ _ (v .inv .3) h (v .inv .0 .inside) (fits .1 .1)))
 
 pub store-events-spec : {M : Type 1} → statement M
 store-events-spec =
