@@ -1,0 +1,94 @@
+//! compare PROGRAM COUNT SEED: feeds COUNT generated recordings to PROGRAM and stops at the first difference.
+//! PROGRAM is a path, with arguments after spaces; its output has to be that of the reference's `replay`.
+
+use reference::generator::{generate, Generated};
+use reference::replay::replay;
+use std::collections::BTreeMap;
+use std::io::{Result, Write};
+use std::process::{exit, Command, Output, Stdio};
+
+fn main() {
+    let Some((program, count, seed)) = arguments() else {
+        eprintln!("usage: compare PROGRAM COUNT SEED");
+        exit(2);
+    };
+    let mut families = Tally::new();
+    let mut answers = Tally::new();
+    for index in 0..count {
+        let generated = generate(seed, index);
+        let wanted = replay(&generated.text);
+        if let Err(difference) = try_one(&program, &generated, &wanted) {
+            println!("recording {index} of seed {seed}, family {}: {difference}", generated.family);
+            exit(1);
+        }
+        *families.entry(generated.family.to_string()).or_default() += 1;
+        for line in wanted.lines().skip(1) {
+            let answer = line.split(',').nth(1).unwrap_or_default();
+            *answers.entry(format!("{answer:>2}")).or_default() += 1;
+        }
+    }
+    println!("{count} recordings equal (seed {seed})");
+    println!("families: {}", shown(&families));
+    println!("answers: {}", shown(&answers));
+}
+
+fn arguments() -> Option<(String, u64, u64)> {
+    let mut words = std::env::args().skip(1);
+    Some((words.next()?, words.next()?.parse().ok()?, words.next()?.parse().ok()?))
+}
+
+/// How often each name came.
+type Tally = BTreeMap<String, u64>;
+
+fn shown(tally: &Tally) -> String {
+    let counts: Vec<String> = tally.iter().map(|(name, count)| format!("{}: {count}", name.trim())).collect();
+    counts.join(", ")
+}
+
+/// Runs PROGRAM on one recording; on a difference leaves the three texts in files and says what differs.
+fn try_one(program: &str, generated: &Generated, wanted: &str) -> std::result::Result<(), String> {
+    let given = match run(program, &generated.text) {
+        Ok(given) => given,
+        Err(error) => return Err(format!("{program} cannot be run: {error}")),
+    };
+    if given.stdout == wanted.as_bytes() && given.status.success() {
+        return Ok(());
+    }
+    let files =
+        [("diff.in", &generated.text[..]), ("diff.want", wanted.as_bytes()), ("diff.got", &given.stdout)];
+    for (name, bytes) in files {
+        std::fs::write(name, bytes).map_err(|error| format!("{name} cannot be written: {error}"))?;
+    }
+    let difference = match given.status.success() {
+        true => first_difference(wanted, &String::from_utf8_lossy(&given.stdout)),
+        false => given.status.to_string(),
+    };
+    Err(format!("{difference}\nsee diff.in, diff.want and diff.got"))
+}
+
+fn run(program: &str, text: &[u8]) -> Result<Output> {
+    let mut words = program.split_whitespace();
+    let mut command = Command::new(words.next().unwrap_or_default());
+    let mut child = command.args(words).stdin(Stdio::piped()).stdout(Stdio::piped()).spawn()?;
+    let input = child.stdin.take();
+    std::thread::scope(|scope| {
+        // A program may stop reading a text that is too long; what it then prints is what counts.
+        scope.spawn(move || input.map(|mut input| input.write_all(text)));
+        child.wait_with_output()
+    })
+}
+
+fn first_difference(wanted: &str, given: &str) -> String {
+    let (mut wanted, mut given) = (wanted.lines(), given.lines());
+    for line in 1.. {
+        match (wanted.next(), given.next()) {
+            (None, None) => break,
+            (want, got) if want == got => continue,
+            (want, got) => {
+                let shown = |line: Option<&str>| line.map_or("nothing".into(), |line| format!("`{line}`"));
+                return format!("output line {line}: wanted {}, got {}", shown(want), shown(got));
+            }
+        }
+    }
+    "the same lines, but not the same bytes".into()
+}

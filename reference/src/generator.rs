@@ -1,0 +1,25 @@
+//! Seeded recordings for `compare`: walks that follow the machine and hit its edges, damaged texts, long texts.
+//! The same seed and index always give the same recording.
+
+mod damage;
+mod length;
+mod random;
+mod walk;
+
+use random::Random;
+
+pub struct Generated {
+    pub family: &'static str,
+    pub text: Vec<u8>,
+}
+
+/// The recording number `index` of a seed.
+pub fn generate(seed: u64, index: u64) -> Generated {
+    let mut random = Random::new(seed, index);
+    match random.below(200) {
+        0..=3 => length::long_text(&mut random),
+        4 => Generated { family: "empty", text: Vec::new() },
+        5..=109 => walk::recording(&mut random, 5_200),
+        _ => damage::damaged(&mut random),
+    }
+}

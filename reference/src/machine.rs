@@ -1,0 +1,225 @@
+//! The table of windows and its step: document 01, "The table of windows", "The acts" and "Answers of the box".
+//! A table goes in and comes back by value, as "a table is copied whole when it is handed over and handed back".
+
+use crate::answer::*;
+use Place::*;
+
+/// The last moment of the clock.
+pub const CLOCK_END: u64 = 1_000_000_000_000;
+/// The greatest c.
+pub const LIMIT_END: u64 = 10_000_000;
+/// The entries of every table, whatever its n.
+pub const WINDOWS: usize = 96;
+
+// "Nine acts are numbered 0 to 8."
+pub const WAIT: u64 = 0;
+pub const TRY: u64 = 1;
+pub const TEST: u64 = 2;
+pub const SET: u64 = 3;
+pub const CHECK: u64 = 4;
+pub const CRIT: u64 = 5;
+pub const EXIT: u64 = 6;
+pub const RESET: u64 = 7;
+pub const REM: u64 = 8;
+
+/// "Only the six timed places carry the moment at which the window came there."
+#[derive(Clone, Copy, Debug, PartialEq, Eq)]
+pub enum Place {
+    Remainder,
+    Testing(u64),
+    Setting(u64),
+    Checking(u64),
+    Entering(u64),
+    Selling,
+    Resetting(u64),
+    Leaving(u64),
+}
+
+impl Place {
+    pub fn arrival(self) -> Option<u64> {
+        match self {
+            Remainder | Selling => None,
+            Testing(arrival) | Setting(arrival) | Checking(arrival) => Some(arrival),
+            Entering(arrival) | Resetting(arrival) | Leaving(arrival) => Some(arrival),
+        }
+    }
+}
+
+/// The number of windows and the limits: the values of a recording's line 2.
+#[derive(Clone, Copy, Debug, Default, PartialEq, Eq)]
+pub struct Values {
+    pub n: u64,
+    pub a: u64,
+    pub b: u64,
+    pub c: u64,
+}
+
+impl Values {
+    /// The number of the refusal, if they do not stand: "checks 11, then 12".
+    pub fn refusal(&self) -> Option<u64> {
+        if !(1..=WINDOWS as u64).contains(&self.n) {
+            return Some(WINDOW_COUNT);
+        }
+        // 1 ≤ a < b ≤ c ≤ 10,000,000
+        if !(1 <= self.a && self.a < self.b && self.b <= self.c && self.c <= LIMIT_END) {
+            return Some(LIMITS);
+        }
+        None
+    }
+}
+
+/// The table; the entry of window w is `places[w - 1]`.
+#[derive(Clone, Copy, Debug, PartialEq, Eq)]
+pub struct Table {
+    pub values: Values,
+    pub clock: u64,
+    pub word: u64,
+    pub places: [Place; WINDOWS],
+}
+
+/// "A refused fresh table returns n, a, b, c as 0; that table is otherwise like a fresh one."
+pub fn fresh(values: Values) -> (Answer, Table) {
+    let (number, values) = match values.refusal() {
+        Some(number) => (number, Values::default()),
+        None => (ACCEPTED, values),
+    };
+    let table = Table { values, clock: 0, word: 0, places: [Remainder; WINDOWS] };
+    (bare(number), table)
+}
+
+impl Table {
+    pub fn place(&self, window: u64) -> Place {
+        self.places[window as usize - 1]
+    }
+
+    /// "The earliest is arrival + b in checking, else the arrival."
+    pub fn earliest(&self, window: u64) -> Option<u64> {
+        match self.place(window) {
+            Checking(arrival) => Some(arrival + self.values.b),
+            place => place.arrival(),
+        }
+    }
+
+    /// "The latest moment is arrival + c in checking and arrival + a in the other five."
+    pub fn latest(&self, window: u64) -> Option<u64> {
+        match self.place(window) {
+            Checking(arrival) => Some(arrival + self.values.c),
+            place => place.arrival().map(|arrival| arrival + self.values.a),
+        }
+    }
+
+    /// The smallest latest moment and the lowest window that has it.
+    pub fn first_latest(&self) -> Option<(u64, u64)> {
+        let timed = |window| self.latest(window).map(|latest| (latest, window));
+        (1..=self.values.n).filter_map(timed).min()
+    }
+
+    /// The lowest-numbered window selling, 0 if none.
+    pub fn seller(&self) -> u64 {
+        (1..=WINDOWS as u64).find(|&window| self.place(window) == Selling).unwrap_or(0)
+    }
+
+    /// "Soundness looks at nothing else."
+    pub fn sound(&self) -> bool {
+        self.values.refusal().is_none()
+            && self.clock <= CLOCK_END
+            && self.word <= self.values.n
+            && (1..=WINDOWS as u64).all(|window| self.sound_at(window))
+    }
+
+    /// "Entries above n are in remainder, and for each timed place arrival ≤ clock ≤ latest moment."
+    fn sound_at(&self, window: u64) -> bool {
+        let place = self.place(window);
+        // The arrival is looked at first: one within the clock's range leaves the latest moment no overflow.
+        (window <= self.values.n || place == Remainder)
+            && place.arrival().is_none_or(|arrival| arrival <= self.clock)
+            && self.latest(window).is_none_or(|latest| self.clock <= latest)
+    }
+}
+
+/// The step without a summary.
+pub fn step(table: Table, act: u64, window: u64, moment: u64) -> (Answer, Table) {
+    if !table.sound() {
+        return (bare(NO_TABLE), table);
+    }
+    match refusal(&table, act, window, moment) {
+        Some(refusal) => (refusal, table),
+        None => accepted(table, act, window, moment),
+    }
+}
+
+/// Rows 4 to 10 of the answers, on a sound table: "the first that applies is given, in that order".
+pub fn refusal(table: &Table, act: u64, window: u64, moment: u64) -> Option<Answer> {
+    if moment < table.clock {
+        return Some(answer(BACKWARD, 0, table.clock));
+    }
+    if moment > CLOCK_END {
+        return Some(bare(END_OF_CLOCK));
+    }
+    if act > REM {
+        return Some(bare(NO_ACT));
+    }
+    let there = (1..=table.values.n).contains(&window);
+    if (act == WAIT && window != 0) || (act != WAIT && !there) {
+        return Some(bare(NO_WINDOW));
+    }
+    // Of any window, the acting one or another, and for a wait too.
+    if let Some((latest, late)) = table.first_latest().filter(|&(latest, _)| moment > latest) {
+        return Some(answer(LATE, late, latest));
+    }
+    if act == WAIT {
+        return None;
+    }
+    if !starts_from(act, table.place(window)) {
+        return Some(answer(OUT_OF_PLACE, window, 0));
+    }
+    // Of the other acts none is early: their earliest moment is the arrival, which the clock has reached.
+    let earliest = table.earliest(window).filter(|&earliest| act == CHECK && moment < earliest);
+    earliest.map(|earliest| answer(EARLY, window, earliest))
+}
+
+/// The acts table's second column, "From", but for the wait, which starts from any place.
+fn starts_from(act: u64, place: Place) -> bool {
+    matches!(
+        (act, place),
+        (TRY, Remainder)
+            | (TEST, Testing(_))
+            | (SET, Setting(_))
+            | (CHECK, Checking(_))
+            | (CRIT, Entering(_))
+            | (EXIT, Selling)
+            | (RESET, Resetting(_))
+            | (REM, Leaving(_))
+    )
+}
+
+/// "The answer to an accepted act is 0, the lowest-numbered window selling afterwards, and the clock."
+pub fn accepted(mut table: Table, act: u64, window: u64, moment: u64) -> (Answer, Table) {
+    table.clock = moment;
+    if act != WAIT {
+        table.places[window as usize - 1] = destination(&table, act, window, moment);
+    }
+    match act {
+        SET => table.word = window,
+        RESET => table.word = 0,
+        _ => {}
+    }
+    (answer(ACCEPTED, table.seller(), table.clock), table)
+}
+
+/// Where the act leads; "every move into a timed place takes the act's moment as arrival".
+fn destination(table: &Table, act: u64, window: u64, moment: u64) -> Place {
+    match act {
+        TRY => Testing(moment),
+        TEST if table.word == 0 => Setting(moment),
+        TEST => Testing(moment),
+        SET => Checking(moment),
+        CHECK if table.word == window => Entering(moment),
+        CHECK => Testing(moment),
+        CRIT => Selling,
+        EXIT => Resetting(moment),
+        RESET => Leaving(moment),
+        REM => Remainder,
+        _ => unreachable!("a wait moves no window, and an act above 8 is refused"),
+    }
+}

@@ -1,0 +1,161 @@
+//! What `replay` cannot reach: tables and summaries of any make, acts above 8, lent lists, the writer.
+//! And, over generated recordings, what document 01 says of the summary and of writing what was read.
+
+use reference::answer::*;
+use reference::generator::generate;
+use reference::machine::*;
+use reference::recording::{read, read_into, write, TEXT_END};
+use reference::summary::{recorded_step, Summary};
+
+const VALUES: Values = Values { n: 2, a: 5, b: 8, c: 12 };
+const GOOD: &[u8] = b"windows,a,b,c\n2,5,8,12\ntime,window,act\n0,1,try\n3,1,test\n";
+
+fn table() -> Table {
+    fresh(VALUES).1
+}
+
+#[test]
+fn fresh_tables() {
+    let all = |n, a, b, c| fresh(Values { n, a, b, c }).0.number;
+    assert_eq!(all(96, 5, 6, 6), ACCEPTED);
+    assert_eq!(all(0, 0, 0, 0), WINDOW_COUNT);
+    assert_eq!(all(97, 5, 6, 6), WINDOW_COUNT);
+    assert_eq!(all(1, 5, 5, 6), LIMITS);
+    assert_eq!(all(1, u64::MAX, u64::MAX, u64::MAX), LIMITS);
+    let (_, refused) = fresh(Values { n: 97, ..VALUES });
+    assert_eq!(refused, Table { values: Values::default(), ..table() });
+    assert!(!refused.sound());
+}
+
+#[test]
+fn unsound_tables() {
+    let with = |place| {
+        let mut table = Table { clock: 20, ..table() };
+        table.places[1] = place;
+        table
+    };
+    assert!(with(Place::Testing(15)).sound());
+    assert!(!with(Place::Testing(14)).sound());
+    assert!(with(Place::Checking(8)).sound());
+    assert!(!with(Place::Checking(7)).sound());
+    assert!(!with(Place::Leaving(21)).sound());
+    assert!(!with(Place::Leaving(u64::MAX)).sound());
+    assert!(!Table { word: 3, ..table() }.sound());
+    assert!(!Table { clock: CLOCK_END + 1, ..table() }.sound());
+    let mut above = table();
+    above.places[2] = Place::Selling;
+    assert_eq!(step(above, 9, 9, 0), (bare(NO_TABLE), above));
+}
+
+#[test]
+fn two_sellers_are_sound_and_the_lowest_is_named() {
+    let mut two = table();
+    two.places[0] = Place::Selling;
+    two.places[1] = Place::Selling;
+    assert_eq!(step(two, WAIT, 0, 7).0, answer(ACCEPTED, 1, 7));
+}
+
+#[test]
+fn unknown_acts() {
+    let (_, later) = step(table(), WAIT, 0, 7);
+    assert_eq!(step(later, 9, 1, 7).0, bare(NO_ACT));
+    assert_eq!(step(later, 9, 1, 6).0, answer(BACKWARD, 0, 7));
+    assert_eq!(step(later, u64::MAX, 0, u64::MAX).0, bare(END_OF_CLOCK));
+}
+
+#[test]
+fn summaries_of_any_make() {
+    let answered = |summary: Summary| {
+        let mut lent = summary.clone();
+        let (answer, _) = recorded_step(table(), &mut lent, 9, 0, 0);
+        assert_eq!(lent == summary, answer.number != NO_ACT, "only 4 to 10 are counted");
+        answer.number
+    };
+    let new = Summary::new();
+    assert_eq!(answered(new.clone()), NO_ACT);
+    assert_eq!(answered(Summary { accepted: u64::MAX, refused: 1, ..new.clone() }), NO_SUMMARY);
+    assert_eq!(answered(Summary { accepted: 5, entries: 3, exits: 3, ..new.clone() }), NO_SUMMARY);
+    assert_eq!(answered(Summary { longest_wait: 1_000_000_000_001, ..new.clone() }), NO_SUMMARY);
+    assert_eq!(answered(Summary { try_moments: [1; WINDOWS], ..new.clone() }), NO_SUMMARY);
+    assert_eq!(answered(Summary { accepted: 1_000_000_000_000, ..new.clone() }), SUMMARY_FULL);
+    assert_eq!(answered(Summary { refused: 999_999_999_999, ..new }), NO_ACT);
+}
+
+#[test]
+fn lent_lists() {
+    let (mut times, mut windows, mut acts) = ([7; 3], [7; 3], [7; 3]);
+    let short = read_into(GOOD, &mut times, &mut windows, &mut acts[..1]);
+    assert_eq!(short, (bare(SHORT_OUTPUT), Values::default()));
+    assert_eq!((times, windows, acts), ([7; 3], [7; 3], [7; 3]));
+    let unfinished = read_into(&GOOD[..GOOD.len() - 1], &mut times, &mut windows, &mut acts[..1]);
+    assert_eq!(unfinished, (answer(LINE, 0, 5), Values::default()));
+    let whole = read_into(GOOD, &mut times, &mut windows, &mut acts);
+    assert_eq!(whole, (answer(ACCEPTED, 0, 2), VALUES));
+    assert_eq!((times, windows, acts), ([0, 3, 7], [1, 1, 7], [TRY, TEST, 7]));
+}
+
+#[test]
+fn writer() {
+    let mut output = [b'.'; 60];
+    let mut written = |values, times: &[u64], windows: &[u64], acts: &[u64], room: usize| {
+        (write(values, times, windows, acts, &mut output[..room]), output)
+    };
+    let refusals = [
+        written(Values { n: 0, a: 0, ..VALUES }, &[], &[], &[], 60),
+        written(Values { a: 0, ..VALUES }, &[0], &[0], &[9], 60),
+        written(VALUES, &[0, 0], &[1, 1], &[TRY, 9], 0),
+        written(VALUES, &[10_000_000_000_000], &[0], &[WAIT], 60),
+        written(VALUES, &[0], &[100_000_000], &[WAIT], 60),
+        written(VALUES, &[0; 9_000], &[0; 9_000], &[WAIT; 9_000], 0),
+        written(VALUES, &[0, 3], &[1, 1], &[TRY, TEST], GOOD.len() - 1),
+    ];
+    assert!(refusals.iter().all(|(_, output)| *output == [b'.'; 60]));
+    let wanted = [
+        bare(WINDOW_COUNT),
+        bare(LIMITS),
+        answer(LINE, 0, 5),
+        answer(LINE, 0, 4),
+        answer(LINE, 0, 4),
+        bare(LENGTH),
+        bare(SHORT_OUTPUT),
+    ];
+    assert_eq!(refusals.map(|(answer, _)| answer), wanted);
+    let (whole, output) = written(VALUES, &[0, 3, 9], &[1, 1], &[TRY, TEST, 9], 60);
+    assert_eq!(whole, answer(ACCEPTED, 0, GOOD.len() as u64));
+    assert_eq!(output[..], [GOOD, &[b'.'; 60][GOOD.len()..]].concat());
+}
+
+/// "From a fresh table and a new summary lent to every step, entries = exits + windows selling."
+#[test]
+fn summaries_of_walks() {
+    for recording in (0..400).filter_map(|index| read(&generate(2, index).text).ok()) {
+        let (_, mut table) = fresh(recording.values);
+        let mut summary = Summary::new();
+        let mut accepted = 0;
+        for taken in &recording.steps {
+            let plain = step(table, taken.act, taken.window, taken.time);
+            assert_eq!(recorded_step(table, &mut summary, taken.act, taken.window, taken.time), plain);
+            accepted += u64::from(plain.0.number == ACCEPTED);
+            table = plain.1;
+            let selling = table.places.iter().filter(|place| **place == Place::Selling).count() as u64;
+            assert!(selling <= 1, "one seller");
+            assert_eq!(summary.entries, summary.exits + selling);
+        }
+        let refused = recording.steps.len() as u64 - accepted;
+        assert_eq!((summary.accepted, summary.refused), (accepted, refused));
+    }
+}
+
+#[test]
+fn what_was_read_is_written_again() {
+    for text in (0..400).map(|index| generate(3, index).text) {
+        let Ok(recording) = read(&text) else { continue };
+        let times: Vec<u64> = recording.steps.iter().map(|step| step.time).collect();
+        let windows: Vec<u64> = recording.steps.iter().map(|step| step.window).collect();
+        let acts: Vec<u64> = recording.steps.iter().map(|step| step.act).collect();
+        let mut output = vec![0; TEXT_END];
+        let answered = write(recording.values, &times, &windows, &acts, &mut output);
+        assert_eq!(answered, answer(ACCEPTED, 0, text.len() as u64));
+        assert_eq!(output[..text.len()], text);
+    }
+}
