@@ -1,6 +1,6 @@
 -- What the passes over a recording's lines ensure: parts of `readOf` and `writeOf`, which no reader has to believe.
 -- Assumes nothing.
-use Prim.Native.Nat.{ℕ, _+_}
+use Prim.Native.Nat.{ℕ, _+_, _≤_}
 use mathlib.Core.Path.{_≡_}
 use mathlib.Core.Bool.{cond}
 use mathlib.Core.List.{List}
@@ -21,3 +21,10 @@ tallyOf b = cond (eqb (b .fault) 0) (Steps (length (b .events))) (Fault 14 (b .f
 -- how many bytes there are, up to 65,536
 abbrev pub sizeOf : ℕ → Size
 sizeOf k = cond (ltb textLimit k) Long (Bytes k)
+
+-- `text` has been put into `old` from place `at` on and `size` says where it ends: as much of it as there is room for, unless
+-- it ends past 65,536
+pub record PutSized (old new : List ℕ) (at : ℕ) (text : List ℕ) (size : Size) : Type 0 where
+  pub sized : size ≡ sizeOf (at + length text)
+  pub same : length new ≡ length old
+  pub stored : at + length text ≤ textLimit → new ≡ sets old at text

@@ -1,7 +1,6 @@
 // Putting texts into a lent output. Each function puts as much of its text as the output has room for and answers how many
 // bytes the whole text has, so that an empty output measures it. None needs a promise.
 ghost use mathlib.Core.Path.{_≡_};
-ghost use mathlib.Core.List.{_∷_};
 ghost use Prim.Native.Nat.{_+_};
 ghost use lib.ListN.{set};
 ghost use Rattle.model.specs.Texts.{decimal, numberText, wordText, valuesText, eventText};
@@ -78,7 +77,7 @@ pub fn put_values(out: &mut [u8], at: u32, n: u64, a: u64, b: u64, c: u64) -> us
     let j = put_number(out, start + i, a, b',');
     let k = put_number(out, start + i + j, b, b',');
     let l = put_number(out, start + i + j + k, c, b'\n');
-    i + j + k + l
+    i + (j + (k + l))
 }
 
 // The line of a step.
@@ -89,5 +88,5 @@ pub fn put_event(out: &mut [u8], at: u32, time: u64, process: u64, action: u64) 
     let i = put_number(out, start, time, b',');
     let j = put_number(out, start + i, process, b',');
     let k = put_word(out, start + i + j, action);
-    i + j + k
+    i + (j + k)
 }

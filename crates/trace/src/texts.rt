@@ -5,14 +5,12 @@ use crate::puts::put_event;
 use crate::puts::put_text;
 use crate::puts::put_values;
 ghost use mathlib.Core.Path.{_≡_};
-ghost use Prim.Native.Nat.{_+_, _≤_, min};
-ghost use lib.ListN.{length};
-ghost use lib.Seq.{sets};
+ghost use Prim.Native.Nat.{_≤_, min};
 ghost use Rattle.model.specs.Texts.{hasForm, headText, eventsText, traceText};
 ghost use Rattle.model.specs.Readings.{lists};
 ghost use Rattle.model.specs.Writings.{eventsOf, formlessOf};
 ghost use Rattle.trace.specs.Puts.{Put};
-ghost use Rattle.trace.specs.Passes.{sizeOf};
+ghost use Rattle.trace.specs.Passes.{PutSized};
 
 // How many bytes a text has; or that they are more than 65,536.
 pub(crate) enum Size {
@@ -57,12 +55,12 @@ fn put_head(out: &mut [u8], n: u64, a: u64, b: u64, c: u64) -> usize
     ensures { λ r. ⌜ Put (now (out .entry)) (now (out .exit)) 0 (headText n a b c) r ⌝ }
 {
     let i = put_text(out, 0, b"windows,a,b,c\n");
-    let j = put_values(out, 14, n, a, b, c);
+    let j = put_values(out, i as u32, n, a, b, c);
     let k = put_text(out, i + j, b"time,window,act\n");
-    i + j + k
+    i + (j + k)
 }
 
-// Puts the lines of the steps from place `start` on, where the text has come to.
+// Puts the lines of the steps from place `start` on, where the text has come to, and answers where they end.
 fn put_events(
     out: &mut [u8],
     start: usize,
@@ -71,9 +69,7 @@ fn put_events(
     actions: &[u64],
 ) -> Size
     requires { ⌜ start ≤ 65536 ⌝ }
-    ensures { λ r. ⌜ r ≡ sizeOf (start + length (eventsText (eventsOf (lists (now (times .entry)) (now (processes .entry)) (now (actions .entry)))))) ⌝ }
-    ensures { λ _. ⌜ length (now (out .exit)) ≡ length (now (out .entry)) ⌝ }
-    ensures { λ _. ⌜ (start + length (eventsText (eventsOf (lists (now (times .entry)) (now (processes .entry)) (now (actions .entry))))) ≤ 65536 → now (out .exit) ≡ sets (now (out .entry)) start (eventsText (eventsOf (lists (now (times .entry)) (now (processes .entry)) (now (actions .entry)))))) ⌝ }
+    ensures { λ r. ⌜ PutSized (now (out .entry)) (now (out .exit)) start (eventsText (eventsOf (lists (now (times .entry)) (now (processes .entry)) (now (actions .entry))))) r ⌝ }
 {
     let count = least(times.len(), least(processes.len(), actions.len()));
     let mut at = start;
@@ -99,9 +95,7 @@ pub(crate) fn put_trace(
     processes: &[u64],
     actions: &[u64],
 ) -> Size
-    ensures { λ r. ⌜ r ≡ sizeOf (length (traceText n a b c (eventsOf (lists (now (times .entry)) (now (processes .entry)) (now (actions .entry)))))) ⌝ }
-    ensures { λ _. ⌜ length (now (out .exit)) ≡ length (now (out .entry)) ⌝ }
-    ensures { λ _. ⌜ (length (traceText n a b c (eventsOf (lists (now (times .entry)) (now (processes .entry)) (now (actions .entry))))) ≤ 65536 → now (out .exit) ≡ sets (now (out .entry)) 0 (traceText n a b c (eventsOf (lists (now (times .entry)) (now (processes .entry)) (now (actions .entry)))))) ⌝ }
+    ensures { λ r. ⌜ PutSized (now (out .entry)) (now (out .exit)) 0 (traceText n a b c (eventsOf (lists (now (times .entry)) (now (processes .entry)) (now (actions .entry))))) r ⌝ }
 {
     let head = put_head(out, n, a, b, c);
     put_events(out, head, times, processes, actions)

@@ -1,0 +1,26 @@
+-- `trace::texts::put_trace` meets its contract. Assumes nothing.
+use native.Mathlib.Omega.{arith}
+use Rattle.trace.proofs.Putting.{head-width}
+use Rattle.trace.proofs.Sizes.{put-sized}
+use borrow.Author.Needs.{needs}
+use Rattle.trace.proofs.texts.put_trace.Statement.{statement}
+use Rattle.trace.proofs.texts.put_trace.Tie as tie
+
+put-head-requires : tie.Need-put-head-requires
+put-head-requires c κs = search needs
+
+put-events-requires : tie.Need-put-events-requires
+put-events-requires c κs =
+    let s = c .before .before .before .before .before .before .before .before .before in
+    let a = s .args in
+    let wide = head-width (a .n) (a .a) (a .b) (a .c) (omega arith) (omega arith) (omega arith) (omega arith) in
+    omega (arith, c .before .before .before .put-head .ensures .wide)
+
+same-length : tie.Need-same-length
+same-length c = search needs
+
+returns : tie.Need-returns
+returns c = put-sized (c .before .before .before .before .before .before .put-head .ensures) (c .before .before .put-events .ensures)
+
+pub put-trace-spec : {M : Type 1} → statement M
+put-trace-spec = tie.close (tie.spec put-head-requires put-events-requires same-length returns)
