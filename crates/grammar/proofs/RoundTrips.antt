@@ -29,7 +29,7 @@ events-again (e ∷ es) = ap (λ (l : List Event). e ∷ l) (events-again es)
 front : (f : Event → ℕ) (events : List Event) (l : List ℕ) → take (length events) (over (map f events) l) ≡ map f events
 front f events l = take-at (map f events) (drop (length (map f events)) l) (length events) (length-map events f)
 
-events-back : (events : List Event) (l : Lists) → eventsOf (firstOf (length events) (stored events l)) ≡ events
+pub events-back : (events : List Event) (l : Lists) → eventsOf (firstOf (length events) (stored events l)) ≡ events
 events-back events l =
     rw (
       front (λ (e : Event). e .time) events (l .times),
@@ -41,15 +41,15 @@ events-back events l =
 -- A writing is answered with 0 where the trace has a form and its text has room, and nowhere else
 
 module _ (n a b c : ℕ) (events : List Event) (out : List ℕ) where
-  write-done : Formed n a b c events → length (traceText n a b c events) ≤ length out
+  pub write-done : Formed n a b c events → length (traceText n a b c events) ≤ length out
       → writeOf n a b c events out ≡ written (traceText n a b c events) out
   unfolding writeOf fitted
   write-done f h = simp (f .count, f .limits, f .forms, le-ltb _ _ (f .short), le-ltb _ _ h)
 
-  abbrev Done : Written → Type 0
+  abbrev pub Done : Written → Type 0
   Done w = w .answer .code ≡ 0 → Formed n a b c events × (length (traceText n a b c events) ≤ length out)
 
-  write-was : Done (writeOf n a b c events out)
+  pub write-was : Done (writeOf n a b c events out)
   unfolding writeOf fitted
   write-was =
       by-cond Done (not (countStands n)) (λ _ e. absurd (omega arith)) (λ t1.

@@ -1,7 +1,8 @@
 // Reads a recording on standard input and prints its report.
 ghost use mathlib.Core.Path.{_≡_};
 ghost use lib.ListN.{length};
-use libc::{STDIN_FILENO, STDOUT_FILENO};
+use libc::STDIN_FILENO;
+use libc::STDOUT_FILENO;
 
 fn input() -> [u8; 65537]
     ensures { λ r. ⌜ 65537 ≡ length r ⌝ }

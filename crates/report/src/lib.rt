@@ -56,7 +56,14 @@ fn put_run(out: &mut [u8], first: State, times: &[u64], processes: &[u64], actio
         let outcome = step(state, actions[i], processes[i], times[i]);
         let answer = outcome.answer;
         let at = (size + 26) as u32;
-        size += put_values(out, at, (i as u64) + 4, answer.code, answer.process, answer.time);
+        size += put_values(
+            out,
+            at,
+            (i as u64) + 4,
+            answer.code,
+            answer.process,
+            answer.time,
+        );
         let next = outcome.state;
         state = next;
         i += 1;
@@ -82,7 +89,14 @@ fn put_report(text: &[u8], out: &mut [u8]) -> usize
     let count = answer.time as usize;
     let outcome = fresh(reading.n, reading.a, reading.b, reading.c);
     let state = outcome.state;
-    names + put_run(out, state, &times[..count], &processes[..count], &actions[..count])
+    names
+        + put_run(
+            out,
+            state,
+            &times[..count],
+            &processes[..count],
+            &actions[..count],
+        )
 }
 
 fn answer_with(code: u64, time: u64) -> Answer

@@ -33,9 +33,9 @@ put-one e = record { stored = e; wide = refl }
 -- one text after the other
 pub put-both : {old mid new x y : List ℕ} {at i j : ℕ} → Put old mid at x i → Put mid new (at + i) y j → Put old new at (x ++ y) (i + j)
 put-both {old} {mid} {new} {x} {y} {at} {i} {j} f g =
-    record
-    { stored = g .stored ∙ rw (f .stored, f .wide) (sym (sets-append x y old at))
-    ; wide = omega (arith, f .wide, g .wide, length-append x y)
+    record {
+      stored = g .stored ∙ rw (f .stored, f .wide) (sym (sets-append x y old at));
+      wide = omega (arith, f .wide, g .wide, length-append x y);
     }
 
 -- a text at the start, and one after it

@@ -22,12 +22,12 @@ pub tally-steps : (b : Body) (count : ℕ) → tallyOf b ≡ Steps count → Cou
 tally-steps b count e =
     if-eq (b .fault) 0
     (λ z.
-        let s : Steps (length (b .events)) ≡ Steps count = simp (eq-eqb (b .fault) 0 z) at e in
-        record { whole = z; many = cc })
+    let s : Steps (length (b .events)) ≡ Steps count = simp (eq-eqb (b .fault) 0 z) at e in
+    record { whole = z; many = cc })
     (λ z.
-        let s : Fault 14 (b .fault) ≡ Steps count = simp (ne-eqb (b .fault) 0 z) at e in
-        let n : _≡_ {A = ℕ} 0 1 = cc in
-        absurd (omega arith))
+    let s : Fault 14 (b .fault) ≡ Steps count = simp (ne-eqb (b .fault) 0 z) at e in
+    let n : _≡_ {A = ℕ} 0 1 = cc in
+    absurd (omega arith))
 
 pub record Faulty (b : Body) (code line : ℕ) : Type 0 where
   pub broken : b .fault ≡ 0 → ⊥
@@ -38,12 +38,12 @@ pub tally-fault : (b : Body) (code line : ℕ) → tallyOf b ≡ Fault code line
 tally-fault b code line e =
     if-eq (b .fault) 0
     (λ z.
-        let s : Steps (length (b .events)) ≡ Fault code line = simp (eq-eqb (b .fault) 0 z) at e in
-        let n : _≡_ {A = ℕ} 0 1 = cc in
-        absurd (omega arith))
+    let s : Steps (length (b .events)) ≡ Fault code line = simp (eq-eqb (b .fault) 0 z) at e in
+    let n : _≡_ {A = ℕ} 0 1 = cc in
+    absurd (omega arith))
     (λ z.
-        let s : Fault 14 (b .fault) ≡ Fault code line = simp (ne-eqb (b .fault) 0 z) at e in
-        record { broken = z; named = cc; here = cc })
+    let s : Fault 14 (b .fault) ≡ Fault code line = simp (ne-eqb (b .fault) 0 z) at e in
+    record { broken = z; named = cc; here = cc })
 
 -- The ways out
 

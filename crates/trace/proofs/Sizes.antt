@@ -28,10 +28,10 @@ left-all = record { ends = refl; same = refl; stored = refl }
 pub left-next : {old whole mid new x y : List ℕ} {start at k : ℕ}
     → Left old start whole mid at (x ++ y) → Put mid new at x k → Left old start whole new (at + k) y
 left-next {mid = mid} {x = x} {y = y} {at = at} f p =
-    record
-    { ends = omega (arith, f .ends, p .wide, length-append x y)
-    ; same = ap length (p .stored) ∙ (length-sets mid at x ∙ f .same)
-    ; stored = rw (p .stored, p .wide) (sym (sets-append x y mid at) ∙ f .stored)
+    record {
+      ends = omega (arith, f .ends, p .wide, length-append x y);
+      same = ap length (p .stored) ∙ (length-sets mid at x ∙ f .same);
+      stored = rw (p .stored, p .wide) (sym (sets-append x y mid at) ∙ f .stored);
     }
 
 pub left-nothing : {old whole new : List ℕ} {start at : ℕ}
@@ -43,20 +43,20 @@ left-nothing {whole = whole} {start = start} {at = at} f h =
 pub left-long : {old whole new rest : List ℕ} {start at : ℕ}
     → Left old start whole new at rest → textLimit < at → PutSized old new start whole Long
 left-long {whole = whole} {start = start} f h =
-    record
-    { sized = rw (lt-ltb textLimit (start + length whole) (omega (arith, f .ends)))
-    ; same = f .same
-    ; stored = λ (s : start + length whole ≤ textLimit). absurd (omega (arith, f .ends))
+    record {
+      sized = rw (lt-ltb textLimit (start + length whole) (omega (arith, f .ends)));
+      same = f .same;
+      stored = λ (s : start + length whole ≤ textLimit). absurd (omega (arith, f .ends));
     }
 
 -- the rest is put
 pub left-rest : {old whole mid new rest : List ℕ} {start at : ℕ} {size : Size}
     → Left old start whole mid at rest → PutSized mid new at rest size → PutSized old new start whole size
 left-rest {whole = whole} {start = start} f p =
-    record
-    { sized = rw (f .ends) at (p .sized)
-    ; same = p .same ∙ f .same
-    ; stored = λ (h : start + length whole ≤ textLimit). p .stored (omega (arith, f .ends)) ∙ f .stored
+    record {
+      sized = rw (f .ends) at (p .sized);
+      same = p .same ∙ f .same;
+      stored = λ (h : start + length whole ≤ textLimit). p .stored (omega (arith, f .ends)) ∙ f .stored;
     }
 
 -- a text at the start, and one after it
@@ -74,8 +74,8 @@ size-bytes {text = text} {k = k} p =
     if-lt textLimit (0 + length text)
     (λ h. let e : Bytes k ≡ Long = rw (lt-ltb textLimit (0 + length text) h) at (p .sized) in never e)
     (λ h. let e : Bytes k ≡ Bytes (0 + length text) = rw (le-ltb textLimit (0 + length text) h) at (p .sized) in
-        let q : k ≡ 0 + length text = cc in
-        (omega arith, omega arith))
+    let q : k ≡ 0 + length text = cc in
+    (omega arith, omega arith))
 
 pub size-long : {old new text : List ℕ} → PutSized old new 0 text Long → textLimit < length text
 size-long {text = text} p =

@@ -29,9 +29,9 @@ module _ (f : Event → ℕ) (s : List ℕ) (at i : ℕ) (old new : List ℕ) (s
   pub stored-step : (t p a k : ℕ) → at < length s → eventAt (i + 4) (drop at s) ≡ Step t p a k
       → Stored f s (at + k) (i + 1) old (set new i (f (record { time = t; process = p; action = a })))
   stored-step t p a k h e =
-      record
-      { long = length-set new i (f (record { time = t; process = p; action = a })) ∙ st .long
-      ; done = rw add-one (rw (along-turn s at i t p a k h e, add-one) at (st .done))
+      record {
+        long = length-set new i (f (record { time = t; process = p; action = a })) ∙ st .long;
+        done = rw add-one (rw (along-turn s at i t p a k h e, add-one) at (st .done));
       }
 
   -- there is a place for the next step

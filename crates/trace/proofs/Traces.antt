@@ -36,9 +36,9 @@ module _ (l : Lists) (i : ℕ) where
   events-end h =
       if-lt i (length (l .times))
       (λ f. if-lt i (length (l .processes))
-          (λ g. let z : length (l .actions) ≤ i = omega arith in
-              rw (drop-of-length-le (l .actions) z) (none-third (drop i (l .times)) (drop i (l .processes))))
-          (λ g. rw (drop-of-length-le (l .processes) g) (none-second (drop i (l .times)) (drop i (l .actions)))))
+      (λ g. let z : length (l .actions) ≤ i = omega arith in
+      rw (drop-of-length-le (l .actions) z) (none-third (drop i (l .times)) (drop i (l .processes))))
+      (λ g. rw (drop-of-length-le (l .processes) g) (none-second (drop i (l .times)) (drop i (l .actions)))))
       (λ f. rw (drop-of-length-le (l .times) f))
 
   pub formless-end : (line : ℕ) → room l ≤ i → formlessFrom line (eventsOf (from i l)) ≡ 0

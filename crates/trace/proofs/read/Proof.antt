@@ -35,7 +35,7 @@ width c = c .before .first2 .given .0 .1 .1 .1 .1 .0
 
 head-read : (c : tie.After-known-told2)
     → headOf (text c)
-      ≡ Values (c .before .first2 .given .0 .0) (c .before .first2 .given .0 .1 .0) (c .before .first2 .given .0 .1 .1 .0) (c .before .first2 .given .0 .1 .1 .1 .0) (width c)
+    ≡ Values (c .before .first2 .given .0 .0) (c .before .first2 .given .0 .1 .0) (c .before .first2 .given .0 .1 .1 .0) (c .before .first2 .given .0 .1 .1 .1 .0) (width c)
 head-read c = sym (c .before .before .before .head-of .ensures) ∙ c .before .first2 .given .1
 
 head-fits : (c : tie.After-known-told2) → width c ≤ length (text c)

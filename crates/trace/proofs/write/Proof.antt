@@ -21,13 +21,13 @@ use Rattle.trace.proofs.write.Tie as tie
 abbrev task : tie.Start → Task
 task c =
     let a = c .args in
-    record
-    { n = a .n
-    ; a = a .a
-    ; b = a .b
-    ; c = a .c
-    ; events = eventsOf (lists (a .times .now) (a .processes .now) (a .actions .now))
-    ; out = a .out .now
+    record {
+      n = a .n;
+      a = a .a;
+      b = a .b;
+      c = a .c;
+      events = eventsOf (lists (a .times .now) (a .processes .now) (a .actions .now));
+      out = a .out .now;
     }
 
 counted : (c : tie.Else1) → countStands (task (c .before .before .before .before .before .before) .n) ≡ true
@@ -43,10 +43,10 @@ whole c = task (c .before .before .before .before .before .before .before .befor
 
 sound : (c : tie.After-put-trace) → Sound (whole c)
 sound c =
-    record
-    { counted = counted (c .before .before .before .before .before .before)
-    ; limited = limited (c .before .before .before .before)
-    ; formed = sym (c .before .before .before .formless .ensures) ∙ c .before .before .if3 .left
+    record {
+      counted = counted (c .before .before .before .before .before .before);
+      limited = limited (c .before .before .before .before);
+      formed = sym (c .before .before .before .formless .ensures) ∙ c .before .before .if3 .left;
     }
 
 -- measuring leaves the bytes as they were lent
@@ -58,7 +58,7 @@ long c = size-long (rw (c .enum-told .given .1) at (c .before .before .before .b
 
 size : (c : tie.After-known-told)
     → let text = textOf (whole (c .before .before .before .before .before)) in
-      (c .before .measured .given .0 .0 ≡ length text) × (length text ≤ textLimit)
+    (c .before .measured .given .0 .0 ≡ length text) × (length text ≤ textLimit)
 size c = size-bytes (rw (c .before .measured .given .1) at (c .before .before .before .before .before .put-trace .ensures))
 
 count-stands-requires : tie.Need-count-stands-requires
@@ -145,7 +145,7 @@ same-length-3 c = search needs
 
 finished : (c : tie.After-put-trace2)
     → let w = whole (c .before .before .before .before .before .before .before .before) in
-      length (textOf w) ≤ textLimit → c .put-trace2 .last .0 ≡ sets (w .out) 0 (textOf w)
+    length (textOf w) ≤ textLimit → c .put-trace2 .last .0 ≡ sets (w .out) 0 (textOf w)
 finished c h = rw (untouched (c .before .before .before .before .before .before .before .before)) at (c .put-trace2 .ensures .stored (omega arith))
 
 returns-6 : tie.Need-returns-6

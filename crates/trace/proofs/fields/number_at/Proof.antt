@@ -26,8 +26,8 @@ abbrev μ-loop : tie.MeasureT-loop
 -- what is left of the number at the byte that was read
 turn : (c : tie.After-shared-slice-known2 Inv-loop μ-loop)
     → (let v = c .before .before .loop in
-      let a = c .before .before .before .before .args in
-      numberTurn (a .bound) (a .end) (v .v) (v .i) (getD (a .s .now) (v .i) 0) (drop (v .i + 1) (a .s .now)) ≡ numberAt (a .bound) (a .end) (a .s .now))
+    let a = c .before .before .before .before .args in
+    numberTurn (a .bound) (a .end) (v .v) (v .i) (getD (a .s .now) (v .i) 0) (drop (v .i + 1) (a .s .now)) ≡ numberAt (a .bound) (a .end) (a .s .now))
 turn c =
     let v = c .before .before .loop in
     let a = c .before .before .before .before .args in
@@ -39,10 +39,10 @@ digit c = c .before .before .before .before .before
 
 digit-turn : (c : tie.Else5 Inv-loop μ-loop)
     → (let v = c .before .before .before .before .before .before .before .loop in
-      let a = c .before .before .before .before .before .before .before .before .before .args in
-      cond (leb (a .bound) (v .v * 10 + (getD (a .s .now) (v .i) 0 - 48))) Bad
-      (numberFrom (a .bound) (a .end) (v .v * 10 + (getD (a .s .now) (v .i) 0 - 48)) (v .i + 1) (drop (v .i + 1) (a .s .now)))
-      ≡ numberAt (a .bound) (a .end) (a .s .now))
+    let a = c .before .before .before .before .before .before .before .before .before .args in
+    cond (leb (a .bound) (v .v * 10 + (getD (a .s .now) (v .i) 0 - 48))) Bad
+    (numberFrom (a .bound) (a .end) (v .v * 10 + (getD (a .s .now) (v .i) 0 - 48)) (v .i + 1) (drop (v .i + 1) (a .s .now)))
+    ≡ numberAt (a .bound) (a .end) (a .s .now))
 digit-turn c =
     simp (ne-eqb _ _ (c .before .before .before .before .if1 .left), le-ltb _ _ (c .before .before .before .if3 .left), le-ltb _ _ (c .before .before .if4 .left), sym (c .before .has-leading-zero .ensures) ∙ c .if5 .left) at
     (turn (digit c))
@@ -73,7 +73,7 @@ returns-3 c = simp (ne-eqb _ _ (c .before .if1 .left), lt-ltb _ _ (c .if3 .taken
 
 -- src/fields.rt:101:13
 returns-4 : tie.Need-returns-4 Inv-loop μ-loop
-returns-4 c = 
+returns-4 c =
     simp (ne-eqb _ _ (c .before .before .if1 .left), le-ltb _ _ (c .before .if3 .left), lt-ltb _ _ (c .if4 .taken)) at (turn (c .before .before .before))
 
 -- src/fields.rt:103:12
@@ -82,7 +82,7 @@ has-leading-zero-requires c κs = search needs
 
 -- src/fields.rt:104:13
 returns-5 : tie.Need-returns-5 Inv-loop μ-loop
-returns-5 c = 
+returns-5 c =
     simp (ne-eqb _ _ (c .before .before .before .before .if1 .left), le-ltb _ _ (c .before .before .before .if3 .left), le-ltb _ _ (c .before .before .if4 .left), sym (c .before .has-leading-zero .ensures) ∙ c .if5 .taken) at
     (turn (c .before .before .before .before .before))
 
@@ -112,7 +112,7 @@ loop-less c = search needs
 
 -- src/fields.rt:89:5
 loop-again : tie.Need-loop-again Inv-loop μ-loop
-loop-again c = 
+loop-again c =
     (omega arith, omega arith, rw (c .before .wide .ensures) (simp (lt-leb _ _ (rw (c .before .wide .ensures) at (c .if6 .left))) at (digit-turn (c .before .before))))
 
 -- src/fields.rt:83:1

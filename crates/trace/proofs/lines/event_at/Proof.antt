@@ -74,9 +74,14 @@ fits3 c = took-le (word-was _ _ _ (read3 c) .0)
 -- the three fields lie within the text
 within : (c : tie.After-known-told3) → k1 (to1 (to2 c)) + k2 (to2 c) + k3 c ≤ length (s1 (to1 (to2 c)))
 within c =
-    omega
-    (arith, length-drop (k1 (to1 (to2 c))) (s1 (to1 (to2 c))), length-drop (k2 (to2 c)) (s2 (to2 c)),
-    fits1 (to1 (to2 c)), fits2 (to2 c), fits3 c)
+    omega (
+      arith,
+      length-drop (k1 (to1 (to2 c))) (s1 (to1 (to2 c))),
+      length-drop (k2 (to2 c)) (s2 (to2 c)),
+      fits1 (to1 (to2 c)),
+      fits2 (to2 c),
+      fits3 c,
+    )
 
 -- src/lines.rt:154:9
 number-at-requires : tie.Need-number-at-requires

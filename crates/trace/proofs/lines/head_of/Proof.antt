@@ -154,7 +154,7 @@ starts-with-requires-2 c κs = search needs
 
 -- src/lines.rt:247:9
 returns-6 : tie.Need-returns-6
-returns-6 c = 
+returns-6 c =
     sym (simp (counted (c .before .before .before .before .before .before), limited (c .before .before .before .before), rw part-is at (sym (c .before .starts-with2 .ensures) ∙ not-true _ (c .if5 .taken))) at (head3 (c .before .before .before .before .before .before .before .before)))
 
 -- src/lines.rt:249:30
@@ -163,7 +163,7 @@ add-t11 c = omega (arith, after-values (c .before .before .before .before .befor
 
 -- src/lines.rt:226:1
 returns-7 : tie.Need-returns-7
-returns-7 c = 
+returns-7 c =
     sym (simp (counted (c .before .before .before .before .before .before), limited (c .before .before .before .before), rw part-is at (sym (c .before .starts-with2 .ensures) ∙ not-false _ (c .if5 .left))) at (head3 (c .before .before .before .before .before .before .before .before)))
 
 pub head-of-spec : {M : Type 1} → statement M

@@ -92,9 +92,16 @@ fits4 c = took-le (number-was numberBound newline _ _ _ (omega arith) (read4 c) 
 within : (c : tie.After-known-told4)
     → k1 (to1 (to2 (to3 c))) + k2 (to2 (to3 c)) + k3 (to3 c) + k4 c ≤ length (s1 (to1 (to2 (to3 c))))
 within c =
-    omega
-    (arith, length-drop (k1 (to1 (to2 (to3 c)))) (s1 (to1 (to2 (to3 c)))), length-drop (k2 (to2 (to3 c))) (s2 (to2 (to3 c))),
-    length-drop (k3 (to3 c)) (s3 (to3 c)), fits1 (to1 (to2 (to3 c))), fits2 (to2 (to3 c)), fits3 (to3 c), fits4 c)
+    omega (
+      arith,
+      length-drop (k1 (to1 (to2 (to3 c)))) (s1 (to1 (to2 (to3 c)))),
+      length-drop (k2 (to2 (to3 c))) (s2 (to2 (to3 c))),
+      length-drop (k3 (to3 c)) (s3 (to3 c)),
+      fits1 (to1 (to2 (to3 c))),
+      fits2 (to2 (to3 c)),
+      fits3 (to3 c),
+      fits4 c,
+    )
 
 -- src/lines.rt:174:9
 number-at-requires : tie.Need-number-at-requires
@@ -198,7 +205,7 @@ enum-told-4 c = search needs
 -- src/lines.rt:190:9
 returns-4 : tie.Need-returns-4
 unfolding valuesAt
-returns-4 c = 
+returns-4 c =
     let k = c .before .before .before .before in
     rw (read1 (to1 (to2 k)), read2 (to2 k), read3 k, rw (part-is, part-is, part-is) at (sym (c .before .before .number-at4 .ensures) ∙ c .enum-told4 .given .1))
 

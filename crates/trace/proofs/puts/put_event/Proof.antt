@@ -18,7 +18,7 @@ two c =
 
 three : (c : tie.After-put-word)
     → let second = c .before .before .before .before in
-      second .before .before .before .before .put-number .result + second .put-number2 .result + c .put-word .result ≤ 48
+    second .before .before .before .before .put-number .result + second .put-number2 .result + c .put-word .result ≤ 48
 three c =
     let s = c .before .before .before .before .before .before .before .before .before .before .before in
     omega (arith, two (c .before .before .before .before), c .put-word .ensures .wide, word-width (s .args .action))

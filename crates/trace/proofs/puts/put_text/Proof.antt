@@ -37,10 +37,10 @@ loop-again : tie.Need-loop-again Inv-loop μ-loop
 loop-again c =
     let v = c .before .before .before .before .before .before .loop in
     let a = c .before .before .before .before .before .before .before .before .before .args in
-    let e = c .before .before .put-byte .ensures in
-    ( omega arith
-    , ap length e ∙ simp length-set (v .inv .1)
-    , rw e (sym (sets-at (v .out) (a .text .now) (a .at) (v .i) (c .before .before .before .before .before .loop-test .taken)) ∙ v .inv .2)
+    let e = c .before .before .put-byte .ensures in (
+      omega arith,
+      ap length e ∙ simp length-set (v .inv .1),
+      rw e (sym (sets-at (v .out) (a .text .now) (a .at) (v .i) (c .before .before .before .before .before .loop-test .taken)) ∙ v .inv .2),
     )
 
 same-length : tie.Need-same-length Inv-loop μ-loop

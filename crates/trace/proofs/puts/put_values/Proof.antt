@@ -18,15 +18,15 @@ two c =
 
 three : (c : tie.After-put-number3)
     → let second = c .before .before .before .before in
-      second .before .before .before .before .put-number .result + second .put-number2 .result + c .put-number3 .result ≤ 63
+    second .before .before .before .before .put-number .result + second .put-number2 .result + c .put-number3 .result ≤ 63
 three c =
     let s = c .before .before .before .before .before .before .before .before .before .before .before in
     omega (arith, two (c .before .before .before .before), number-narrow (s .args .b) comma (omega arith) (c .put-number3 .ensures))
 
 four : (c : tie.After-put-number4)
     → let third = c .before .before .before .before in
-      let second = third .before .before .before .before in
-      second .before .before .before .before .put-number .result + second .put-number2 .result + third .put-number3 .result + c .put-number4 .result ≤ 84
+    let second = third .before .before .before .before in
+    second .before .before .before .before .put-number .result + second .put-number2 .result + third .put-number3 .result + c .put-number4 .result ≤ 84
 four c =
     let s = c .before .before .before .before .before .before .before .before .before .before .before .before .before .before .before in
     omega (arith, three (c .before .before .before .before), number-narrow (s .args .c) newline (omega arith) (c .put-number4 .ensures))

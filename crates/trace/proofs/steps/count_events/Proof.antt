@@ -39,7 +39,7 @@ more c = c .before .before .before .before .before .loop-test .taken
 
 step-read : (c : tie.After-known-told Inv-loop μ-loop)
     → eventAt (past c + 4) (drop (start c) (text c))
-      ≡ Step (c .before .row .given .0 .0) (c .before .row .given .0 .1 .0) (c .before .row .given .0 .1 .1 .0) (width c)
+    ≡ Step (c .before .row .given .0 .0) (c .before .row .given .0 .1 .0) (c .before .row .given .0 .1 .1 .0) (width c)
 step-read c = rw part-is at (sym (c .before .before .before .event-at .ensures) ∙ c .before .row .given .1)
 
 -- src/steps.rt:259:5
@@ -76,7 +76,7 @@ enum-told c = search needs
 
 -- src/steps.rt:263:13
 returns : tie.Need-returns Inv-loop μ-loop
-returns c = 
+returns c =
     let v = c .before .before .before .before .before .loop in
     let f = along-fault (c .before .before .before .before .before .before .before .args .s .now) (v .at) (v .count) (v .inv) _ _ (c .before .before .before .before .loop-test .taken) (rw part-is at (sym (c .before .before .event-at .ensures) ∙ c .enum-told .given .1)) in
     rw (f .1) (simp (ne-eqb (v .count + 4) 0 (λ (z : v .count + 4 ≡ 0). omega arith)))

@@ -42,7 +42,7 @@ more c = c .before .before .before .before .before .loop-test .taken
 
 step-read : (c : tie.After-known-told Inv-loop μ-loop)
     → eventAt (past c + 4) (drop (start c) (text c))
-      ≡ Step (c .before .row .given .0 .0) (c .before .row .given .0 .1 .0) (c .before .row .given .0 .1 .1 .0) (width c)
+    ≡ Step (c .before .row .given .0 .0) (c .before .row .given .0 .1 .0) (c .before .row .given .0 .1 .1 .0) (width c)
 step-read c = rw part-is at (sym (c .before .before .before .event-at .ensures) ∙ c .before .row .given .1)
 
 place-times : (c : tie.After-known-told Inv-loop μ-loop) → past c < length (c .before .before .before .before .before .before .loop .times)
@@ -57,7 +57,7 @@ place-actions c = let v = c .before .before .before .before .before .before .loo
 -- the line that is no step
 fault : (c : tie.After-enum-told Inv-loop μ-loop)
     → (let v = c .before .before .before .before .before .loop in
-      eventAt (v .i + 4) (drop (v .at) (c .before .before .before .before .before .before .before .before .before .before .args .s .now)) ≡ Unread (c .enum-told .given .0 .0) (c .enum-told .given .0 .1 .0))
+    eventAt (v .i + 4) (drop (v .at) (c .before .before .before .before .before .before .before .before .before .before .args .s .now)) ≡ Unread (c .enum-told .given .0 .0) (c .enum-told .given .0 .1 .0))
 fault c = rw part-is at (sym (c .before .before .event-at .ensures) ∙ c .enum-told .given .1)
 
 -- src/steps.rt:282:5
@@ -106,13 +106,16 @@ same-length-3 c = c .before .before .before .before .before .loop .inv .3 .long
 
 -- src/steps.rt:286:13
 returns : tie.Need-returns Inv-loop μ-loop
-returns c = 
+returns c =
     let v = c .before .before .before .before .before .loop in
     let h = c .before .before .before .before .loop-test .taken in
-    let fits = c .before .before .before .before .before .before .before .before .before .before .pre in
-    (stored-fault _ _ _ _ _ _ (v .inv .1) _ _ h (fault c) (fits .0),
-    (stored-fault _ _ _ _ _ _ (v .inv .2) _ _ h (fault c) (fits .1 .0),
-    stored-fault _ _ _ _ _ _ (v .inv .3) _ _ h (fault c) (fits .1 .1)))
+    let fits = c .before .before .before .before .before .before .before .before .before .before .pre in (
+      stored-fault _ _ _ _ _ _ (v .inv .1) _ _ h (fault c) (fits .0),
+      (
+        stored-fault _ _ _ _ _ _ (v .inv .2) _ _ h (fault c) (fits .1 .0),
+        stored-fault _ _ _ _ _ _ (v .inv .3) _ _ h (fault c) (fits .1 .1),
+      ),
+    )
 
 -- src/steps.rt:288:9
 mul-times : tie.Need-mul-times Inv-loop μ-loop
@@ -152,12 +155,13 @@ loop-less c = omega (arith, along-more (text c) (start c) (past c) _ _ _ (width 
 
 -- src/steps.rt:282:5
 loop-again : tie.Need-loop-again Inv-loop μ-loop
-loop-again c = 
-    let v = c .before .before .before .before .before .before .loop in
-    (along-step (text c) (start c) (past c) _ _ _ (width c) (more c) (step-read c) (v .inv .0),
-    stored-step _ _ _ _ _ _ (v .inv .1) _ _ _ (width c) (more c) (step-read c),
-    stored-step _ _ _ _ _ _ (v .inv .2) _ _ _ (width c) (more c) (step-read c),
-    stored-step _ _ _ _ _ _ (v .inv .3) _ _ _ (width c) (more c) (step-read c))
+loop-again c =
+    let v = c .before .before .before .before .before .before .loop in (
+      along-step (text c) (start c) (past c) _ _ _ (width c) (more c) (step-read c) (v .inv .0),
+      stored-step _ _ _ _ _ _ (v .inv .1) _ _ _ (width c) (more c) (step-read c),
+      stored-step _ _ _ _ _ _ (v .inv .2) _ _ _ (width c) (more c) (step-read c),
+      stored-step _ _ _ _ _ _ (v .inv .3) _ _ _ (width c) (more c) (step-read c),
+    )
 
 -- src/steps.rt:272:1
 same-length-4 : tie.Need-same-length-4 Inv-loop μ-loop
@@ -173,13 +177,16 @@ same-length-6 c = c .before .loop .inv .3 .long
 
 -- src/steps.rt:272:1
 returns-2 : tie.Need-returns-2 Inv-loop μ-loop
-returns-2 c = 
+returns-2 c =
     let v = c .before .loop in
     let h = c .loop-test .left in
-    let fits = c .before .before .before .before .before .before .pre in
-    (stored-end _ _ _ _ _ _ (v .inv .1) h (v .inv .0 .inside) (fits .0),
-    (stored-end _ _ _ _ _ _ (v .inv .2) h (v .inv .0 .inside) (fits .1 .0),
-    stored-end _ _ _ _ _ _ (v .inv .3) h (v .inv .0 .inside) (fits .1 .1)))
+    let fits = c .before .before .before .before .before .before .pre in (
+      stored-end _ _ _ _ _ _ (v .inv .1) h (v .inv .0 .inside) (fits .0),
+      (
+        stored-end _ _ _ _ _ _ (v .inv .2) h (v .inv .0 .inside) (fits .1 .0),
+        stored-end _ _ _ _ _ _ (v .inv .3) h (v .inv .0 .inside) (fits .1 .1),
+      ),
+    )
 
 pub store-events-spec : {M : Type 1} → statement M
 store-events-spec =

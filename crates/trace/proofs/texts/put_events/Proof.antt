@@ -70,9 +70,9 @@ same-length c = search needs
 -- step i is put
 went : (c : tie.After-slice-known2 Inv-loop μ-loop)
     → let v = c .before .before .before .before .before .before .before .before .loop in
-      let s = c .before .before .before .before .before .before .before .before .before .before .before .before .before .before .before in
-      Left (s .args .out .now) (s .args .start) (eventsText (eventsOf (given s)))
-      (c .before .before .put-event .last .0) (v .at + c .before .before .put-event .result) (eventsText (eventsOf (from (v .i + 1) (given s))))
+    let s = c .before .before .before .before .before .before .before .before .before .before .before .before .before .before .before in
+    Left (s .args .out .now) (s .args .start) (eventsText (eventsOf (given s)))
+    (c .before .before .put-event .last .0) (v .at + c .before .before .put-event .result) (eventsText (eventsOf (from (v .i + 1) (given s))))
 went c =
     let v = c .before .before .before .before .before .before .before .before .loop in
     let s = c .before .before .before .before .before .before .before .before .before .before .before .before .before .before .before in

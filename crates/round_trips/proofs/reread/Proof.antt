@@ -1,0 +1,112 @@
+use Prim.Native.Nat.{_≤_}
+use mathlib.Core.Path.{_≡_, sym, ap, _∙_}
+use lib.ListN.{length}
+use lib.Seq.{length-take-le}
+use Rattle.model.specs.declared.Answer.{Answer}
+use Rattle.model.specs.Readings.{Lists, lists, Read}
+use Rattle.model.specs.Writings.{eventsOf, Written, writeOf}
+use Rattle.round_trips.proofs.Trips.{Writes, written-held, reread-refused, reread-done, reread-same}
+use borrow.Author.Needs.{needs}
+use Rattle.round_trips.proofs.reread.Statement.{statement}
+use Rattle.round_trips.proofs.reread.Tie as tie
+use Rattle.round_trips.proofs.reread.Reads as reads
+use Rattle.round_trips.proofs.reread.Lts as lts
+use Rattle.round_trips.proofs.not_read.Reads as not-read-reads
+use Rattle.trace.proofs.read.Reads as read-reads
+use Rattle.trace.proofs.write.Reads as write-reads
+
+-- what was lent, where the writing has been answered
+abbrev lent : tie.After-write → Lists
+lent c = let a = c .before .before .before .before .before .before .before .before .before .args in lists (a .times .now) (a .processes .now) (a .actions .now)
+
+abbrev lent2 : tie.After-write → Lists
+lent2 c = let a = c .before .before .before .before .before .before .before .before .before .args in lists (a .times2 .now) (a .processes2 .now) (a .actions2 .now)
+
+abbrev text : tie.After-write → Written
+text c = let a = c .before .before .before .before .before .before .before .before .before .args in writeOf (a .n) (a .a) (a .b) (a .c) (eventsOf (lent c)) (a .out .now)
+
+-- what the writing ensures
+was-written : (c : tie.After-write) → Writes (text c) (c .write .result) (c .write .last .1 .1 .1 .1 .1 .1 .1 .0)
+was-written c = record { answer-is = c .write .ensures .0; out-is = c .write .ensures .1 }
+
+fits : (c : tie.After-write) → c .write .result .code ≡ 0 → c .write .result .time ≤ length (c .write .last .1 .1 .1 .1 .1 .1 .1 .0)
+fits c = let a = c .before .before .before .before .before .before .before .before .before .args in written-held (a .n) (a .a) (a .b) (a .c) (eventsOf (lent c)) (a .out .now) (was-written c)
+
+-- src/lib.rt:83:9
+write-requires : tie.Need-write-requires
+write-requires c κs = search needs
+
+-- src/lib.rt:85:9
+not-read-requires : tie.Need-not-read-requires
+not-read-requires c κs = search needs
+
+-- src/lib.rt:85:9
+same-length : tie.Need-same-length
+same-length c = search needs
+
+-- src/lib.rt:85:9
+returns : tie.Need-returns
+returns c =
+    let k = c .before .before .before .before .before in
+    let w = was-written k in
+    let e = reread-refused w (lent2 k) (c .before .if1 .taken) in
+    (rw e (c .not-read .ensures), (w .out-is, (rw e, (rw e, (rw e, λ z _. absurd (c .before .if1 .taken (ap (λ (x : Answer). x .code) (w .answer-is) ∙ z)))))))
+
+-- src/lib.rt:88:10
+slice-reshare-prefix-read : tie.Need-slice-reshare-prefix-read
+slice-reshare-prefix-read c = fits (c .before .before .before .before) (c .if1 .left)
+
+-- src/lib.rt:88:10
+slice-aggregate-read : tie.Need-slice-aggregate-read
+slice-aggregate-read c = sym (length-take-le _ _ (fits (c .before .before .before .before .before) (c .before .if1 .left)))
+
+-- src/lib.rt:88:5
+read-requires : tie.Need-read-requires
+read-requires c κs = search needs
+
+-- src/lib.rt:63:1
+same-length-2 : tie.Need-same-length-2
+same-length-2 c = search needs
+
+-- src/lib.rt:63:1
+same-length-3 : tie.Need-same-length-3
+same-length-3 c = search needs
+
+-- src/lib.rt:63:1
+same-length-4 : tie.Need-same-length-4
+same-length-4 c = search needs
+
+-- src/lib.rt:63:1
+same-length-5 : tie.Need-same-length-5
+same-length-5 c = search needs
+
+-- src/lib.rt:63:1
+returns-2 : tie.Need-returns-2
+returns-2 c =
+    let k = c .before .before .before .before .before .before .before .before .before .before .before .before .before .before .before in
+    let w = was-written k in
+    let e = reread-done w (lent2 k) (c .before .before .before .before .before .before .before .before .before .before .before .if1 .left) in
+    let a = c .before .before .before .before .before .before .before .before .before .before .before .before .before .before .before .before .before .before .before .before .before .before .before .before .args in
+    let r = c .before .before .before .before .before .before .read .ensures in
+    let r0 = r .0 ∙ sym (ap (λ (x : Read). x .reading) e) in
+    let r1 = r .1 .0 ∙ sym (ap (λ (x : Read). x .kept .times) e) in
+    let r2 = r .1 .1 .0 ∙ sym (ap (λ (x : Read). x .kept .processes) e) in
+    let r3 = r .1 .1 .1 ∙ sym (ap (λ (x : Read). x .kept .actions) e) in
+    (r0, (w .out-is, (r1, (r2, (r3, λ z h. rw (r0, r1, r2, r3) (reread-same (a .n) (a .a) (a .b) (a .c) (lent k) (a .out .now) (lent2 k) z h))))))
+
+pub reread-spec : {M : Type 1} → statement M
+reread-spec =
+    tie.close
+    (tie.spec
+    write-requires
+    not-read-requires
+    same-length
+    returns
+    slice-reshare-prefix-read
+    slice-aggregate-read
+    read-requires
+    same-length-2
+    same-length-3
+    same-length-4
+    same-length-5
+    returns-2)
