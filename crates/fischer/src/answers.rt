@@ -18,7 +18,8 @@ ghost use Rattle.model.specs.States.{sinceOf};
 ghost use Rattle.model.specs.Answers.{answerOf, misnamed};
 ghost use Rattle.fischer.specs.Judging.{lowestOf, turnJudged, judged};
 
-pub(crate) fn answer_with(code: u64, process: u64, time: u64) -> Answer
+// An answer of three numbers.
+pub fn answer_with(code: u64, process: u64, time: u64) -> Answer
     ensures { λ r. ⌜ r ≡ answerOf code process time ⌝ }
 {
     Answer {

@@ -14,25 +14,15 @@ use crate::texts::Size;
 use crate::texts::formless;
 use crate::texts::least;
 use crate::texts::put_trace;
+use fischer::answers::answer_with;
 use fischer::limits::count_stands;
 use fischer::limits::limits_stand;
 use model::Answer;
 use model::Head;
 use model::Reading;
 ghost use mathlib.Core.Path.{_≡_};
-ghost use Rattle.model.specs.Answers.{answerOf};
 ghost use Rattle.model.specs.Readings.{lists, readingOf, readOf};
 ghost use Rattle.model.specs.Writings.{eventsOf, writeOf};
-
-fn answer_with(code: u64, time: u64) -> Answer
-    ensures { λ r. ⌜ r ≡ answerOf code 0 time ⌝ }
-{
-    Answer {
-        code: code,
-        process: 0,
-        time: time,
-    }
-}
 
 fn reading_with(code: u64, time: u64, n: u64, a: u64, b: u64, c: u64) -> Reading
     ensures { λ r. ⌜ r ≡ readingOf code time n a b c ⌝ }
@@ -100,22 +90,22 @@ pub fn write(
     ensures out { λ _. ⌜ now (out .exit) ≡ writeOf n a b c (eventsOf (lists (now (times .entry)) (now (processes .entry)) (now (actions .entry)))) (now (out .entry)) .out ⌝ }
 {
     if !count_stands(n) {
-        return answer_with(11, 0);
+        return answer_with(11, 0, 0);
     }
     if !limits_stand(a, b, c) {
-        return answer_with(12, 0);
+        return answer_with(12, 0, 0);
     }
     let line = formless(times, processes, actions);
     if line != 0 {
-        return answer_with(14, line);
+        return answer_with(14, 0, line);
     }
     let measured = put_trace(&mut out[..0], n, a, b, c, times, processes, actions);
     let Size::Bytes(size) = measured else {
-        return answer_with(15, 0);
+        return answer_with(15, 0, 0);
     };
     if out.len() < size {
-        return answer_with(16, 0);
+        return answer_with(16, 0, 0);
     }
     put_trace(out, n, a, b, c, times, processes, actions);
-    answer_with(0, size as u64)
+    answer_with(0, 0, size as u64)
 }
