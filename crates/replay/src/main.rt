@@ -1,28 +1,22 @@
-// Reads a recording on standard input and prints its report.
-ghost use mathlib.Core.Path.{_≡_};
-ghost use lib.ListN.{length};
+// Reads a recording on standard input, to its end, and prints its report on standard output.
+//
+// What cannot be read or written is told on standard error. A program of this language has no exit status to choose, so
+// a failed run is known by that message; a failed reading prints no report at all, not even the names line.
+use libc::STDERR_FILENO;
 use libc::STDIN_FILENO;
-use libc::STDOUT_FILENO;
-
-fn input() -> [u8; 65537]
-    ensures { λ r. ⌜ 65537 ≡ length r ⌝ }
-{
-    [0; 65537]
-}
-
-fn output() -> [u8; 687734]
-    ensures { λ r. ⌜ 687734 ≡ length r ⌝ }
-{
-    [0; 687734]
-}
+use streams::kept;
+use streams::print_report;
+use streams::read_text;
 
 fn main() {
-    let mut text = input();
-    let mut out = output();
-    let got = io::read_full(STDIN_FILENO, &mut text);
-    let answer = report::report(&text[..got], &mut out);
-    let size = answer.time as usize;
-    if size <= 687734 {
-        io::write_all(STDOUT_FILENO, &out[..size]);
+    let mut text = kept();
+    let input = read_text(STDIN_FILENO, &mut text);
+    let size = input.size;
+    if !input.is_whole {
+        io::write_all(STDERR_FILENO, b"replay: the recording could not be read\n");
+        return;
+    }
+    if !print_report(&text[..size]) {
+        io::write_all(STDERR_FILENO, b"replay: the report could not be written\n");
     }
 }

@@ -1,5 +1,6 @@
 // The whole text that `replay` prints, as a function from bytes to bytes: a recording is read, and each of its steps runs
 // from a fresh table on.
+use fischer::answers::answer_with;
 use fischer::fresh;
 use fischer::step;
 use model::Answer;
@@ -10,7 +11,7 @@ use trace::read;
 ghost use mathlib.Core.Path.{_≡_};
 ghost use Prim.Native.Nat.{_≤_};
 ghost use lib.ListN.{length};
-ghost use Rattle.model.specs.Answers.{answerOf};
+ghost use Rattle.model.specs.Texts.{valuesText};
 ghost use Rattle.model.specs.Readings.{lists};
 ghost use Rattle.model.specs.Writings.{eventsOf};
 ghost use Rattle.model.specs.Reports.{faultLine, runText, reportText, reportOf};
@@ -41,6 +42,14 @@ fn fault_line(code: u64, line: u64) -> u64
     line
 }
 
+// One line of a report, which has at most 84 bytes: four numbers of at most 20 digits, and their ends.
+fn put_line(out: &mut [u8], at: u32, line: u64, code: u64, process: u64, time: u64) -> usize
+    ensures { λ r. ⌜ Put (now (out .entry)) (now (out .exit)) at (valuesText line code process time) r ⌝ }
+    ensures { λ r. ⌜ r ≤ 84 ⌝ }
+{
+    put_values(out, at, line, code, process, time)
+}
+
 // Runs the steps in the lists, at most 8,187, from a table on, and puts a line for each after the names line.
 fn put_run(out: &mut [u8], first: State, times: &[u64], processes: &[u64], actions: &[u64]) -> usize
     requires { ⌜ length (now times) ≤ 8187 ⌝ }
@@ -56,14 +65,8 @@ fn put_run(out: &mut [u8], first: State, times: &[u64], processes: &[u64], actio
         let outcome = step(state, actions[i], processes[i], times[i]);
         let answer = outcome.answer;
         let at = (size + 26) as u32;
-        size += put_values(
-            out,
-            at,
-            (i as u64) + 4,
-            answer.code,
-            answer.process,
-            answer.time,
-        );
+        let line = (i as u64) + 4;
+        size += put_line(out, at, line, answer.code, answer.process, answer.time);
         let next = outcome.state;
         state = next;
         i += 1;
@@ -84,42 +87,34 @@ fn put_report(text: &[u8], out: &mut [u8]) -> usize
     let answer = reading.answer;
     if answer.code != 0 {
         let line = fault_line(answer.code, answer.time);
-        return names + put_values(out, 26, line, answer.code, 0, 0);
+        return names + put_line(out, 26, line, answer.code, 0, 0);
     }
     let count = answer.time as usize;
     let outcome = fresh(reading.n, reading.a, reading.b, reading.c);
     let state = outcome.state;
-    names
-        + put_run(
-            out,
-            state,
-            &times[..count],
-            &processes[..count],
-            &actions[..count],
-        )
+    let lines = put_run(
+        out,
+        state,
+        &times[..count],
+        &processes[..count],
+        &actions[..count],
+    );
+    names + lines
 }
 
-fn answer_with(code: u64, time: u64) -> Answer
-    ensures { λ r. ⌜ r ≡ answerOf code 0 time ⌝ }
-{
-    Answer {
-        code: code,
-        process: 0,
-        time: time,
-    }
-}
-
-// Writes what `replay` prints for a recording. An output that may be too short is measured first, so that it stays.
+// Writes what `replay` prints for a recording. An output that may be too short is measured first, so that it stays; one of
+// 687,734 bytes never is.
 pub fn report(text: &[u8], out: &mut [u8]) -> Answer
     ensures answer { λ r. ⌜ r ≡ reportOf (now (text .entry)) (now (out .entry)) .answer ⌝ }
     ensures out { λ _. ⌜ now (out .exit) ≡ reportOf (now (text .entry)) (now (out .entry)) .out ⌝ }
+    ensures room { λ r. ⌜ (687734 ≤ length (now (out .entry)) → r .code ≡ 0) ⌝ }
 {
     if out.len() < MOST_BYTES {
         let needed = put_report(text, &mut out[..0]);
         if out.len() < needed {
-            return answer_with(16, 0);
+            return answer_with(16, 0, 0);
         }
     }
     let size = put_report(text, out);
-    answer_with(0, size as u64)
+    answer_with(0, 0, size as u64)
 }

@@ -1,0 +1,109 @@
+// What the programs over `report` share: reading a text to its end, and printing its report.
+use libc::STDOUT_FILENO;
+ghost use mathlib.Core.Path.{_≡_};
+ghost use Prim.Native.Nat.{_≤_};
+ghost use lib.ListN.{length, take};
+ghost use Rattle.io.specs.Counts.{Counts};
+ghost use Rattle.model.specs.Reports.{reportText};
+
+// What came: how many bytes were kept, and whether it could be read to its end.
+pub struct Input {
+    pub size: usize,
+    pub is_whole: bool,
+}
+
+// One byte more than a recording may have: a longer input is refused by the bytes that are kept of it.
+pub fn kept() -> [u8; 65537]
+    ensures { λ r. ⌜ 65537 ≡ length r ⌝ }
+{
+    [0; 65537]
+}
+
+// Room for any report. Only the length is told, since a proof that writes the zeros out is dear.
+fn output() -> [u8; 687734]
+    ensures { λ r. ⌜ 687734 ≡ length r ⌝ }
+{
+    [0; 687734]
+}
+
+// One read, to place `at` on. A negative answer is a failed read; one that a signal interrupts before it moves a byte counts
+// as failed too.
+fn read_to(fd: i32, text: &mut [u8], at: usize) -> isize
+    requires { ⌜ at ≤ length (now text) ⌝ }
+{
+    libc::read(fd, &mut text[at..])
+}
+
+// A read may be short, as from a pipe: it goes on until the text is full, the input ends or a read fails.
+fn fill(fd: i32, text: &mut [u8]) -> Input
+    ensures { λ r. ⌜ Counts (r .size) (now (text .exit)) ⌝ }
+{
+    let mut at: usize = 0;
+    while at < text.len() {
+        let got = read_to(fd, text, at);
+        if got < 0 {
+            return Input {
+                size: 0,
+                is_whole: false,
+            };
+        }
+        let more = io::count(got, &text[at..]);
+        if more == 0 {
+            break;
+        }
+        at += more;
+    }
+    Input {
+        size: at,
+        is_whole: true,
+    }
+}
+
+// Reads the input to its end and drops it, so that the sender never meets a closed pipe; false where a read fails. A proved
+// loop has to end, and nothing says that an input does: so the turns count down, from a number that no run uses up.
+fn drain(fd: i32, scratch: &mut [u8]) -> bool {
+    let mut turns = u64::MAX;
+    while turns > 0 {
+        let got = libc::read(fd, scratch);
+        if got < 0 {
+            return false;
+        }
+        if got == 0 {
+            return true;
+        }
+        turns -= 1;
+    }
+    false
+}
+
+// Reads the input of a descriptor to its end. Of one that is longer than the text the first bytes are kept.
+pub fn read_text(fd: i32, text: &mut [u8]) -> Input
+    ensures { λ r. ⌜ Counts (r .size) (now (text .exit)) ⌝ }
+{
+    let input = fill(fd, text);
+    if input.size < text.len() {
+        return input;
+    }
+    let mut scratch = io::large_buffer();
+    Input {
+        size: input.size,
+        is_whole: drain(fd, &mut scratch),
+    }
+}
+
+// Puts the report of a text into an output with room for any, and answers how many bytes it has.
+fn render(text: &[u8], out: &mut [u8]) -> usize
+    requires { ⌜ length (now out) ≡ 687734 ⌝ }
+    ensures { λ r. ⌜ Counts r (now (out .exit)) ⌝ }
+    ensures { λ r. ⌜ take r (now (out .exit)) ≡ reportText (now (text .entry)) ⌝ }
+{
+    let answer = report::report(text, out);
+    answer.time as usize
+}
+
+// Prints the report of a text; false where it cannot be written.
+pub fn print_report(text: &[u8]) -> bool {
+    let mut out = output();
+    let size = render(text, &mut out);
+    io::write_all(STDOUT_FILENO, &out[..size])
+}
