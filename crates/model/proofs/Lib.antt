@@ -1,3 +1,4 @@
 pub mod Tests
 pub mod Locations
 pub mod Soundness
+pub mod Given

@@ -168,19 +168,22 @@ pub record Read : Type 0 where
   pub reading : Reading
   pub kept : Lists
 
+abbrev pub readGave : Reading → Lists → Read
+readGave r l = record { reading = r; kept = l }
+
 abbrev pub readingOf : ℕ → ℕ → ℕ → ℕ → ℕ → ℕ → Reading
 readingOf code time n a b c = record { answer = answerOf code 0 time; n = n; a = a; b = b; c = c }
 
 -- "A refused [..] reading returns n, a, b, c as 0", and the lists as they were lent.
 abbrev pub unread : ℕ → ℕ → Lists → Read
-unread code line l = record { reading = readingOf code line 0 0 0 0; kept = l }
+unread code line l = readGave (readingOf code line 0 0 0 0) l
 
 -- "16 last"; a success is answered with 0, 0 and "the count of steps"
 abbrev pub into : Lists → Trace → Read
 into l (refused code line) = unread code line l
 into l (trace n a b c events) =
     cond (ltb (room l) (length events)) (unread 16 0 l)
-    (record { reading = readingOf 0 (length events) n a b c; kept = stored events l })
+    (readGave (readingOf 0 (length events) n a b c) (stored events l))
 
 unfoldable pub readOf : List ℕ → Lists → Read
 readOf text l = into l (traceOf text)

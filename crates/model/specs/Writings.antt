@@ -34,13 +34,16 @@ pub record Written : Type 0 where
   pub answer : Answer
   pub out : List ℕ
 
+abbrev pub writeGave : Answer → List ℕ → Written
+writeGave r out = record { answer = r; out = out }
+
 -- a refusal leaves the bytes as they were lent
 abbrev pub unwritten : ℕ → ℕ → List ℕ → Written
-unwritten code line out = record { answer = answerOf code 0 line; out = out }
+unwritten code line out = writeGave (answerOf code 0 line) out
 
 -- 0, 0 and "the bytes"; "bytes after the text are unchanged"
 abbrev pub written : List ℕ → List ℕ → Written
-written text out = record { answer = answerOf 0 0 (length text); out = over text out }
+written text out = writeGave (answerOf 0 0 (length text)) (over text out)
 
 -- | 16, -, - | a lent output is too short |
 unfoldable pub fitted : List ℕ → List ℕ → Written

@@ -12,7 +12,8 @@ use Rattle.model.specs.declared.State.{State}
 use Rattle.model.specs.declared.Outcome.{Outcome}
 use Rattle.model.specs.Answers.{answerOf, stepOf}
 use Rattle.model.specs.Texts.{comma, newline, valuesText}
-use Rattle.model.specs.Writings.{eventsIn, Written, fitted}
+use Rattle.model.specs.Writings.{eventsIn, Written, writeGave, fitted}
+use Rattle.model.proofs.Given.{write-gave}
 use Rattle.model.specs.Reports.{answerText, runText}
 use Rattle.model.proofs.Tests.{by-cond}
 use Rattle.grammar.proofs.Lists.{drop-at}
@@ -81,11 +82,11 @@ nothing-put {text = text} {at = at} p = p .stored ∙ sets-nothing at text
 
 -- a report that has room
 pub put-whole : {old new text : List ℕ} {size : ℕ} → Put old new 0 text size → size ≤ length old
-    → (answerOf 0 0 size ≡ fitted text old .answer) × (new ≡ fitted text old .out)
+    → writeGave (answerOf 0 0 size) new ≡ fitted text old
 unfolding fitted
 put-whole {old} {new} {text} {size} p h =
     let fits : length text ≤ length old = omega (arith, p .wide) in
-    rw (le-ltb (length old) (length text) fits) (rw (p .wide), p .stored ∙ rw zero-add at (sets-eq text old 0 (omega arith)))
+    rw (le-ltb (length old) (length text) fits) (write-gave (rw (p .wide)) (p .stored ∙ rw zero-add at (sets-eq text old 0 (omega arith))))
 
 -- a report that is answered with 0 is whole
 pub record Whole (text new : List ℕ) (size : ℕ) : Type 0 where

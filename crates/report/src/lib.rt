@@ -13,7 +13,7 @@ ghost use Prim.Native.Nat.{_≤_};
 ghost use lib.ListN.{length};
 ghost use Rattle.model.specs.Texts.{valuesText};
 ghost use Rattle.model.specs.Readings.{lists};
-ghost use Rattle.model.specs.Writings.{eventsOf};
+ghost use Rattle.model.specs.Writings.{eventsOf, writeGave};
 ghost use Rattle.model.specs.Reports.{faultLine, runText, reportText, reportOf};
 ghost use Rattle.trace.specs.Puts.{Put};
 
@@ -105,8 +105,7 @@ fn put_report(text: &[u8], out: &mut [u8]) -> usize
 // Writes what `replay` prints for a recording. An output that may be too short is measured first, so that it stays; one of
 // 687,734 bytes never is.
 pub fn report(text: &[u8], out: &mut [u8]) -> Answer
-    ensures answer { λ r. ⌜ r ≡ reportOf (now (text .entry)) (now (out .entry)) .answer ⌝ }
-    ensures out { λ _. ⌜ now (out .exit) ≡ reportOf (now (text .entry)) (now (out .entry)) .out ⌝ }
+    ensures report { λ r. ⌜ writeGave r (now (out .exit)) ≡ reportOf (now (text .entry)) (now (out .entry)) ⌝ }
     ensures room { λ r. ⌜ (687734 ≤ length (now (out .entry)) → r .code ≡ 0) ⌝ }
 {
     if out.len() < MOST_BYTES {

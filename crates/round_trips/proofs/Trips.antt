@@ -1,6 +1,6 @@
 -- What the calls of a round trip give back, by what each call ensures. Assumes nothing.
 use Prim.Native.Nat.{ℕ, _≤_}
-use mathlib.Core.Path.{_≡_, ap}
+use mathlib.Core.Path.{_≡_, sym, ap, subst}
 use mathlib.Core.Logic.{_≢_}
 use mathlib.Core.List.{List, map}
 use native.Mathlib.Omega.{arith}
@@ -10,10 +10,10 @@ use borrow.Author.Tests.{eq-eqb, ne-eqb}
 use Rattle.model.specs.declared.Answer.{Answer}
 use Rattle.model.specs.declared.Reading.{Reading}
 use Rattle.model.specs.Texts.{Event, traceText}
-use Rattle.model.specs.Readings.{Lists, lists, room, over, Trace, refused, trace, traceOf, Read, into, readOf}
-use Rattle.model.specs.Writings.{eventsOf, Written, writeOf}
+use Rattle.model.specs.Readings.{Lists, room, over, Trace, refused, trace, traceOf, Read, readGave, into, readOf}
+use Rattle.model.specs.Writings.{eventsOf, Written, writeGave, writeOf}
 use Rattle.model.proofs.Tests.{by-cond}
-use Rattle.grammar.specs.RoundTrips.{firstOf, eventsRead}
+use Rattle.grammar.specs.RoundTrips.{eventsRead, rewritten, reread}
 use Rattle.grammar.proofs.Exact.{TraceTells, trace-tells}
 use Rattle.grammar.proofs.RoundTrips.{write-done, write-was, read-then-write, same-events}
 use Rattle.round_trips.specs.Trips.{rewriteOf, notRead, rereadOf}
@@ -21,7 +21,7 @@ use Rattle.round_trips.specs.Trips.{rewriteOf, notRead, rereadOf}
 -- Reading, then writing
 
 -- as many places as a reading with answer 0 counts are in each list
-abbrev Held : Read → Type 0
+abbrev pub Held : Read → Type 0
 Held r =
     r .reading .answer .code ≡ 0
     → (r .reading .answer .time ≤ length (r .kept .times)) × ((r .reading .answer .time ≤ length (r .kept .processes)) × (r .reading .answer .time ≤ length (r .kept .actions)))
@@ -44,26 +44,17 @@ held-so : (text : List ℕ) (l : Lists) → Held (readOf text l)
 unfolding readOf
 held-so text l = held-of text l (traceOf text) (trace-tells text)
 
--- what `read` ensures of its result and of the lists that it leaves
-pub record Reads (text : List ℕ) (l : Lists) (r : Reading) (times processes actions : List ℕ) : Type 0 where
-  pub reading : r ≡ readOf text l .reading
-  pub times-are : times ≡ readOf text l .kept .times
-  pub processes-are : processes ≡ readOf text l .kept .processes
-  pub actions-are : actions ≡ readOf text l .kept .actions
+pub held : (text : List ℕ) (l : Lists) {r : Read} → r ≡ readOf text l → Held r
+held text l e = subst Held (sym e) (held-so text l)
 
-module _ {text : List ℕ} {l : Lists} {r : Reading} {times processes actions : List ℕ} (w : Reads text l r times processes actions) where
-  pub held : r .answer .code ≡ 0 → (r .answer .time ≤ length times) × ((r .answer .time ≤ length processes) × (r .answer .time ≤ length actions))
-  held z = rw (w .reading, w .times-are, w .processes-are, w .actions-are) (held-so text l (rw (w .reading) at z))
+module _ (r : Read) (out : List ℕ) where
+  pub rewrite-refused : r .reading .answer .code ≢ 0 → rewriteOf r out ≡ writeGave (r .reading .answer) out
+  unfolding rewriteOf
+  rewrite-refused z = rw (ne-eqb _ _ z)
 
-  module _ (out : List ℕ) where
-    pub rewrite-refused : r .answer .code ≢ 0 → rewriteOf (readOf text l) out ≡ record { answer = r .answer; out = out }
-    unfolding rewriteOf
-    rewrite-refused z = rw (w .reading) (rw (ne-eqb _ _ (rw (w .reading) at z)))
-
-    pub rewrite-done : r .answer .code ≡ 0
-        → rewriteOf (readOf text l) out ≡ writeOf (r .n) (r .a) (r .b) (r .c) (eventsOf (firstOf (r .answer .time) (lists times processes actions))) out
-    unfolding rewriteOf
-    rewrite-done z = rw (w .reading, w .times-are, w .processes-are, w .actions-are) (rw (eq-eqb _ _ (rw (w .reading) at z)))
+  pub rewrite-done : r .reading .answer .code ≡ 0 → rewriteOf r out ≡ rewritten r out
+  unfolding rewriteOf
+  rewrite-done z = rw (eq-eqb _ _ z)
 
 -- a recording that is read comes back
 pub rewrite-same : (text : List ℕ) (l : Lists) (out : List ℕ) → readOf text l .reading .answer .code ≡ 0 → length text ≤ length out
@@ -81,23 +72,19 @@ written-long n a b c events out e =
     let text = traceText n a b c events in
     rw (write-done n a b c events out (f .0) (f .1)) (omega (arith, length-append text (drop (length text) out)))
 
--- what `write` ensures of its answer and of the output that it leaves
-pub record Writes (w : Written) (r : Answer) (out : List ℕ) : Type 0 where
-  pub answer-is : r ≡ w .answer
-  pub out-is : out ≡ w .out
+pub written-held : (n a b c : ℕ) (events : List Event) (out : List ℕ) {w : Written} → w ≡ writeOf n a b c events out
+    → w .answer .code ≡ 0 → w .answer .time ≤ length (w .out)
+written-held n a b c events out {w} e =
+    subst (λ (x : Written). x .answer .code ≡ 0 → x .answer .time ≤ length (x .out)) (sym e) (written-long n a b c events out)
 
-pub written-held : (n a b c : ℕ) (events : List Event) (old : List ℕ) {r : Answer} {out : List ℕ} → Writes (writeOf n a b c events old) r out
-    → r .code ≡ 0 → r .time ≤ length out
-written-held n a b c events old w z = rw (w .answer-is, w .out-is) (written-long n a b c events old (rw (w .answer-is) at z))
-
-module _ {w : Written} {r : Answer} {out : List ℕ} (h : Writes w r out) (m : Lists) where
-  pub reread-refused : r .code ≢ 0 → rereadOf w m ≡ record { reading = notRead r; kept = m }
+module _ (w : Written) (l : Lists) where
+  pub reread-refused : w .answer .code ≢ 0 → rereadOf w l ≡ readGave (notRead (w .answer)) l
   unfolding rereadOf
-  reread-refused z = rw (h .answer-is) (rw (ne-eqb _ _ (rw (h .answer-is) at z)))
+  reread-refused z = rw (ne-eqb _ _ z)
 
-  pub reread-done : r .code ≡ 0 → rereadOf w m ≡ readOf (take (r .time) out) m
+  pub reread-done : w .answer .code ≡ 0 → rereadOf w l ≡ reread w l
   unfolding rereadOf
-  reread-done z = rw (h .answer-is, h .out-is) (rw (eq-eqb _ _ (rw (h .answer-is) at z)))
+  reread-done z = rw (eq-eqb _ _ z)
 
 -- steps that are written come back
 pub reread-same : (n a b c : ℕ) (l : Lists) (out : List ℕ) (m : Lists) → writeOf n a b c (eventsOf l) out .answer .code ≡ 0

@@ -5,13 +5,13 @@ use mathlib.Core.List.{List}
 use lib.Dec.{eqb}
 use Rattle.model.specs.declared.Answer.{Answer}
 use Rattle.model.specs.declared.Reading.{Reading}
-use Rattle.model.specs.Readings.{Lists, Read}
-use Rattle.model.specs.Writings.{Written}
+use Rattle.model.specs.Readings.{Lists, Read, readGave}
+use Rattle.model.specs.Writings.{Written, writeGave}
 use Rattle.grammar.specs.RoundTrips.{rewritten, reread}
 
 -- a reading, and the writing of what was read, or the reading's refusal
 unfoldable pub rewriteOf : Read → List ℕ → Written
-rewriteOf r out = cond (eqb (r .reading .answer .code) 0) (rewritten r out) (record { answer = r .reading .answer; out = out })
+rewriteOf r out = cond (eqb (r .reading .answer .code) 0) (rewritten r out) (writeGave (r .reading .answer) out)
 
 -- a refused writing leaves nothing to read
 abbrev pub notRead : Answer → Reading
@@ -19,4 +19,4 @@ notRead answer = record { answer = answer; n = 0; a = 0; b = 0; c = 0 }
 
 -- a writing, and the reading of what was written, or the writing's refusal
 unfoldable pub rereadOf : Written → Lists → Read
-rereadOf w l = cond (eqb (w .answer .code) 0) (reread w l) (record { reading = notRead (w .answer); kept = l })
+rereadOf w l = cond (eqb (w .answer .code) 0) (reread w l) (readGave (notRead (w .answer)) l)

@@ -7,9 +7,9 @@ use trace::write;
 ghost use mathlib.Core.Path.{_≡_};
 ghost use Prim.Native.Nat.{_≤_};
 ghost use lib.ListN.{length};
-ghost use Rattle.model.specs.Readings.{lists, room, over, readOf};
-ghost use Rattle.model.specs.Writings.{eventsOf, writeOf};
-ghost use Rattle.grammar.specs.RoundTrips.{firstOf};
+ghost use Rattle.model.specs.Readings.{lists, room, over, readGave, readOf};
+ghost use Rattle.model.specs.Writings.{eventsOf, writeGave, writeOf};
+ghost use Rattle.grammar.specs.RoundTrips.{eventsRead};
 ghost use Rattle.round_trips.specs.Trips.{rewriteOf, notRead, rereadOf};
 
 // Reads a recording into three lists, and writes what was read. A refused reading is the answer, and `out` stays.
@@ -20,12 +20,9 @@ pub fn rewrite(
     actions: &mut [u64],
     out: &mut [u8],
 ) -> Answer
-    ensures answer { λ r. ⌜ r ≡ rewriteOf (readOf (now (text .entry)) (lists (now (times .entry)) (now (processes .entry)) (now (actions .entry)))) (now (out .entry)) .answer ⌝ }
-    ensures times { λ _. ⌜ now (times .exit) ≡ readOf (now (text .entry)) (lists (now (times .entry)) (now (processes .entry)) (now (actions .entry))) .kept .times ⌝ }
-    ensures processes { λ _. ⌜ now (processes .exit) ≡ readOf (now (text .entry)) (lists (now (times .entry)) (now (processes .entry)) (now (actions .entry))) .kept .processes ⌝ }
-    ensures actions { λ _. ⌜ now (actions .exit) ≡ readOf (now (text .entry)) (lists (now (times .entry)) (now (processes .entry)) (now (actions .entry))) .kept .actions ⌝ }
-    ensures out { λ _. ⌜ now (out .exit) ≡ rewriteOf (readOf (now (text .entry)) (lists (now (times .entry)) (now (processes .entry)) (now (actions .entry)))) (now (out .entry)) .out ⌝ }
-    ensures trip { λ r. ⌜ (readOf (now (text .entry)) (lists (now (times .entry)) (now (processes .entry)) (now (actions .entry))) .reading .answer .code ≡ 0 → length (now (text .entry)) ≤ length (now (out .entry)) → now (out .exit) ≡ over (now (text .entry)) (now (out .entry))) ⌝ }
+    ensures kept { λ _. ⌜ lists (now (times .exit)) (now (processes .exit)) (now (actions .exit)) ≡ readOf (now (text .entry)) (lists (now (times .entry)) (now (processes .entry)) (now (actions .entry))) .kept ⌝ }
+    ensures written { λ r. ⌜ writeGave r (now (out .exit)) ≡ rewriteOf (readOf (now (text .entry)) (lists (now (times .entry)) (now (processes .entry)) (now (actions .entry)))) (now (out .entry)) ⌝ }
+    ensures trip { λ _. ⌜ (readOf (now (text .entry)) (lists (now (times .entry)) (now (processes .entry)) (now (actions .entry))) .reading .answer .code ≡ 0 → length (now (text .entry)) ≤ length (now (out .entry)) → now (out .exit) ≡ over (now (text .entry)) (now (out .entry))) ⌝ }
 {
     let reading = read(text, times, processes, actions);
     let answer = reading.answer;
@@ -73,12 +70,9 @@ pub fn reread(
     processes2: &mut [u64],
     actions2: &mut [u64],
 ) -> Reading
-    ensures reading { λ r. ⌜ r ≡ rereadOf (writeOf n a b c (eventsOf (lists (now (times .entry)) (now (processes .entry)) (now (actions .entry)))) (now (out .entry))) (lists (now (times2 .entry)) (now (processes2 .entry)) (now (actions2 .entry))) .reading ⌝ }
     ensures out { λ _. ⌜ now (out .exit) ≡ writeOf n a b c (eventsOf (lists (now (times .entry)) (now (processes .entry)) (now (actions .entry)))) (now (out .entry)) .out ⌝ }
-    ensures times { λ _. ⌜ now (times2 .exit) ≡ rereadOf (writeOf n a b c (eventsOf (lists (now (times .entry)) (now (processes .entry)) (now (actions .entry)))) (now (out .entry))) (lists (now (times2 .entry)) (now (processes2 .entry)) (now (actions2 .entry))) .kept .times ⌝ }
-    ensures processes { λ _. ⌜ now (processes2 .exit) ≡ rereadOf (writeOf n a b c (eventsOf (lists (now (times .entry)) (now (processes .entry)) (now (actions .entry)))) (now (out .entry))) (lists (now (times2 .entry)) (now (processes2 .entry)) (now (actions2 .entry))) .kept .processes ⌝ }
-    ensures actions { λ _. ⌜ now (actions2 .exit) ≡ rereadOf (writeOf n a b c (eventsOf (lists (now (times .entry)) (now (processes .entry)) (now (actions .entry)))) (now (out .entry))) (lists (now (times2 .entry)) (now (processes2 .entry)) (now (actions2 .entry))) .kept .actions ⌝ }
-    ensures trip { λ r. ⌜ (writeOf n a b c (eventsOf (lists (now (times .entry)) (now (processes .entry)) (now (actions .entry)))) (now (out .entry)) .answer .code ≡ 0 → length (eventsOf (lists (now (times .entry)) (now (processes .entry)) (now (actions .entry)))) ≤ room (lists (now (times2 .entry)) (now (processes2 .entry)) (now (actions2 .entry))) → eventsOf (firstOf (r .answer .time) (lists (now (times2 .exit)) (now (processes2 .exit)) (now (actions2 .exit)))) ≡ eventsOf (lists (now (times .entry)) (now (processes .entry)) (now (actions .entry)))) ⌝ }
+    ensures read { λ r. ⌜ readGave r (lists (now (times2 .exit)) (now (processes2 .exit)) (now (actions2 .exit))) ≡ rereadOf (writeOf n a b c (eventsOf (lists (now (times .entry)) (now (processes .entry)) (now (actions .entry)))) (now (out .entry))) (lists (now (times2 .entry)) (now (processes2 .entry)) (now (actions2 .entry))) ⌝ }
+    ensures trip { λ r. ⌜ (writeOf n a b c (eventsOf (lists (now (times .entry)) (now (processes .entry)) (now (actions .entry)))) (now (out .entry)) .answer .code ≡ 0 → length (eventsOf (lists (now (times .entry)) (now (processes .entry)) (now (actions .entry)))) ≤ room (lists (now (times2 .entry)) (now (processes2 .entry)) (now (actions2 .entry))) → eventsRead (readGave r (lists (now (times2 .exit)) (now (processes2 .exit)) (now (actions2 .exit)))) ≡ eventsOf (lists (now (times .entry)) (now (processes .entry)) (now (actions .entry)))) ⌝ }
 {
     let answer = write(n, a, b, c, times, processes, actions, out);
     if answer.code != 0 {

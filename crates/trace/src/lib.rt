@@ -21,8 +21,8 @@ use model::Answer;
 use model::Head;
 use model::Reading;
 ghost use mathlib.Core.Path.{_≡_};
-ghost use Rattle.model.specs.Readings.{lists, readingOf, readOf};
-ghost use Rattle.model.specs.Writings.{eventsOf, writeOf};
+ghost use Rattle.model.specs.Readings.{lists, readGave, readingOf, readOf};
+ghost use Rattle.model.specs.Writings.{eventsOf, writeGave, writeOf};
 
 fn reading_with(code: u64, time: u64, n: u64, a: u64, b: u64, c: u64) -> Reading
     ensures { λ r. ⌜ r ≡ readingOf code time n a b c ⌝ }
@@ -49,10 +49,7 @@ fn unread(code: u64, line: u64) -> Reading
 
 // Reads a recording: its steps go to the three lists. A refused reading stores nothing.
 pub fn read(text: &[u8], times: &mut [u64], processes: &mut [u64], actions: &mut [u64]) -> Reading
-    ensures reading { λ r. ⌜ r ≡ readOf (now (text .entry)) (lists (now (times .entry)) (now (processes .entry)) (now (actions .entry))) .reading ⌝ }
-    ensures times { λ _. ⌜ now (times .exit) ≡ readOf (now (text .entry)) (lists (now (times .entry)) (now (processes .entry)) (now (actions .entry))) .kept .times ⌝ }
-    ensures processes { λ _. ⌜ now (processes .exit) ≡ readOf (now (text .entry)) (lists (now (times .entry)) (now (processes .entry)) (now (actions .entry))) .kept .processes ⌝ }
-    ensures actions { λ _. ⌜ now (actions .exit) ≡ readOf (now (text .entry)) (lists (now (times .entry)) (now (processes .entry)) (now (actions .entry))) .kept .actions ⌝ }
+    ensures { λ r. ⌜ readGave r (lists (now (times .exit)) (now (processes .exit)) (now (actions .exit))) ≡ readOf (now (text .entry)) (lists (now (times .entry)) (now (processes .entry)) (now (actions .entry))) ⌝ }
 {
     let first = head_of(text);
     match first {
@@ -86,8 +83,7 @@ pub fn write(
     actions: &[u64],
     out: &mut [u8],
 ) -> Answer
-    ensures answer { λ r. ⌜ r ≡ writeOf n a b c (eventsOf (lists (now (times .entry)) (now (processes .entry)) (now (actions .entry)))) (now (out .entry)) .answer ⌝ }
-    ensures out { λ _. ⌜ now (out .exit) ≡ writeOf n a b c (eventsOf (lists (now (times .entry)) (now (processes .entry)) (now (actions .entry)))) (now (out .entry)) .out ⌝ }
+    ensures { λ r. ⌜ writeGave r (now (out .exit)) ≡ writeOf n a b c (eventsOf (lists (now (times .entry)) (now (processes .entry)) (now (actions .entry)))) (now (out .entry)) ⌝ }
 {
     if !count_stands(n) {
         return answer_with(11, 0, 0);

@@ -1,10 +1,11 @@
 -- `report::report` meets its contract: an output of no bytes measures, and room for any report needs no measuring.
 -- Assumes nothing.
 use Prim.Native.Nat.{ℕ, _≤_, _<_}
-use mathlib.Core.Path.{_≡_, ap, _∙_}
+use mathlib.Core.Path.{_≡_, refl, ap, _∙_}
 use mathlib.Core.Logic.{⊎-elim}
 use native.Mathlib.Omega.{arith}
 use lib.ListN.{length}
+use Rattle.model.proofs.Given.{write-gave}
 use borrow.Author.Needs.{needs}
 use borrow.Author.Tests.{lt-ltb}
 use Rattle.model.specs.declared.Answer.{Answer}
@@ -36,7 +37,7 @@ returns c =
     let measured = c .before .before .before .before .put-report .ensures .0 in
     let short : length (s .args .out .now) < length (reportText (s .args .text .now)) =
     omega (arith, rw (nothing-put measured) at (c .before .if2 .taken), measured .wide) in
-    rw (lt-ltb _ _ short) (c .answer-with .ensures, (rw (nothing-put measured), λ (h : 687734 ≤ length (s .args .out .now)). absurd (omega (arith, c .before .before .before .before .before .before .if1 .taken))))
+    rw (lt-ltb _ _ short) (write-gave (c .answer-with .ensures) (rw (nothing-put measured)), λ (h : 687734 ≤ length (s .args .out .now)). absurd (omega (arith, c .before .before .before .before .before .before .if1 .taken)))
 
 put-report-requires-2 : tie.Need-put-report-requires-2
 put-report-requires-2 c κs = search needs
@@ -65,7 +66,7 @@ returns-2 c =
     let j = c .before .before .before .before .before in
     let put = c .before .before .before .put-report2 .ensures in
     let whole = put-whole (rw (same j) at (put .0)) (room j _ (put .1) (put .0 .wide)) in
-    (c .answer-with2 .ensures ∙ whole .0, (whole .1, λ _. ap (λ (a : Answer). a .code) (c .answer-with2 .ensures)))
+    (write-gave (c .answer-with2 .ensures) refl ∙ whole, λ _. ap (λ (a : Answer). a .code) (c .answer-with2 .ensures))
 
 pub report-spec : {M : Type 1} → statement M
 report-spec =

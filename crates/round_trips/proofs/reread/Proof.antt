@@ -2,10 +2,13 @@ use Prim.Native.Nat.{_≤_}
 use mathlib.Core.Path.{_≡_, sym, ap, _∙_}
 use lib.ListN.{length}
 use lib.Seq.{length-take-le}
-use Rattle.model.specs.declared.Answer.{Answer}
-use Rattle.model.specs.Readings.{Lists, lists, Read}
-use Rattle.model.specs.Writings.{eventsOf, Written, writeOf}
-use Rattle.round_trips.proofs.Trips.{Writes, written-held, reread-refused, reread-done, reread-same}
+use Rattle.model.specs.declared.Reading.{Reading}
+use Rattle.model.specs.Readings.{Lists, lists, readGave}
+use Rattle.model.specs.Writings.{eventsOf, Written, writeGave, writeOf}
+use Rattle.model.proofs.Given.{gave-out}
+use Rattle.grammar.specs.RoundTrips.{eventsRead}
+use Rattle.round_trips.specs.Trips.{rereadOf}
+use Rattle.round_trips.proofs.Trips.{written-held, reread-refused, reread-done, reread-same}
 use borrow.Author.Needs.{needs}
 use Rattle.round_trips.proofs.reread.Statement.{statement}
 use Rattle.round_trips.proofs.reread.Tie as tie
@@ -22,14 +25,17 @@ lent c = let a = c .before .before .before .before .before .before .before .befo
 abbrev lent2 : tie.After-write → Lists
 lent2 c = let a = c .before .before .before .before .before .before .before .before .before .args in lists (a .times2 .now) (a .processes2 .now) (a .actions2 .now)
 
-abbrev text : tie.After-write → Written
-text c = let a = c .before .before .before .before .before .before .before .before .before .args in writeOf (a .n) (a .a) (a .b) (a .c) (eventsOf (lent c)) (a .out .now)
+abbrev due : tie.After-write → Written
+due c = let a = c .before .before .before .before .before .before .before .before .before .args in writeOf (a .n) (a .a) (a .b) (a .c) (eventsOf (lent c)) (a .out .now)
 
--- what the writing ensures
-was-written : (c : tie.After-write) → Writes (text c) (c .write .result) (c .write .last .1 .1 .1 .1 .1 .1 .1 .0)
-was-written c = record { answer-is = c .write .ensures .0; out-is = c .write .ensures .1 }
+-- what the writing gave
+abbrev given : tie.After-write → Written
+given c = writeGave (c .write .result) (c .write .last .1 .1 .1 .1 .1 .1 .1 .0)
 
-fits : (c : tie.After-write) → c .write .result .code ≡ 0 → c .write .result .time ≤ length (c .write .last .1 .1 .1 .1 .1 .1 .1 .0)
+was-written : (c : tie.After-write) → given c ≡ due c
+was-written c = c .write .ensures
+
+fits : (c : tie.After-write) → given c .answer .code ≡ 0 → given c .answer .time ≤ length (given c .out)
 fits c = let a = c .before .before .before .before .before .before .before .before .before .args in written-held (a .n) (a .a) (a .b) (a .c) (eventsOf (lent c)) (a .out .now) (was-written c)
 
 -- src/lib.rt:83:9
@@ -48,9 +54,9 @@ same-length c = search needs
 returns : tie.Need-returns
 returns c =
     let k = c .before .before .before .before .before in
-    let w = was-written k in
-    let e = reread-refused w (lent2 k) (c .before .if1 .taken) in
-    (rw e (c .not-read .ensures), (w .out-is, (rw e, (rw e, (rw e, λ z _. absurd (c .before .if1 .taken (ap (λ (x : Answer). x .code) (w .answer-is) ∙ z)))))))
+    let e = was-written k in
+    let gave = ap (λ (r : Reading). readGave r (lent2 k)) (c .not-read .ensures) ∙ (sym (reread-refused (given k) (lent2 k) (c .before .if1 .taken))) in
+    (gave-out e, (gave ∙ ap (λ (w : Written). rereadOf w (lent2 k)) e, λ z _. absurd (c .before .if1 .taken (ap (λ (w : Written). w .answer .code) e ∙ z))))
 
 -- src/lib.rt:88:10
 slice-reshare-prefix-read : tie.Need-slice-reshare-prefix-read
@@ -84,15 +90,10 @@ same-length-5 c = search needs
 returns-2 : tie.Need-returns-2
 returns-2 c =
     let k = c .before .before .before .before .before .before .before .before .before .before .before .before .before .before .before in
-    let w = was-written k in
-    let e = reread-done w (lent2 k) (c .before .before .before .before .before .before .before .before .before .before .before .if1 .left) in
     let a = c .before .before .before .before .before .before .before .before .before .before .before .before .before .before .before .before .before .before .before .before .before .before .before .before .args in
-    let r = c .before .before .before .before .before .before .read .ensures in
-    let r0 = r .0 ∙ sym (ap (λ (x : Read). x .reading) e) in
-    let r1 = r .1 .0 ∙ sym (ap (λ (x : Read). x .kept .times) e) in
-    let r2 = r .1 .1 .0 ∙ sym (ap (λ (x : Read). x .kept .processes) e) in
-    let r3 = r .1 .1 .1 ∙ sym (ap (λ (x : Read). x .kept .actions) e) in
-    (r0, (w .out-is, (r1, (r2, (r3, λ z h. rw (r0, r1, r2, r3) (reread-same (a .n) (a .a) (a .b) (a .c) (lent k) (a .out .now) (lent2 k) z h))))))
+    let e = was-written k in
+    let r = c .before .before .before .before .before .before .read .ensures ∙ (sym (reread-done (given k) (lent2 k) (c .before .before .before .before .before .before .before .before .before .before .before .if1 .left)) ∙ ap (λ (w : Written). rereadOf w (lent2 k)) e) in
+    (gave-out e, (r, λ z h. ap eventsRead r ∙ reread-same (a .n) (a .a) (a .b) (a .c) (lent k) (a .out .now) (lent2 k) z h))
 
 pub reread-spec : {M : Type 1} → statement M
 reread-spec =

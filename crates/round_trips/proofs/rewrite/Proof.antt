@@ -1,11 +1,11 @@
-use mathlib.Core.Path.{sym, ap, _∙_}
-use mathlib.Core.List.{List}
 use Prim.Native.Nat.{ℕ}
+use mathlib.Core.Path.{_≡_, sym, ap, _∙_}
+use mathlib.Core.List.{List}
 use lib.Seq.{length-take-le}
-use Rattle.model.specs.declared.Reading.{Reading}
-use Rattle.model.specs.Readings.{Lists, lists}
-use Rattle.model.specs.Writings.{Written}
-use Rattle.round_trips.proofs.Trips.{Reads, held, rewrite-refused, rewrite-done, rewrite-same}
+use Rattle.model.specs.Readings.{Lists, lists, Read, readGave, readOf}
+use Rattle.model.proofs.Given.{gave-out}
+use Rattle.round_trips.specs.Trips.{rewriteOf}
+use Rattle.round_trips.proofs.Trips.{Held, held, rewrite-refused, rewrite-done, rewrite-same}
 use borrow.Author.Needs.{needs}
 use Rattle.round_trips.proofs.rewrite.Statement.{statement}
 use Rattle.round_trips.proofs.rewrite.Tie as tie
@@ -24,11 +24,15 @@ lent c = let a = c .before .before .before .before .before .before .before .befo
 abbrev out : tie.After-answer → List ℕ
 out c = c .before .before .before .before .before .before .before .before .before .before .before .before .before .before .before .before .args .out .now
 
--- what the reading ensures
-was-read : (c : tie.After-answer) → (let r = c .before .before .before .before .before .before .before .read in Reads (text c) (lent c) (r .result) (r .last .1 .0) (r .last .1 .1 .0) (r .last .1 .1 .1 .0))
-was-read c =
-    let e = c .before .before .before .before .before .before .before .read .ensures in
-    record { reading = e .0; times-are = e .1 .0; processes-are = e .1 .1 .0; actions-are = e .1 .1 .1 }
+-- what the reading gave
+abbrev given : tie.After-answer → Read
+given c = let r = c .before .before .before .before .before .before .before .read in readGave (r .result) (lists (r .last .1 .0) (r .last .1 .1 .0) (r .last .1 .1 .1 .0))
+
+was-read : (c : tie.After-answer) → given c ≡ readOf (text c) (lent c)
+was-read c = c .before .before .before .before .before .before .before .read .ensures
+
+fits : (c : tie.After-answer) → Held (given c)
+fits c = held (text c) (lent c) (was-read c)
 
 -- src/lib.rt:23:9
 read-requires : tie.Need-read-requires
@@ -50,33 +54,33 @@ same-length-3 c = search needs
 returns : tie.Need-returns
 returns c =
     let k = c .before .before in
-    let w = was-read k in
-    let e = rewrite-refused w (out k) (c .if1 .taken) in
-    (rw e, (w .times-are, (w .processes-are, (w .actions-are, (rw e, λ z _. absurd (c .if1 .taken (ap (λ (x : Reading). x .answer .code) (w .reading) ∙ z)))))))
+    let e = was-read k in
+    let w = sym (rewrite-refused (given k) (out k) (c .if1 .taken)) ∙ ap (λ (r : Read). rewriteOf r (out k)) e in
+    (ap (λ (r : Read). r .kept) e, (w, λ z _. absurd (c .if1 .taken (ap (λ (r : Read). r .reading .answer .code) e ∙ z))))
 
 -- src/lib.rt:29:55
 slice-reshare-prefix-write : tie.Need-slice-reshare-prefix-write
-slice-reshare-prefix-write c = held (was-read (c .before .before)) (c .if1 .left) .0
+slice-reshare-prefix-write c = fits (c .before .before) (c .if1 .left) .0
 
 -- src/lib.rt:29:55
 slice-aggregate-write : tie.Need-slice-aggregate-write
-slice-aggregate-write c = sym (length-take-le _ _ (held (was-read (c .before .before .before)) (c .before .if1 .left) .0))
+slice-aggregate-write c = sym (length-take-le _ _ (fits (c .before .before .before) (c .before .if1 .left) .0))
 
 -- src/lib.rt:29:72
 slice-reshare-prefix-write-2 : tie.Need-slice-reshare-prefix-write-2
-slice-reshare-prefix-write-2 c = held (was-read (c .before .before .before)) (c .before .if1 .left) .1 .0
+slice-reshare-prefix-write-2 c = fits (c .before .before .before) (c .before .if1 .left) .1 .0
 
 -- src/lib.rt:29:72
 slice-aggregate-write-2 : tie.Need-slice-aggregate-write-2
-slice-aggregate-write-2 c = sym (length-take-le _ _ (held (was-read (c .before .before .before .before)) (c .before .before .if1 .left) .1 .0))
+slice-aggregate-write-2 c = sym (length-take-le _ _ (fits (c .before .before .before .before) (c .before .before .if1 .left) .1 .0))
 
 -- src/lib.rt:29:93
 slice-reshare-prefix-write-3 : tie.Need-slice-reshare-prefix-write-3
-slice-reshare-prefix-write-3 c = held (was-read (c .before .before .before .before)) (c .before .before .if1 .left) .1 .1
+slice-reshare-prefix-write-3 c = fits (c .before .before .before .before) (c .before .before .if1 .left) .1 .1
 
 -- src/lib.rt:29:93
 slice-aggregate-write-3 : tie.Need-slice-aggregate-write-3
-slice-aggregate-write-3 c = sym (length-take-le _ _ (held (was-read (c .before .before .before .before .before)) (c .before .before .before .if1 .left) .1 .1))
+slice-aggregate-write-3 c = sym (length-take-le _ _ (fits (c .before .before .before .before .before) (c .before .before .before .if1 .left) .1 .1))
 
 -- src/lib.rt:29:5
 write-requires : tie.Need-write-requires
@@ -102,11 +106,10 @@ same-length-7 c = search needs
 returns-2 : tie.Need-returns-2
 returns-2 c =
     let k = c .before .before .before .before .before .before .before .before .before in
-    let w = was-read k in
-    let e = rewrite-done w (out k) (c .before .before .before .before .before .before .before .if1 .left) in
-    let written = c .before .before .write .ensures in
-    let left = written .1 ∙ sym (ap (λ (x : Written). x .out) e) in
-    (rw e (written .0), (w .times-are, (w .processes-are, (w .actions-are, (left, λ z h. left ∙ rewrite-same (text k) (lent k) (out k) z h)))))
+    let e = was-read k in
+    let done = sym (rewrite-done (given k) (out k) (c .before .before .before .before .before .before .before .if1 .left)) ∙ ap (λ (r : Read). rewriteOf r (out k)) e in
+    let w = c .before .before .write .ensures ∙ done in
+    (ap (λ (r : Read). r .kept) e, (w, λ z h. gave-out w ∙ rewrite-same (text k) (lent k) (out k) z h))
 
 pub rewrite-spec : {M : Type 1} → statement M
 rewrite-spec =

@@ -5,6 +5,7 @@ use lib.ListN.{length, length-take}
 use borrow.Author.Needs.{needs}
 use Rattle.model.specs.declared.Answer.{Answer}
 use Rattle.model.specs.Reports.{reportText}
+use Rattle.model.proofs.Given.{gave-answer, gave-out}
 use Rattle.report.proofs.Runs.{Whole, whole}
 use Rattle.streams.proofs.render.Statement.{statement}
 use Rattle.streams.proofs.render.Tie as tie
@@ -15,8 +16,9 @@ rendered : (c : tie.After-report)
 rendered c =
     let s = c .before .before .before .before in
     let e = c .report .ensures in
-    let done : c .report .result .code ≡ 0 = e .1 .1 (omega (arith, s .pre)) in
-    rw (e .0, e .1 .0) (whole (reportText (s .args .text .now)) (s .args .out .now) (sym (ap (λ (a : Answer). a .code) (e .0)) ∙ done))
+    let done : c .report .result .code ≡ 0 = e .1 (omega (arith, s .pre)) in
+    let answer = gave-answer (e .0) in
+    rw (answer, gave-out (e .0)) (whole (reportText (s .args .text .now)) (s .args .out .now) (sym (ap (λ (a : Answer). a .code) answer) ∙ done))
 
 report-requires : tie.Need-report-requires
 report-requires c κs = search needs

@@ -1,5 +1,5 @@
 use Prim.Native.Nat.{ℕ, _≤_}
-use mathlib.Core.Path.{_≡_, sym, _∙_}
+use mathlib.Core.Path.{_≡_, refl, sym, _∙_}
 use mathlib.Core.List.{List}
 use native.Mathlib.Omega.{arith}
 use lib.ListN.{length, drop, length-drop}
@@ -7,6 +7,7 @@ use Rattle.model.specs.declared.Head.the-variants.{Values}
 use Rattle.model.specs.Readings.{headOf, bodyOf, Lists, lists, room}
 use Rattle.trace.specs.declared.steps.Tally.the-variants.{Steps}
 use Rattle.trace.specs.Passes.{tallyOf}
+use Rattle.model.proofs.Given.{read-gave}
 use Rattle.grammar.proofs.Lists.{part-is}
 use Rattle.grammar.proofs.Fields.{took-le}
 use Rattle.grammar.proofs.Heads.{head-was}
@@ -110,7 +111,7 @@ returns : tie.Need-returns
 returns c =
     let k = c .before .before .before .before .before .before .before .before .before in
     let e = read-full (text k) (lent k) _ _ _ _ _ (head-read k) _ (counted (c .before .before .before .before)) (rw (room-is (c .before .before)) at (c .before .if1 .taken)) in
-    (rw e (c .unread3 .ensures), (rw e, (rw e, rw e)))
+    rw e (read-gave (c .unread3 .ensures) refl refl refl)
 
 -- src/lib.rt:74:21
 store-events-requires : tie.Need-store-events-requires
@@ -125,14 +126,14 @@ returns-2 : tie.Need-returns-2
 returns-2 c =
     let a = c .before .before .before .before .before .before .before .before .before .args in
     let e = read-refused (a .text .now) (lists (a .times .now) (a .processes .now) (a .actions .now)) _ _ (sym (c .before .before .before .before .head-of .ensures) ∙ c .before .before .first .given .1) in
-    (rw e (c .unread .ensures), (rw e, (rw e, rw e)))
+    rw e (read-gave (c .unread .ensures) refl refl refl)
 
 -- src/lib.rt:55:1
 returns-3 : tie.Need-returns-3
 returns-3 c =
     let k = c .before .before .before .before .before .before in
     let e = read-fault (text k) (lent k) _ _ _ _ _ (head-read k) _ _ (rw part-is at (sym (c .before .before .before .before .count-events .ensures) ∙ c .before .before .counted .given .1)) in
-    (rw e (c .unread2 .ensures), (rw e, (rw e, rw e)))
+    rw e (read-gave (c .unread2 .ensures) refl refl refl)
 
 -- src/lib.rt:55:1
 same-length : tie.Need-same-length
@@ -152,7 +153,7 @@ returns-4 c =
     let k = c .before .before .before .before .before .before .before .before .before .before .before .before .before .before .before .before .before .before .before in
     let s = c .before .before .before .before .before .before .before .store-events .ensures in
     let e = read-stored (text k) (lent k) _ _ _ _ _ (head-read k) _ (counted (c .before .before .before .before .before .before .before .before .before .before .before .before .before .before)) (rw (room-is (c .before .before .before .before .before .before .before .before .before .before .before .before)) at (c .before .before .before .before .before .before .before .before .before .before .before .if1 .left)) in
-    (rw e (c .reading-with .ensures), (rw e (rw part-is at (s .0)), (rw e (rw part-is at (s .1 .0)), rw e (rw part-is at (s .1 .1)))))
+    rw e (read-gave (c .reading-with .ensures) (rw part-is at (s .0)) (rw part-is at (s .1 .0)) (rw part-is at (s .1 .1)))
 
 pub read-spec : {M : Type 1} → statement M
 read-spec =

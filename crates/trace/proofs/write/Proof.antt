@@ -7,6 +7,7 @@ use native.Mathlib.Omega.{arith}
 use lib.ListN.{length}
 use lib.Seq.{sets}
 use borrow.Author.Tests.{not-true, not-false}
+use Rattle.model.proofs.Given.{write-gave}
 use Rattle.model.specs.States.{countStands, limitsStand}
 use Rattle.model.specs.Texts.{textLimit}
 use Rattle.model.specs.Readings.{lists}
@@ -70,7 +71,7 @@ answer-with-requires c κs = search needs
 returns : tie.Need-returns
 returns c =
     let e = sym (c .before .before .count-stands .ensures) ∙ not-true _ (c .before .if1 .taken) in
-    rw (write-uncounted (task (c .before .before .before .before .before .before .before)) e) (c .answer-with .ensures, refl)
+    rw (write-uncounted (task (c .before .before .before .before .before .before .before)) e) (write-gave (c .answer-with .ensures) refl)
 
 limits-stand-requires : tie.Need-limits-stand-requires
 limits-stand-requires c κs = search needs
@@ -82,7 +83,7 @@ returns-2 : tie.Need-returns-2
 returns-2 c =
     let t = task (c .before .before .before .before .before .before .before .before .before) in
     let e = sym (c .before .before .limits-stand .ensures) ∙ not-true _ (c .before .if2 .taken) in
-    rw (write-unlimited t (counted (c .before .before .before)) e) (c .answer-with2 .ensures, refl)
+    rw (write-unlimited t (counted (c .before .before .before)) e) (write-gave (c .answer-with2 .ensures) refl)
 
 formless-requires : tie.Need-formless-requires
 formless-requires c κs = search needs
@@ -95,7 +96,7 @@ returns-3 c =
     let t = task (c .before .before .before .before .before .before .before .before .before .before .before) in
     let e = c .before .before .formless .ensures in
     rw (write-formless t (counted (c .before .before .before .before .before)) (limited (c .before .before .before)) (rw e at (c .before .if3 .taken)))
-    (rw e at (c .answer-with3 .ensures), refl)
+    (write-gave (rw e at (c .answer-with3 .ensures)) refl)
 
 slice-relend-prefix-put-trace : tie.Need-slice-relend-prefix-put-trace
 slice-relend-prefix-put-trace c = search needs
@@ -119,7 +120,7 @@ same-length : tie.Need-same-length
 same-length c = search needs
 
 returns-4 : tie.Need-returns-4
-returns-4 c = rw (write-long (sound (c .before .before .before .before .before)) (long (c .before))) (c .answer-with4 .ensures, untouched (c .before .before .before .before .before))
+returns-4 c = rw (write-long (sound (c .before .before .before .before .before)) (long (c .before))) (write-gave (c .answer-with4 .ensures) (untouched (c .before .before .before .before .before)))
 
 answer-with-requires-5 : tie.Need-answer-with-requires-5
 answer-with-requires-5 c κs = search needs
@@ -132,7 +133,7 @@ returns-5 c =
     let p = c .before .before .before .before .before .before .before in
     let s = size (c .before .before) in
     rw (write-roomless (sound p) (s .1) (omega (arith, s .0, ap length (untouched p), c .before .if4 .taken)))
-    (c .answer-with5 .ensures, untouched p)
+    (write-gave (c .answer-with5 .ensures) (untouched p))
 
 put-trace-requires-2 : tie.Need-put-trace-requires-2
 put-trace-requires-2 c κs = search needs
@@ -153,7 +154,7 @@ returns-6 c =
     let p = c .before .before .before .before .before .before .before .before .before .before .before in
     let s = size (c .before .before .before .before .before .before) in
     rw (write-done (sound p) (s .1) (omega (arith, s .0, ap length (untouched p), c .before .before .before .before .before .if4 .left)))
-    (rw (s .0) at (c .answer-with6 .ensures), finished (c .before .before .before) (s .1))
+    (write-gave (rw (s .0) at (c .answer-with6 .ensures)) (finished (c .before .before .before) (s .1)))
 
 pub write-spec : {M : Type 1} → statement M
 write-spec =
