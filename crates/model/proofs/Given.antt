@@ -4,26 +4,13 @@ use mathlib.Core.Path.{_≡_, ap}
 use mathlib.Core.List.{List}
 use Rattle.model.specs.declared.Answer.{Answer}
 use Rattle.model.specs.declared.Reading.{Reading}
-use Rattle.model.specs.Readings.{Lists, lists, Read, readGave}
+use Rattle.model.specs.Readings.{lists, readGave}
 use Rattle.model.specs.Writings.{Written, writeGave}
 
 -- A reading
 
 pub read-gave : {r s : Reading} {t u p q a b : List ℕ} → r ≡ s → t ≡ u → p ≡ q → a ≡ b → readGave r (lists t p a) ≡ readGave s (lists u q b)
 read-gave r t p a = λ i. readGave (r i) (lists (t i) (p i) (a i))
-
-module _ {r : Reading} {t p a : List ℕ} {d : Read} (e : readGave r (lists t p a) ≡ d) where
-  pub gave-reading : r ≡ d .reading
-  gave-reading = ap (λ (x : Read). x .reading) e
-
-  pub gave-times : t ≡ d .kept .times
-  gave-times = ap (λ (x : Read). x .kept .times) e
-
-  pub gave-processes : p ≡ d .kept .processes
-  gave-processes = ap (λ (x : Read). x .kept .processes) e
-
-  pub gave-actions : a ≡ d .kept .actions
-  gave-actions = ap (λ (x : Read). x .kept .actions) e
 
 -- A writing
 

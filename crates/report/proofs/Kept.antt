@@ -1,6 +1,6 @@
 -- What a reading into lists of 8,187 places tells of a text: they have room for any trace. Assumes nothing.
 use Prim.Native.Nat.{ℕ, _≤_}
-use mathlib.Core.Path.{_≡_, refl, sym, ap, _∙_}
+use mathlib.Core.Path.{_≡_, refl, sym, ap, _∙_, subst}
 use mathlib.Core.Logic.{_≢_}
 use mathlib.Core.Bool.{false}
 use mathlib.Core.List.{List}
@@ -10,7 +10,7 @@ use lib.ListN.{length}
 use borrow.Author.Tests.{le-ltb}
 use Rattle.model.specs.declared.Reading.{Reading}
 use Rattle.model.specs.Texts.{Event}
-use Rattle.model.specs.Readings.{Lists, lists, room, Trace, refused, trace, traceOf, into, readOf}
+use Rattle.model.specs.Readings.{Lists, room, Trace, refused, trace, traceOf, Read, into, readOf}
 use Rattle.model.specs.Writings.{eventsOf}
 use Rattle.grammar.specs.RoundTrips.{firstOf}
 use Rattle.grammar.proofs.Exact.{trace-tells}
@@ -47,12 +47,12 @@ module _ (text : List ℕ) (l : Lists) (wide : room l ≡ 8187) where
   unfolding readOf
   refusal-so = refusal-of (traceOf text) refl
 
-  module _ {r : Reading} (e : r ≡ readOf text l .reading) where
-    pub kept : {times processes actions : List ℕ}
-        → times ≡ readOf text l .kept .times → processes ≡ readOf text l .kept .processes → actions ≡ readOf text l .kept .actions
-        → r .answer .code ≡ 0 → Kept text r (lists times processes actions)
-    kept t p q z = rw (e, t, p, q) (kept-so (rw e at z))
+  module _ {r : Read} (e : r ≡ readOf text l) where
+    pub kept : r .reading .answer .code ≡ 0 → Kept text (r .reading) (r .kept)
+    kept = subst (λ (x : Read). x .reading .answer .code ≡ 0 → Kept text (x .reading) (x .kept)) (sym e) kept-so
 
     -- a refused reading tells the refusal of the text: it is never 16
-    pub refusal : r .answer .code ≢ 0 → traceOf text ≡ refused (r .answer .code) (r .answer .time)
-    refusal z = rw e (refusal-so (rw e at z))
+    pub refusal : r .reading .answer .code ≢ 0 → traceOf text ≡ refused (r .reading .answer .code) (r .reading .answer .time)
+    refusal =
+        subst (λ (x : Read). x .reading .answer .code ≢ 0 → traceOf text ≡ refused (x .reading .answer .code) (x .reading .answer .time))
+        (sym e) refusal-so

@@ -11,7 +11,6 @@ use Rattle.model.specs.Reports.{answerNames, reportText}
 use Rattle.trace.specs.Puts.{Put}
 use Rattle.report.proofs.Kept.{Kept, kept, refusal}
 use Rattle.report.proofs.Runs.{put-long, after-names}
-use Rattle.model.proofs.Given.{gave-reading, gave-times, gave-processes, gave-actions}
 use borrow.Author.Needs.{needs}
 use Rattle.report.proofs.put_report.Statement.{statement}
 use Rattle.report.proofs.put_report.Tie as tie
@@ -53,7 +52,7 @@ names c = c .put-text .ensures
 -- what a refused reading tells
 fault : (c : tie.After-read) → c .read .result .answer .code ≢ 0
     → traceOf (text c) ≡ refused (c .read .result .answer .code) (c .read .result .answer .time)
-fault c = refusal (text c) (lent c) (wide c) (gave-reading (c .read .ensures))
+fault c = refusal (text c) (lent c) (wide c) (c .read .ensures)
 
 -- what a reading with answer 0 tells, where the table has been made
 abbrev reading : tie.After-state → tie.After-read
@@ -61,8 +60,7 @@ reading c = c .before .before .before .before .before .before .before .before
 
 run : (c : tie.After-state) → Kept (text (reading c)) (reading c .read .result) (left (reading c))
 run c =
-    let r = reading c .read .ensures in
-    kept (text (reading c)) (lent (reading c)) (wide (reading c)) (gave-reading r) (gave-times r) (gave-processes r) (gave-actions r) (c .before .before .if1 .left)
+    kept (text (reading c)) (lent (reading c)) (wide (reading c)) (reading c .read .ensures) (c .before .before .if1 .left)
 
 abbrev count : tie.After-state → ℕ
 count c = reading c .read .result .answer .time
