@@ -1,3 +1,4 @@
+-- `round_trips::reread` meets its contract: what `write` gave is `writeOf`, and `SameEvents` is the round trip. Assumes nothing.
 use Prim.Native.Nat.{_≤_}
 use mathlib.Core.Path.{_≡_, sym, ap, _∙_}
 use lib.ListN.{length}
@@ -38,19 +39,15 @@ was-written c = c .write .ensures
 fits : (c : tie.After-write) → given c .answer .code ≡ 0 → given c .answer .time ≤ length (given c .out)
 fits c = let a = c .before .before .before .before .before .before .before .before .before .args in written-held (a .n) (a .a) (a .b) (a .c) (eventsOf (lent c)) (a .out .now) (was-written c)
 
--- src/lib.rt:83:9
 write-requires : tie.Need-write-requires
 write-requires c κs = search needs
 
--- src/lib.rt:85:9
 not-read-requires : tie.Need-not-read-requires
 not-read-requires c κs = search needs
 
--- src/lib.rt:85:9
 same-length : tie.Need-same-length
 same-length c = search needs
 
--- src/lib.rt:85:9
 returns : tie.Need-returns
 returns c =
     let k = c .before .before .before .before .before in
@@ -58,35 +55,27 @@ returns c =
     let gave = ap (λ (r : Reading). readGave r (lent2 k)) (c .not-read .ensures) ∙ (sym (reread-refused (given k) (lent2 k) (c .before .if1 .taken))) in
     (gave-out e, (gave ∙ ap (λ (w : Written). rereadOf w (lent2 k)) e, λ z _. absurd (c .before .if1 .taken (ap (λ (w : Written). w .answer .code) e ∙ z))))
 
--- src/lib.rt:88:10
 slice-reshare-prefix-read : tie.Need-slice-reshare-prefix-read
 slice-reshare-prefix-read c = fits (c .before .before .before .before) (c .if1 .left)
 
--- src/lib.rt:88:10
 slice-aggregate-read : tie.Need-slice-aggregate-read
 slice-aggregate-read c = sym (length-take-le _ _ (fits (c .before .before .before .before .before) (c .before .if1 .left)))
 
--- src/lib.rt:88:5
 read-requires : tie.Need-read-requires
 read-requires c κs = search needs
 
--- src/lib.rt:63:1
 same-length-2 : tie.Need-same-length-2
 same-length-2 c = search needs
 
--- src/lib.rt:63:1
 same-length-3 : tie.Need-same-length-3
 same-length-3 c = search needs
 
--- src/lib.rt:63:1
 same-length-4 : tie.Need-same-length-4
 same-length-4 c = search needs
 
--- src/lib.rt:63:1
 same-length-5 : tie.Need-same-length-5
 same-length-5 c = search needs
 
--- src/lib.rt:63:1
 returns-2 : tie.Need-returns-2
 returns-2 c =
     let k = c .before .before .before .before .before .before .before .before .before .before .before .before .before .before .before in

@@ -1,3 +1,4 @@
+-- `round_trips::rewrite` meets its contract: what `read` gave is `readOf`, and `ReadThenWrite` is the round trip. Assumes nothing.
 use Prim.Native.Nat.{ℕ}
 use mathlib.Core.Path.{_≡_, sym, ap, _∙_}
 use mathlib.Core.List.{List}
@@ -34,23 +35,18 @@ was-read c = c .before .before .before .before .before .before .before .read .en
 fits : (c : tie.After-answer) → Held (given c)
 fits c = held (text c) (lent c) (was-read c)
 
--- src/lib.rt:23:9
 read-requires : tie.Need-read-requires
 read-requires c κs = search needs
 
--- src/lib.rt:26:9
 same-length : tie.Need-same-length
 same-length c = search needs
 
--- src/lib.rt:26:9
 same-length-2 : tie.Need-same-length-2
 same-length-2 c = search needs
 
--- src/lib.rt:26:9
 same-length-3 : tie.Need-same-length-3
 same-length-3 c = search needs
 
--- src/lib.rt:26:9
 returns : tie.Need-returns
 returns c =
     let k = c .before .before in
@@ -58,51 +54,39 @@ returns c =
     let w = sym (rewrite-refused (given k) (out k) (c .if1 .taken)) ∙ ap (λ (r : Read). rewriteOf r (out k)) e in
     (ap (λ (r : Read). r .kept) e, (w, λ z _. absurd (c .if1 .taken (ap (λ (r : Read). r .reading .answer .code) e ∙ z))))
 
--- src/lib.rt:29:55
 slice-reshare-prefix-write : tie.Need-slice-reshare-prefix-write
 slice-reshare-prefix-write c = fits (c .before .before) (c .if1 .left) .0
 
--- src/lib.rt:29:55
 slice-aggregate-write : tie.Need-slice-aggregate-write
 slice-aggregate-write c = sym (length-take-le _ _ (fits (c .before .before .before) (c .before .if1 .left) .0))
 
--- src/lib.rt:29:72
 slice-reshare-prefix-write-2 : tie.Need-slice-reshare-prefix-write-2
 slice-reshare-prefix-write-2 c = fits (c .before .before .before) (c .before .if1 .left) .1 .0
 
--- src/lib.rt:29:72
 slice-aggregate-write-2 : tie.Need-slice-aggregate-write-2
 slice-aggregate-write-2 c = sym (length-take-le _ _ (fits (c .before .before .before .before) (c .before .before .if1 .left) .1 .0))
 
--- src/lib.rt:29:93
 slice-reshare-prefix-write-3 : tie.Need-slice-reshare-prefix-write-3
 slice-reshare-prefix-write-3 c = fits (c .before .before .before .before) (c .before .before .if1 .left) .1 .1
 
--- src/lib.rt:29:93
 slice-aggregate-write-3 : tie.Need-slice-aggregate-write-3
 slice-aggregate-write-3 c = sym (length-take-le _ _ (fits (c .before .before .before .before .before) (c .before .before .before .if1 .left) .1 .1))
 
--- src/lib.rt:29:5
 write-requires : tie.Need-write-requires
 write-requires c κs = search needs
 
--- src/lib.rt:15:1
 same-length-4 : tie.Need-same-length-4
 same-length-4 c = search needs
 
--- src/lib.rt:15:1
 same-length-5 : tie.Need-same-length-5
 same-length-5 c = search needs
 
--- src/lib.rt:15:1
 same-length-6 : tie.Need-same-length-6
 same-length-6 c = search needs
 
--- src/lib.rt:15:1
 same-length-7 : tie.Need-same-length-7
 same-length-7 c = search needs
 
--- src/lib.rt:15:1
 returns-2 : tie.Need-returns-2
 returns-2 c =
     let k = c .before .before .before .before .before .before .before .before .before in

@@ -1,3 +1,4 @@
+-- `trace::read` meets its contract: each way out is a law of `Readings`. Assumes nothing.
 use Prim.Native.Nat.{ℕ, _≤_}
 use mathlib.Core.Path.{_≡_, refl, sym, _∙_}
 use mathlib.Core.List.{List}
@@ -50,104 +51,81 @@ counted c = rw part-is at (sym (c .before .before .before .count-events .ensures
 room-is : (c : tie.After-least2) → c .least2 .result ≡ room (lent (c .before .before .before .before .before .before .before))
 room-is c = c .least2 .ensures ∙ rw (c .before .least .ensures)
 
--- src/lib.rt:61:9
 head-of-requires : tie.Need-head-of-requires
 head-of-requires c κs = search needs
 
--- src/lib.rt:63:23
 enum-known-first : tie.Need-enum-known-first
 enum-known-first c = search needs
 
--- src/lib.rt:63:38
 unread-requires : tie.Need-unread-requires
 unread-requires c κs = search needs
 
--- src/lib.rt:64:22
 enum-known-first-2 : tie.Need-enum-known-first-2
 enum-known-first-2 c = search needs
 
--- src/lib.rt:65:24
 sub-body : tie.Need-sub-body
 sub-body c = head-fits c
 
--- src/lib.rt:65:24
 part-body-start : tie.Need-part-body-start
 part-body-start c = head-fits c
 
--- src/lib.rt:65:24
 part-body-end : tie.Need-part-body-end
 part-body-end c = search needs
 
--- src/lib.rt:66:17
 count-events-requires : tie.Need-count-events-requires
 count-events-requires c κs = rw part-is (omega (arith, length-drop (width (c .before)) (text (c .before)), head-was (text (c .before)) _ _ _ _ _ (head-read (c .before)) .short))
 
--- src/lib.rt:68:30
 enum-known-counted : tie.Need-enum-known-counted
 enum-known-counted c = search needs
 
--- src/lib.rt:68:45
 unread-requires-2 : tie.Need-unread-requires-2
 unread-requires-2 c κs = search needs
 
--- src/lib.rt:69:30
 enum-known-counted-2 : tie.Need-enum-known-counted-2
 enum-known-counted-2 c = search needs
 
--- src/lib.rt:70:51
 least-requires : tie.Need-least-requires
 least-requires c κs = search needs
 
--- src/lib.rt:70:25
 least-requires-2 : tie.Need-least-requires-2
 least-requires-2 c κs = search needs
 
--- src/lib.rt:72:25
 unread-requires-3 : tie.Need-unread-requires-3
 unread-requires-3 c κs = search needs
 
--- src/lib.rt:72:25
 returns : tie.Need-returns
 returns c =
     let k = c .before .before .before .before .before .before .before .before .before in
     let e = read-full (text k) (lent k) _ _ _ _ _ (head-read k) _ (counted (c .before .before .before .before)) (rw (room-is (c .before .before)) at (c .before .if1 .taken)) in
     rw e (read-gave (c .unread3 .ensures) refl refl refl)
 
--- src/lib.rt:74:21
 store-events-requires : tie.Need-store-events-requires
 store-events-requires c κs = rw part-is (fits-each _ _ _ _ _ (rw (room-is (c .before .before .before .before)) at (c .before .before .before .if1 .left)) (read-many (text (c .before .before .before .before .before .before .before .before .before .before .before)) (lent (c .before .before .before .before .before .before .before .before .before .before .before)) _ _ _ _ _ (head-read (c .before .before .before .before .before .before .before .before .before .before .before)) _ (counted (c .before .before .before .before .before .before))))
 
--- src/lib.rt:75:21
 reading-with-requires : tie.Need-reading-with-requires
 reading-with-requires c κs = search needs
 
--- src/lib.rt:55:1
 returns-2 : tie.Need-returns-2
 returns-2 c =
     let a = c .before .before .before .before .before .before .before .before .before .args in
     let e = read-refused (a .text .now) (lists (a .times .now) (a .processes .now) (a .actions .now)) _ _ (sym (c .before .before .before .before .head-of .ensures) ∙ c .before .before .first .given .1) in
     rw e (read-gave (c .unread .ensures) refl refl refl)
 
--- src/lib.rt:55:1
 returns-3 : tie.Need-returns-3
 returns-3 c =
     let k = c .before .before .before .before .before .before in
     let e = read-fault (text k) (lent k) _ _ _ _ _ (head-read k) _ _ (rw part-is at (sym (c .before .before .before .before .count-events .ensures) ∙ c .before .before .counted .given .1)) in
     rw e (read-gave (c .unread2 .ensures) refl refl refl)
 
--- src/lib.rt:55:1
 same-length : tie.Need-same-length
 same-length c = search needs
 
--- src/lib.rt:55:1
 same-length-2 : tie.Need-same-length-2
 same-length-2 c = search needs
 
--- src/lib.rt:55:1
 same-length-3 : tie.Need-same-length-3
 same-length-3 c = search needs
 
--- src/lib.rt:55:1
 returns-4 : tie.Need-returns-4
 returns-4 c =
     let k = c .before .before .before .before .before .before .before .before .before .before .before .before .before .before .before .before .before .before .before in

@@ -1,14 +1,13 @@
+-- `fields::has_leading_zero` meets its contract. Assumes nothing.
 use borrow.Author.Tests.{eq-eqb, ne-eqb}
 use Rattle.trace.proofs.fields.has_leading_zero.Statement.{statement}
 use Rattle.trace.proofs.fields.has_leading_zero.Tie as tie
 use Rattle.trace.proofs.fields.has_leading_zero.Reads as reads
 use Rattle.trace.proofs.fields.has_leading_zero.Lts as lts
 
--- src/fields.rt:60:9
 returns : tie.Need-returns
 returns c = simp (ne-eqb _ _ (c .if1 .taken))
 
--- src/fields.rt:56:1
 returns-2 : tie.Need-returns-2
 returns-2 c = simp (eq-eqb _ _ (c .if1 .left))
 

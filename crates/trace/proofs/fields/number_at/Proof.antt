@@ -1,3 +1,5 @@
+-- `fields::number_at` meets its contract. The invariant: the number is read from what is left, after the digits so far; one turn
+-- is `numberTurn`. Assumes nothing.
 use borrow.Author.Needs.{needs}
 use Prim.Native.Nat.{_+_, _-_, _*_, _≤_, _<_}
 use mathlib.Core.Path.{_≡_, refl, sym, _∙_}
@@ -47,75 +49,58 @@ digit-turn c =
     simp (ne-eqb _ _ (c .before .before .before .before .if1 .left), le-ltb _ _ (c .before .before .before .if3 .left), le-ltb _ _ (c .before .before .if4 .left), sym (c .before .has-leading-zero .ensures) ∙ c .if5 .left) at
     (turn (digit c))
 
--- src/fields.rt:89:5
 loop-holds : tie.Need-loop-holds Inv-loop μ-loop
 loop-holds c = (omega arith, omega arith, refl)
 
--- src/fields.rt:90:17
 shared-slice-read-x : tie.Need-shared-slice-read-x Inv-loop μ-loop
 shared-slice-read-x c = search needs
 
--- src/fields.rt:93:17
 returns : tie.Need-returns Inv-loop μ-loop
 returns c = simp (eq-eqb _ _ (c .before .if1 .taken), eq-eqb _ _ (c .if2 .taken)) at (turn (c .before .before))
 
--- src/fields.rt:95:36
 add-t13 : tie.Need-add-t13 Inv-loop μ-loop
 add-t13 c = search needs
 
--- src/fields.rt:95:13
 returns-2 : tie.Need-returns-2 Inv-loop μ-loop
 returns-2 c = simp (eq-eqb _ _ (c .before .if1 .taken), ne-eqb _ _ (c .if2 .left)) at (turn (c .before .before))
 
--- src/fields.rt:98:13
 returns-3 : tie.Need-returns-3 Inv-loop μ-loop
 returns-3 c = simp (ne-eqb _ _ (c .before .if1 .left), lt-ltb _ _ (c .if3 .taken)) at (turn (c .before .before))
 
--- src/fields.rt:101:13
 returns-4 : tie.Need-returns-4 Inv-loop μ-loop
 returns-4 c =
     simp (ne-eqb _ _ (c .before .before .if1 .left), le-ltb _ _ (c .before .if3 .left), lt-ltb _ _ (c .if4 .taken)) at (turn (c .before .before .before))
 
--- src/fields.rt:103:12
 has-leading-zero-requires : tie.Need-has-leading-zero-requires Inv-loop μ-loop
 has-leading-zero-requires c κs = search needs
 
--- src/fields.rt:104:13
 returns-5 : tie.Need-returns-5 Inv-loop μ-loop
 returns-5 c =
     simp (ne-eqb _ _ (c .before .before .before .before .if1 .left), le-ltb _ _ (c .before .before .before .if3 .left), le-ltb _ _ (c .before .before .if4 .left), sym (c .before .has-leading-zero .ensures) ∙ c .if5 .taken) at
     (turn (c .before .before .before .before .before))
 
--- src/fields.rt:106:20
 mul-next : tie.Need-mul-next Inv-loop μ-loop
 mul-next c = search needs
 
--- src/fields.rt:106:29
 wide-requires : tie.Need-wide-requires Inv-loop μ-loop
 wide-requires c κs = search needs
 
--- src/fields.rt:106:20
 add-next : tie.Need-add-next Inv-loop μ-loop
 add-next c = search needs
 
--- src/fields.rt:108:13
 returns-6 : tie.Need-returns-6 Inv-loop μ-loop
 returns-6 c = simp (le-leb _ _ (rw (c .before .wide .ensures) at (c .if6 .taken))) at (digit-turn (c .before .before))
 
--- src/fields.rt:111:9
 add-i : tie.Need-add-i Inv-loop μ-loop
 add-i c = search needs
 
--- src/fields.rt:89:5
 loop-less : tie.Need-loop-less Inv-loop μ-loop
 loop-less c = search needs
 
--- src/fields.rt:89:5
 loop-again : tie.Need-loop-again Inv-loop μ-loop
 loop-again c =
     (omega arith, omega arith, rw (c .before .wide .ensures) (simp (lt-leb _ _ (rw (c .before .wide .ensures) at (c .if6 .left))) at (digit-turn (c .before .before))))
 
--- src/fields.rt:83:1
 returns-7 : tie.Need-returns-7 Inv-loop μ-loop
 unfolding numberFrom
 returns-7 c =

@@ -1,3 +1,4 @@
+-- `fields::starts_with` meets its contract. The invariant: what is left of the text starts with what is left of the word. Assumes nothing.
 use borrow.Author.Needs.{needs}
 use Prim.Native.Nat.{_-_, _≤_}
 use mathlib.Core.Path.{_≡_, refl, sym, _∙_}
@@ -18,48 +19,39 @@ Inv-loop s w i₀ i = (i ≤ length w) × (i ≤ length s) × (startsWith (drop 
 abbrev μ-loop : tie.MeasureT-loop
 μ-loop s w i₀ i = length w - i
 
--- src/fields.rt:70:5
 loop-holds : tie.Need-loop-holds Inv-loop μ-loop
 loop-holds c = (omega arith, omega arith, refl)
 
--- src/fields.rt:72:13
 returns : tie.Need-returns Inv-loop μ-loop
 returns c =
     let v = c .before .before .loop in
     let a = c .before .before .before .args in
     sym (starts-short (a .w .now) (a .s .now) (v .i) (omega arith) (omega arith) (omega arith)) ∙ v .inv .2
 
--- src/fields.rt:74:12
 shared-slice-read-if2 : tie.Need-shared-slice-read-if2 Inv-loop μ-loop
 shared-slice-read-if2 c = search needs
 
--- src/fields.rt:74:20
 shared-slice-read-if2-2 : tie.Need-shared-slice-read-if2-2 Inv-loop μ-loop
 shared-slice-read-if2-2 c = search needs
 
--- src/fields.rt:75:13
 returns-2 : tie.Need-returns-2 Inv-loop μ-loop
 returns-2 c =
     let v = c .before .before .before .before .before .loop in
     let a = c .before .before .before .before .before .before .args in
     simp (ne-eqb _ _ (c .if2 .taken)) at (sym (starts-at (a .w .now) (a .s .now) (v .i) (omega arith) (omega arith))) ∙ v .inv .2
 
--- src/fields.rt:77:9
 add-i : tie.Need-add-i Inv-loop μ-loop
 add-i c = search needs
 
--- src/fields.rt:70:5
 loop-less : tie.Need-loop-less Inv-loop μ-loop
 loop-less c = search needs
 
--- src/fields.rt:70:5
 loop-again : tie.Need-loop-again Inv-loop μ-loop
 loop-again c =
     let v = c .before .before .before .before .before .loop in
     let a = c .before .before .before .before .before .before .args in
     (omega arith, omega arith, simp (eq-eqb _ _ (c .if2 .left)) at (sym (starts-at (a .w .now) (a .s .now) (v .i) (omega arith) (omega arith))) ∙ v .inv .2)
 
--- src/fields.rt:66:1
 returns-3 : tie.Need-returns-3 Inv-loop μ-loop
 unfolding startsWith
 returns-3 c =

@@ -1,3 +1,4 @@
+-- `fields::word_at` meets its contract: one word after the other is tried, and those that are left read the text. Assumes nothing.
 use Prim.Native.Nat.{ℕ}
 use mathlib.Core.Path.{_≡_, sym, _∙_}
 use mathlib.Core.List.{List}
@@ -68,115 +69,87 @@ text9 c = text8 (c .before .before .before)
 past9 : (c : tie.Else9) → wordFrom 9 (drop 9 words) (text9 c) ≡ wordAt (text9 c)
 past9 c = word-next 8 (bytes "rem") (drop 9 words) (text9 c) (sym (c .before .starts-with9 .ensures) ∙ c .if9 .left) ∙ past8 (c .before .before .before)
 
--- src/fields.rt:87:23
 slice-aggregate-starts-with : tie.Need-slice-aggregate-starts-with
 slice-aggregate-starts-with c = search needs
 
--- src/fields.rt:87:8
 starts-with-requires : tie.Need-starts-with-requires
 starts-with-requires c κs = search needs
 
--- src/fields.rt:88:9
 returns : tie.Need-returns
 returns c = word-here 0 (bytes "wait") (drop 1 words) (c .before .before .before .before .args .s .now) (sym (c .before .starts-with .ensures) ∙ c .if1 .taken)
 
--- src/fields.rt:90:23
 slice-aggregate-starts-with-2 : tie.Need-slice-aggregate-starts-with-2
 slice-aggregate-starts-with-2 c = search needs
 
--- src/fields.rt:90:8
 starts-with-requires-2 : tie.Need-starts-with-requires-2
 starts-with-requires-2 c κs = search needs
 
--- src/fields.rt:91:9
 returns-2 : tie.Need-returns-2
 returns-2 c = word-here 1 (bytes "try") (drop 2 words) (text1 (c .before .before .before)) (sym (c .before .starts-with2 .ensures) ∙ c .if2 .taken) ∙ past1 (c .before .before .before)
 
--- src/fields.rt:93:23
 slice-aggregate-starts-with-3 : tie.Need-slice-aggregate-starts-with-3
 slice-aggregate-starts-with-3 c = search needs
 
--- src/fields.rt:93:8
 starts-with-requires-3 : tie.Need-starts-with-requires-3
 starts-with-requires-3 c κs = search needs
 
--- src/fields.rt:94:9
 returns-3 : tie.Need-returns-3
 returns-3 c = word-here 2 (bytes "test") (drop 3 words) (text2 (c .before .before .before)) (sym (c .before .starts-with3 .ensures) ∙ c .if3 .taken) ∙ past2 (c .before .before .before)
 
--- src/fields.rt:96:23
 slice-aggregate-starts-with-4 : tie.Need-slice-aggregate-starts-with-4
 slice-aggregate-starts-with-4 c = search needs
 
--- src/fields.rt:96:8
 starts-with-requires-4 : tie.Need-starts-with-requires-4
 starts-with-requires-4 c κs = search needs
 
--- src/fields.rt:97:9
 returns-4 : tie.Need-returns-4
 returns-4 c = word-here 3 (bytes "set") (drop 4 words) (text3 (c .before .before .before)) (sym (c .before .starts-with4 .ensures) ∙ c .if4 .taken) ∙ past3 (c .before .before .before)
 
--- src/fields.rt:99:23
 slice-aggregate-starts-with-5 : tie.Need-slice-aggregate-starts-with-5
 slice-aggregate-starts-with-5 c = search needs
 
--- src/fields.rt:99:8
 starts-with-requires-5 : tie.Need-starts-with-requires-5
 starts-with-requires-5 c κs = search needs
 
--- src/fields.rt:100:9
 returns-5 : tie.Need-returns-5
 returns-5 c = word-here 4 (bytes "check") (drop 5 words) (text4 (c .before .before .before)) (sym (c .before .starts-with5 .ensures) ∙ c .if5 .taken) ∙ past4 (c .before .before .before)
 
--- src/fields.rt:102:23
 slice-aggregate-starts-with-6 : tie.Need-slice-aggregate-starts-with-6
 slice-aggregate-starts-with-6 c = search needs
 
--- src/fields.rt:102:8
 starts-with-requires-6 : tie.Need-starts-with-requires-6
 starts-with-requires-6 c κs = search needs
 
--- src/fields.rt:103:9
 returns-6 : tie.Need-returns-6
 returns-6 c = word-here 5 (bytes "crit") (drop 6 words) (text5 (c .before .before .before)) (sym (c .before .starts-with6 .ensures) ∙ c .if6 .taken) ∙ past5 (c .before .before .before)
 
--- src/fields.rt:105:23
 slice-aggregate-starts-with-7 : tie.Need-slice-aggregate-starts-with-7
 slice-aggregate-starts-with-7 c = search needs
 
--- src/fields.rt:105:8
 starts-with-requires-7 : tie.Need-starts-with-requires-7
 starts-with-requires-7 c κs = search needs
 
--- src/fields.rt:106:9
 returns-7 : tie.Need-returns-7
 returns-7 c = word-here 6 (bytes "exit") (drop 7 words) (text6 (c .before .before .before)) (sym (c .before .starts-with7 .ensures) ∙ c .if7 .taken) ∙ past6 (c .before .before .before)
 
--- src/fields.rt:108:23
 slice-aggregate-starts-with-8 : tie.Need-slice-aggregate-starts-with-8
 slice-aggregate-starts-with-8 c = search needs
 
--- src/fields.rt:108:8
 starts-with-requires-8 : tie.Need-starts-with-requires-8
 starts-with-requires-8 c κs = search needs
 
--- src/fields.rt:109:9
 returns-8 : tie.Need-returns-8
 returns-8 c = word-here 7 (bytes "reset") (drop 8 words) (text7 (c .before .before .before)) (sym (c .before .starts-with8 .ensures) ∙ c .if8 .taken) ∙ past7 (c .before .before .before)
 
--- src/fields.rt:111:23
 slice-aggregate-starts-with-9 : tie.Need-slice-aggregate-starts-with-9
 slice-aggregate-starts-with-9 c = search needs
 
--- src/fields.rt:111:8
 starts-with-requires-9 : tie.Need-starts-with-requires-9
 starts-with-requires-9 c κs = search needs
 
--- src/fields.rt:112:9
 returns-9 : tie.Need-returns-9
 returns-9 c = word-here 8 (bytes "rem") (drop 9 words) (text8 (c .before .before .before)) (sym (c .before .starts-with9 .ensures) ∙ c .if9 .taken) ∙ past8 (c .before .before .before)
 
--- src/fields.rt:84:1
 returns-10 : tie.Need-returns-10
 unfolding wordFrom
 returns-10 c = past9 c

@@ -1,3 +1,4 @@
+-- `lines::event_at` meets its contract: each field is read from what the fields before it left, and lies within it. Assumes nothing.
 use Prim.Native.Nat.{ℕ, _+_, _≤_}
 use mathlib.Core.Path.{_≡_, sym, _∙_}
 use mathlib.Core.List.{List}
@@ -83,90 +84,69 @@ within c =
       fits3 c,
     )
 
--- src/lines.rt:154:9
 number-at-requires : tie.Need-number-at-requires
 number-at-requires c κs = search needs
 
--- src/lines.rt:155:22
 enum-known-first : tie.Need-enum-known-first
 enum-known-first c = search needs
 
--- src/lines.rt:156:9
 enum-told : tie.Need-enum-told
 enum-told c = search needs
 
--- src/lines.rt:156:9
 returns : tie.Need-returns
 unfolding eventAt
 returns c = rw (sym (c .before .before .number-at .ensures) ∙ c .enum-told .given .1)
 
--- src/lines.rt:158:22
 sub-after-time : tie.Need-sub-after-time
 sub-after-time c = fits1 c
 
--- src/lines.rt:158:22
 part-after-time-start : tie.Need-part-after-time-start
 part-after-time-start c = fits1 c
 
--- src/lines.rt:158:22
 part-after-time-end : tie.Need-part-after-time-end
 part-after-time-end c = search needs
 
--- src/lines.rt:159:9
 number-at-requires-2 : tie.Need-number-at-requires-2
 number-at-requires-2 c κs = search needs
 
--- src/lines.rt:160:22
 enum-known-second : tie.Need-enum-known-second
 enum-known-second c = search needs
 
--- src/lines.rt:161:9
 enum-told-2 : tie.Need-enum-told-2
 enum-told-2 c = search needs
 
--- src/lines.rt:161:9
 returns-2 : tie.Need-returns-2
 unfolding eventAt
 returns-2 c = let k = c .before .before .before .before in rw (read1 k, rw part-is at (sym (c .before .before .number-at2 .ensures) ∙ c .enum-told2 .given .1))
 
--- src/lines.rt:163:22
 sub-word-at : tie.Need-sub-word-at
 sub-word-at c = rw part-is (fits2 c)
 
--- src/lines.rt:163:22
 part-word-at-start : tie.Need-part-word-at-start
 part-word-at-start c = rw part-is (fits2 c)
 
--- src/lines.rt:163:22
 part-word-at-end : tie.Need-part-word-at-end
 part-word-at-end c = search needs
 
--- src/lines.rt:163:9
 word-at-requires : tie.Need-word-at-requires
 word-at-requires c κs = search needs
 
--- src/lines.rt:164:22
 enum-known-third : tie.Need-enum-known-third
 enum-known-third c = search needs
 
--- src/lines.rt:165:9
 enum-told-3 : tie.Need-enum-told-3
 enum-told-3 c = search needs
 
--- src/lines.rt:165:9
 returns-3 : tie.Need-returns-3
 unfolding eventAt
 returns-3 c = let k = c .before .before .before .before in rw (read1 (to1 k), read2 k, rw (part-is, part-is) at (sym (c .before .before .word-at .ensures) ∙ c .enum-told3 .given .1))
 
--- src/lines.rt:167:24
 add-t14 : tie.Need-add-t14
 add-t14 c = omega (arith, within c)
 
--- src/lines.rt:167:24
 add-t19 : tie.Need-add-t19
 add-t19 c = omega (arith, within c)
 
--- src/lines.rt:151:1
 returns-4 : tie.Need-returns-4
 unfolding eventAt
 returns-4 c = rw (read1 (to1 (to2 c)), read2 (to2 c), read3 c)

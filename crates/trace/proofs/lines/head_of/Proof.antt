@@ -1,3 +1,4 @@
+-- `lines::head_of` meets its contract: past each line, what is left of `headOf` decides. Assumes nothing.
 use Prim.Native.Nat.{ℕ, _+_, _≤_}
 use mathlib.Core.Path.{_≡_, sym, ap, _∙_}
 use mathlib.Core.Bool.{true}
@@ -66,102 +67,78 @@ counted c = sym (c .before .count-stands .ensures) ∙ not-false _ (c .if3 .left
 limited : (c : tie.Else4) → (let v = c .before .before .before .before .before .values .given .0 in limitsStand (v .1 .0) (v .1 .1 .0) (v .1 .1 .1 .0) ≡ true)
 limited c = sym (c .before .limits-stand .ensures) ∙ not-false _ (c .if4 .left)
 
--- src/lines.rt:230:9
 returns : tie.Need-returns
 unfolding headOf
 returns c = simp (lt-ltb _ _ (c .if1 .taken))
 
--- src/lines.rt:232:22
 slice-aggregate-starts-with : tie.Need-slice-aggregate-starts-with
 slice-aggregate-starts-with c = search needs
 
--- src/lines.rt:232:9
 starts-with-requires : tie.Need-starts-with-requires
 starts-with-requires c κs = search needs
 
--- src/lines.rt:233:9
 returns-2 : tie.Need-returns-2
 unfolding headOf
 returns-2 c = rw (le-ltb _ _ (c .before .before .before .if1 .left), sym (c .before .starts-with .ensures) ∙ not-true _ (c .if2 .taken))
 
--- src/lines.rt:235:30
 sub-values-at : tie.Need-sub-values-at
 sub-values-at c = after-names c
 
--- src/lines.rt:235:30
 part-values-at-start : tie.Need-part-values-at-start
 part-values-at-start c = after-names c
 
--- src/lines.rt:235:30
 part-values-at-end : tie.Need-part-values-at-end
 part-values-at-end c = search needs
 
--- src/lines.rt:235:9
 values-at-requires : tie.Need-values-at-requires
 values-at-requires c κs = search needs
 
--- src/lines.rt:236:22
 enum-known-values : tie.Need-enum-known-values
 enum-known-values c = search needs
 
--- src/lines.rt:237:9
 enum-told : tie.Need-enum-told
 enum-told c = search needs
 
--- src/lines.rt:237:9
 returns-3 : tie.Need-returns-3
 returns-3 c = let k = c .before .before .before .before in sym (rw (rw part-is at (sym (c .before .before .values-at .ensures) ∙ c .enum-told .given .1)) at (head2 k))
 
--- src/lines.rt:239:9
 count-stands-requires : tie.Need-count-stands-requires
 count-stands-requires c κs = search needs
 
--- src/lines.rt:240:9
 returns-4 : tie.Need-returns-4
 returns-4 c = sym (simp (sym (c .before .count-stands .ensures) ∙ not-true _ (c .if3 .taken)) at (head3 (c .before .before)))
 
--- src/lines.rt:242:9
 limits-stand-requires : tie.Need-limits-stand-requires
 limits-stand-requires c κs = search needs
 
--- src/lines.rt:243:9
 returns-5 : tie.Need-returns-5
 returns-5 c = sym (simp (counted (c .before .before), sym (c .before .limits-stand .ensures) ∙ not-true _ (c .if4 .taken)) at (head3 (c .before .before .before .before)))
 
--- src/lines.rt:245:14
 add-at : tie.Need-add-at
 add-at c = omega (arith, after-values (c .before .before .before .before))
 
--- src/lines.rt:246:16
 sub-starts-with : tie.Need-sub-starts-with
 sub-starts-with c = after-values (c .before .before .before .before)
 
--- src/lines.rt:246:16
 part-starts-with-start : tie.Need-part-starts-with-start
 part-starts-with-start c = after-values (c .before .before .before .before)
 
--- src/lines.rt:246:16
 part-starts-with-end : tie.Need-part-starts-with-end
 part-starts-with-end c = search needs
 
--- src/lines.rt:246:29
 slice-aggregate-starts-with-2 : tie.Need-slice-aggregate-starts-with-2
 slice-aggregate-starts-with-2 c = search needs
 
--- src/lines.rt:246:9
 starts-with-requires-2 : tie.Need-starts-with-requires-2
 starts-with-requires-2 c κs = search needs
 
--- src/lines.rt:247:9
 returns-6 : tie.Need-returns-6
 returns-6 c =
     sym (simp (counted (c .before .before .before .before .before .before), limited (c .before .before .before .before), rw part-is at (sym (c .before .starts-with2 .ensures) ∙ not-true _ (c .if5 .taken))) at (head3 (c .before .before .before .before .before .before .before .before)))
 
--- src/lines.rt:249:30
 add-t11 : tie.Need-add-t11
 add-t11 c = omega (arith, after-values (c .before .before .before .before .before .before .before .before))
 
--- src/lines.rt:226:1
 returns-7 : tie.Need-returns-7
 returns-7 c =
     sym (simp (counted (c .before .before .before .before .before .before), limited (c .before .before .before .before), rw part-is at (sym (c .before .starts-with2 .ensures) ∙ not-false _ (c .if5 .left))) at (head3 (c .before .before .before .before .before .before .before .before)))

@@ -1,3 +1,4 @@
+-- `lines::values_at` meets its contract: each field is read from what the fields before it left, and lies within it. Assumes nothing.
 use Prim.Native.Nat.{ℕ, _+_, _≤_}
 use mathlib.Core.Path.{_≡_, sym, _∙_}
 use mathlib.Core.List.{List}
@@ -103,125 +104,96 @@ within c =
       fits4 c,
     )
 
--- src/lines.rt:174:9
 number-at-requires : tie.Need-number-at-requires
 number-at-requires c κs = search needs
 
--- src/lines.rt:175:22
 enum-known-first : tie.Need-enum-known-first
 enum-known-first c = search needs
 
--- src/lines.rt:176:9
 enum-told : tie.Need-enum-told
 enum-told c = search needs
 
--- src/lines.rt:176:9
 returns : tie.Need-returns
 unfolding valuesAt
 returns c = rw (sym (c .before .before .number-at .ensures) ∙ c .enum-told .given .1)
 
--- src/lines.rt:178:19
 sub-after-n : tie.Need-sub-after-n
 sub-after-n c = fits1 c
 
--- src/lines.rt:178:19
 part-after-n-start : tie.Need-part-after-n-start
 part-after-n-start c = fits1 c
 
--- src/lines.rt:178:19
 part-after-n-end : tie.Need-part-after-n-end
 part-after-n-end c = search needs
 
--- src/lines.rt:179:9
 number-at-requires-2 : tie.Need-number-at-requires-2
 number-at-requires-2 c κs = search needs
 
--- src/lines.rt:180:22
 enum-known-second : tie.Need-enum-known-second
 enum-known-second c = search needs
 
--- src/lines.rt:181:9
 enum-told-2 : tie.Need-enum-told-2
 enum-told-2 c = search needs
 
--- src/lines.rt:181:9
 returns-2 : tie.Need-returns-2
 unfolding valuesAt
 returns-2 c = let k = c .before .before .before .before in rw (read1 k, rw part-is at (sym (c .before .before .number-at2 .ensures) ∙ c .enum-told2 .given .1))
 
--- src/lines.rt:183:19
 sub-after-a : tie.Need-sub-after-a
 sub-after-a c = rw part-is (fits2 c)
 
--- src/lines.rt:183:19
 part-after-a-start : tie.Need-part-after-a-start
 part-after-a-start c = rw part-is (fits2 c)
 
--- src/lines.rt:183:19
 part-after-a-end : tie.Need-part-after-a-end
 part-after-a-end c = search needs
 
--- src/lines.rt:184:9
 number-at-requires-3 : tie.Need-number-at-requires-3
 number-at-requires-3 c κs = search needs
 
--- src/lines.rt:185:22
 enum-known-third : tie.Need-enum-known-third
 enum-known-third c = search needs
 
--- src/lines.rt:186:9
 enum-told-3 : tie.Need-enum-told-3
 enum-told-3 c = search needs
 
--- src/lines.rt:186:9
 returns-3 : tie.Need-returns-3
 unfolding valuesAt
 returns-3 c = let k = c .before .before .before .before in rw (read1 (to1 k), read2 k, rw (part-is, part-is) at (sym (c .before .before .number-at3 .ensures) ∙ c .enum-told3 .given .1))
 
--- src/lines.rt:188:25
 sub-number-at : tie.Need-sub-number-at
 sub-number-at c = rw (part-is, part-is) (fits3 c)
 
--- src/lines.rt:188:25
 part-number-at-start : tie.Need-part-number-at-start
 part-number-at-start c = rw (part-is, part-is) (fits3 c)
 
--- src/lines.rt:188:25
 part-number-at-end : tie.Need-part-number-at-end
 part-number-at-end c = search needs
 
--- src/lines.rt:188:9
 number-at-requires-4 : tie.Need-number-at-requires-4
 number-at-requires-4 c κs = search needs
 
--- src/lines.rt:189:22
 enum-known-fourth : tie.Need-enum-known-fourth
 enum-known-fourth c = search needs
 
--- src/lines.rt:190:9
 enum-told-4 : tie.Need-enum-told-4
 enum-told-4 c = search needs
 
--- src/lines.rt:190:9
 returns-4 : tie.Need-returns-4
 unfolding valuesAt
 returns-4 c =
     let k = c .before .before .before .before in
     rw (read1 (to1 (to2 k)), read2 (to2 k), read3 k, rw (part-is, part-is, part-is) at (sym (c .before .before .number-at4 .ensures) ∙ c .enum-told4 .given .1))
 
--- src/lines.rt:192:30
 add-t17 : tie.Need-add-t17
 add-t17 c = omega (arith, within c)
 
--- src/lines.rt:192:30
 add-t24 : tie.Need-add-t24
 add-t24 c = omega (arith, within c)
 
--- src/lines.rt:192:30
 add-t25 : tie.Need-add-t25
 add-t25 c = omega (arith, within c)
 
--- src/lines.rt:171:1
 returns-5 : tie.Need-returns-5
 unfolding valuesAt
 returns-5 c = rw (read1 (to1 (to2 (to3 c))), read2 (to2 (to3 c)), read3 (to3 c), read4 c)

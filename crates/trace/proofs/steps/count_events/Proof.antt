@@ -1,3 +1,4 @@
+-- `steps::count_events` meets its contract. The invariant is `Along`, the walk from line to line. Assumes nothing.
 use borrow.Author.Needs.{needs}
 use Prim.Native.Nat.{ℕ, _+_, _-_, _<_}
 use mathlib.Core.Path.{_≡_, sym, _∙_}
@@ -42,62 +43,48 @@ step-read : (c : tie.After-known-told Inv-loop μ-loop)
     ≡ Step (c .before .row .given .0 .0) (c .before .row .given .0 .1 .0) (c .before .row .given .0 .1 .1 .0) (width c)
 step-read c = rw part-is at (sym (c .before .before .before .event-at .ensures) ∙ c .before .row .given .1)
 
--- src/steps.rt:259:5
 loop-holds : tie.Need-loop-holds Inv-loop μ-loop
 loop-holds c = along-start _
 
--- src/steps.rt:260:20
 add-line : tie.Need-add-line Inv-loop μ-loop
 add-line c = omega (arith, c .before .loop .inv .fewer)
 
--- src/steps.rt:261:29
 sub-event-at : tie.Need-sub-event-at Inv-loop μ-loop
 sub-event-at c = search needs
 
--- src/steps.rt:261:29
 part-event-at-start : tie.Need-part-event-at-start Inv-loop μ-loop
 part-event-at-start c = search needs
 
--- src/steps.rt:261:29
 part-event-at-end : tie.Need-part-event-at-end Inv-loop μ-loop
 part-event-at-end c = search needs
 
--- src/steps.rt:261:13
 event-at-requires : tie.Need-event-at-requires Inv-loop μ-loop
 event-at-requires c κs = search needs
 
--- src/steps.rt:262:23
 enum-known-row : tie.Need-enum-known-row Inv-loop μ-loop
 enum-known-row c = search needs
 
--- src/steps.rt:263:13
 enum-told : tie.Need-enum-told Inv-loop μ-loop
 enum-told c = search needs
 
--- src/steps.rt:263:13
 returns : tie.Need-returns Inv-loop μ-loop
 returns c =
     let v = c .before .before .before .before .before .loop in
     let f = along-fault (c .before .before .before .before .before .before .before .args .s .now) (v .at) (v .count) (v .inv) _ _ (c .before .before .before .before .loop-test .taken) (rw part-is at (sym (c .before .before .event-at .ensures) ∙ c .enum-told .given .1)) in
     rw (f .1) (simp (ne-eqb (v .count + 4) 0 (λ (z : v .count + 4 ≡ 0). omega arith)))
 
--- src/steps.rt:265:9
 add-at : tie.Need-add-at Inv-loop μ-loop
 add-at c = omega (arith, along-inside (text c) (start c) (past c) _ _ _ (width c) (more c) (step-read c))
 
--- src/steps.rt:266:9
 add-count : tie.Need-add-count Inv-loop μ-loop
 add-count c = omega (arith, c .before .before .before .before .before .before .loop .inv .fewer)
 
--- src/steps.rt:259:5
 loop-less : tie.Need-loop-less Inv-loop μ-loop
 loop-less c = omega (arith, along-more (text c) (start c) (past c) _ _ _ (width c) (more c) (step-read c))
 
--- src/steps.rt:259:5
 loop-again : tie.Need-loop-again Inv-loop μ-loop
 loop-again c = along-step (text c) (start c) (past c) _ _ _ (width c) (more c) (step-read c) (c .before .before .before .before .before .before .loop .inv)
 
--- src/steps.rt:253:1
 returns-2 : tie.Need-returns-2 Inv-loop μ-loop
 returns-2 c =
     let e = along-end (c .before .before .before .args .s .now) (c .before .loop .at) (c .before .loop .count) (c .before .loop .inv) (c .loop-test .left) in

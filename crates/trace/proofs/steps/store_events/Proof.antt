@@ -1,3 +1,4 @@
+-- `steps::store_events` meets its contract. The invariant is `Along`, and `Stored` for each list. Assumes nothing.
 use borrow.Author.Needs.{needs}
 use Prim.Native.Nat.{ℕ, _+_, _-_, _<_}
 use mathlib.Core.Path.{_≡_, sym, _∙_}
@@ -60,51 +61,39 @@ fault : (c : tie.After-enum-told Inv-loop μ-loop)
     eventAt (v .i + 4) (drop (v .at) (c .before .before .before .before .before .before .before .before .before .before .args .s .now)) ≡ Unread (c .enum-told .given .0 .0) (c .enum-told .given .0 .1 .0))
 fault c = rw part-is at (sym (c .before .before .event-at .ensures) ∙ c .enum-told .given .1)
 
--- src/steps.rt:282:5
 loop-holds : tie.Need-loop-holds Inv-loop μ-loop
 loop-holds c = (along-start _, stored-start _ _ _, stored-start _ _ _, stored-start _ _ _)
 
--- src/steps.rt:283:20
 add-line : tie.Need-add-line Inv-loop μ-loop
 add-line c = omega (arith, c .before .loop .inv .0 .fewer)
 
--- src/steps.rt:284:29
 sub-event-at : tie.Need-sub-event-at Inv-loop μ-loop
 sub-event-at c = search needs
 
--- src/steps.rt:284:29
 part-event-at-start : tie.Need-part-event-at-start Inv-loop μ-loop
 part-event-at-start c = search needs
 
--- src/steps.rt:284:29
 part-event-at-end : tie.Need-part-event-at-end Inv-loop μ-loop
 part-event-at-end c = search needs
 
--- src/steps.rt:284:13
 event-at-requires : tie.Need-event-at-requires Inv-loop μ-loop
 event-at-requires c κs = search needs
 
--- src/steps.rt:285:23
 enum-known-row : tie.Need-enum-known-row Inv-loop μ-loop
 enum-known-row c = search needs
 
--- src/steps.rt:286:13
 enum-told : tie.Need-enum-told Inv-loop μ-loop
 enum-told c = search needs
 
--- src/steps.rt:286:13
 same-length : tie.Need-same-length Inv-loop μ-loop
 same-length c = c .before .before .before .before .before .loop .inv .1 .long
 
--- src/steps.rt:286:13
 same-length-2 : tie.Need-same-length-2 Inv-loop μ-loop
 same-length-2 c = c .before .before .before .before .before .loop .inv .2 .long
 
--- src/steps.rt:286:13
 same-length-3 : tie.Need-same-length-3 Inv-loop μ-loop
 same-length-3 c = c .before .before .before .before .before .loop .inv .3 .long
 
--- src/steps.rt:286:13
 returns : tie.Need-returns Inv-loop μ-loop
 returns c =
     let v = c .before .before .before .before .before .loop in
@@ -117,43 +106,33 @@ returns c =
       ),
     )
 
--- src/steps.rt:288:9
 mul-times : tie.Need-mul-times Inv-loop μ-loop
 mul-times c = let v = c .before .before .before .before .before .before .loop in omega (arith, place-times c, v .inv .1 .long, c .before .before .before .before .before .before .before .before .before .before .before .good)
 
--- src/steps.rt:288:9
 slice-write-times : tie.Need-slice-write-times Inv-loop μ-loop
 slice-write-times c = place-times c
 
--- src/steps.rt:289:9
 mul-processes : tie.Need-mul-processes Inv-loop μ-loop
 mul-processes c = let v = c .before .before .before .before .before .before .loop in omega (arith, place-processes c, v .inv .2 .long, c .before .before .before .before .before .before .before .before .before .before .before .good)
 
--- src/steps.rt:289:9
 slice-write-processes : tie.Need-slice-write-processes Inv-loop μ-loop
 slice-write-processes c = place-processes c
 
--- src/steps.rt:290:9
 mul-actions : tie.Need-mul-actions Inv-loop μ-loop
 mul-actions c = let v = c .before .before .before .before .before .before .loop in omega (arith, place-actions c, v .inv .3 .long, c .before .before .before .before .before .before .before .before .before .before .before .good)
 
--- src/steps.rt:290:9
 slice-write-actions : tie.Need-slice-write-actions Inv-loop μ-loop
 slice-write-actions c = place-actions c
 
--- src/steps.rt:291:9
 add-at : tie.Need-add-at Inv-loop μ-loop
 add-at c = omega (arith, along-inside (text c) (start c) (past c) _ _ _ (width c) (more c) (step-read c))
 
--- src/steps.rt:292:9
 add-i : tie.Need-add-i Inv-loop μ-loop
 add-i c = omega (arith, c .before .before .before .before .before .before .loop .inv .0 .fewer)
 
--- src/steps.rt:282:5
 loop-less : tie.Need-loop-less Inv-loop μ-loop
 loop-less c = omega (arith, along-more (text c) (start c) (past c) _ _ _ (width c) (more c) (step-read c))
 
--- src/steps.rt:282:5
 loop-again : tie.Need-loop-again Inv-loop μ-loop
 loop-again c =
     let v = c .before .before .before .before .before .before .loop in (
@@ -163,19 +142,15 @@ loop-again c =
       stored-step _ _ _ _ _ _ (v .inv .3) _ _ _ (width c) (more c) (step-read c),
     )
 
--- src/steps.rt:272:1
 same-length-4 : tie.Need-same-length-4 Inv-loop μ-loop
 same-length-4 c = c .before .loop .inv .1 .long
 
--- src/steps.rt:272:1
 same-length-5 : tie.Need-same-length-5 Inv-loop μ-loop
 same-length-5 c = c .before .loop .inv .2 .long
 
--- src/steps.rt:272:1
 same-length-6 : tie.Need-same-length-6 Inv-loop μ-loop
 same-length-6 c = c .before .loop .inv .3 .long
 
--- src/steps.rt:272:1
 returns-2 : tie.Need-returns-2 Inv-loop μ-loop
 returns-2 c =
     let v = c .before .loop in
