@@ -5,3 +5,4 @@ pub mod Putting
 pub mod Sizes
 pub mod Traces
 pub mod Writes
+pub mod Cells

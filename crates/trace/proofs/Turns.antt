@@ -1,13 +1,13 @@
 -- One turn of each loop over bytes, said of the definitions that the loops compute. Assumes nothing.
 use Prim.Native.Nat.{ℕ, _+_, _-_, _*_, _≤_, _<_}
 use mathlib.Core.Path.{_≡_}
-use mathlib.Core.Bool.{true, false, cond, _&&_, _||_}
+use mathlib.Core.Bool.{false, cond, _&&_, _||_}
 use mathlib.Core.List.{List, [], _∷_, _++_}
 use lib.Dec.{leb, ltb, eqb}
 use lib.ListN.{length, getD, drop}
 use Rattle.model.specs.declared.Field.{Field}
 use Rattle.model.specs.declared.Field.the-variants.{Value, Bad}
-use Rattle.model.specs.Texts.{newline}
+use Rattle.model.specs.Texts.{newline, words}
 use Rattle.model.specs.Readings.{startsWith, numberFrom, wordFrom}
 use Rattle.grammar.proofs.Lists.{drop-at, drop-end}
 
@@ -34,12 +34,9 @@ pub number-at : (bound end v k : ℕ) (s : List ℕ) (i : ℕ) → i < length s
 unfolding numberFrom
 number-at bound end v k s i h = rw (drop-at s i 0 h)
 
--- one word more is tried
-module _ (base : ℕ) (w : List ℕ) (ws : List (List ℕ)) (s : List ℕ) where
-  pub word-here : startsWith (w ++ (newline ∷ [])) s ≡ true → Value base (length w + 1) ≡ wordFrom base (w ∷ ws) s
-  unfolding wordFrom
-  word-here e = simp e
-
-  pub word-next : startsWith (w ++ (newline ∷ [])) s ≡ false → wordFrom (base + 1) ws s ≡ wordFrom base (w ∷ ws) s
-  unfolding wordFrom
-  word-next e = simp e
+-- the word of one act is tried
+pub word-at : (a : ℕ) (s : List ℕ) → a < length words
+    → wordFrom a (drop a words) s
+    ≡ cond (startsWith (getD words a [] ++ (newline ∷ [])) s) (Value a (length (getD words a []) + 1)) (wordFrom (a + 1) (drop (a + 1) words) s)
+unfolding wordFrom
+word-at a s h = rw (drop-at words a [] h)

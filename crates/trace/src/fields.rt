@@ -1,5 +1,9 @@
 // The fields of a line, read at the start of a text. A reader of a field answers with an enum: the value and how many
 // bytes the field takes, or that it fails.
+use crate::words::CELL;
+use crate::words::CELLS;
+use crate::words::COUNT;
+use crate::words::WIDTHS;
 use model::Field;
 ghost use mathlib.Core.Path.{_≡_};
 ghost use mathlib.Core.Bool.{_&&_};
@@ -84,32 +88,17 @@ pub(crate) fn number_at(s: &[u8], bound: u64, end: u8) -> Field
 pub(crate) fn word_at(s: &[u8]) -> Field
     ensures { λ r. ⌜ r ≡ wordAt (now (s .entry)) ⌝ }
 {
-    if starts_with(s, b"wait\n") {
-        return Field::Value(0, 5);
-    }
-    if starts_with(s, b"try\n") {
-        return Field::Value(1, 4);
-    }
-    if starts_with(s, b"test\n") {
-        return Field::Value(2, 5);
-    }
-    if starts_with(s, b"set\n") {
-        return Field::Value(3, 4);
-    }
-    if starts_with(s, b"check\n") {
-        return Field::Value(4, 6);
-    }
-    if starts_with(s, b"crit\n") {
-        return Field::Value(5, 5);
-    }
-    if starts_with(s, b"exit\n") {
-        return Field::Value(6, 5);
-    }
-    if starts_with(s, b"reset\n") {
-        return Field::Value(7, 6);
-    }
-    if starts_with(s, b"rem\n") {
-        return Field::Value(8, 4);
+    let cells = CELLS;
+    let widths = WIDTHS;
+    let mut action: u64 = 0;
+    while action < COUNT {
+        let width = widths[action as usize];
+        let from = (action as usize) * CELL;
+        let to = from + width;
+        if starts_with(s, &cells[from..to]) {
+            return Field::Value(action, width);
+        }
+        action += 1;
     }
     Field::Bad
 }

@@ -5,6 +5,7 @@ mod lines;
 pub mod puts;
 mod steps;
 mod texts;
+mod words;
 
 use crate::lines::head_of;
 use crate::steps::Tally;

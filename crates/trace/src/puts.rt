@@ -1,5 +1,9 @@
 // Putting texts into a lent output. Each function puts as much of its text as the output has room for and answers how many
 // bytes the whole text has, so that an empty output measures it. None needs a promise.
+use crate::words::CELL;
+use crate::words::CELLS;
+use crate::words::COUNT;
+use crate::words::WIDTHS;
 ghost use mathlib.Core.Path.{_≡_};
 ghost use Prim.Native.Nat.{_+_};
 ghost use lib.ListN.{set};
@@ -54,18 +58,14 @@ pub fn put_number(out: &mut [u8], at: usize, v: u64, end: u8) -> usize
 fn put_word(out: &mut [u8], at: usize, action: u64) -> usize
     ensures { λ r. ⌜ Put (now (out .entry)) (now (out .exit)) at (wordText action) r ⌝ }
 {
-    match action {
-        0 => put_text(out, at, b"wait\n"),
-        1 => put_text(out, at, b"try\n"),
-        2 => put_text(out, at, b"test\n"),
-        3 => put_text(out, at, b"set\n"),
-        4 => put_text(out, at, b"check\n"),
-        5 => put_text(out, at, b"crit\n"),
-        6 => put_text(out, at, b"exit\n"),
-        7 => put_text(out, at, b"reset\n"),
-        8 => put_text(out, at, b"rem\n"),
-        9..=18446744073709551615 => put_text(out, at, b"\n"),
+    if COUNT <= action {
+        return put_text(out, at, b"\n");
     }
+    let cells = CELLS;
+    let widths = WIDTHS;
+    let from = (action as usize) * CELL;
+    let to = from + widths[action as usize];
+    put_text(out, at, &cells[from..to])
 }
 
 // A line of four numbers. The place is a u32 so that no sum of places overflows.

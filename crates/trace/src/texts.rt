@@ -4,6 +4,7 @@ use crate::fields::TIME_BOUND;
 use crate::puts::put_event;
 use crate::puts::put_text;
 use crate::puts::put_values;
+use crate::words::COUNT;
 ghost use mathlib.Core.Path.{_≡_};
 ghost use Prim.Native.Nat.{_≤_, min};
 ghost use Rattle.model.specs.Texts.{hasForm, headText, eventsText, traceText};
@@ -33,7 +34,7 @@ fn has_form(time: u64, process: u64, action: u64) -> bool
     if NUMBER_BOUND <= process {
         return false;
     }
-    action < 9
+    action < COUNT
 }
 
 // The line of the first step that has no form; 0 where there is none.
