@@ -1,11 +1,9 @@
 -- Laws of numbers and lists that the proofs of this crate cite, and that speak of no declared type. Assumes nothing.
-use Prim.Native.Nat.{ℕ, zero, suc, _+_, _≤_, _<_}
+use Prim.Native.Nat.{ℕ, zero, suc, _≤_}
 use mathlib.Core.Path.{_≡_, sym, _∙_}
-use mathlib.Core.List.{List, [], _∷_, map}
+use mathlib.Core.List.{List, map}
 use native.Mathlib.Omega.{arith}
-use native.Mathlib.Numerals.{add-one}
-use lib.ListN.{length, getD, drop, length-map}
-use lib.Seq.{drop-cons, drop-length}
+use lib.ListN.{length, length-map}
 
 -- Numbers
 
@@ -23,11 +21,3 @@ none-below (suc k) x n = let h : k ≤ x = none-below k x (n .0) in let e : x �
 -- a list is as long as any map of it: `search (needs, length-mapped)` finds the length of an array of structs
 pub length-mapped : (X Y : Type 0) (f : X → Y) (l : List X) (n : ℕ) → length (map f l) ≡ n → length l ≡ n
 length-mapped X Y f l n e = sym (length-map l f) ∙ e
-
--- a list from place i on is its element there and the list from i + 1 on
-pub drop-at : {A : Type 0} (l : List A) (i : ℕ) (d : A) → i < length l → drop i l ≡ getD l i d ∷ drop (i + 1) l
-drop-at l i d h = rw (add-one, drop-cons l i d)
-
--- a list of n elements has nothing from n on
-pub drop-end : {A : Type 0} (l : List A) (n i : ℕ) → length l ≡ n → n ≤ i → i ≤ n → drop i l ≡ []
-drop-end l n i e h g = let q : i ≡ length l = omega arith in rw q (drop-length l)

@@ -18,7 +18,7 @@ use Rattle.fischer.specs.declared.survey.Survey.{Survey}
 use Rattle.fischer.specs.Survey.{numbersOf, numbersStand, nothing, noted}
 use Rattle.model.proofs.Soundness.{sound-numbers, sound-past}
 use Rattle.model.proofs.Tests.{by-test}
-use Rattle.fischer.proofs.Laws.{drop-at, drop-end}
+use Rattle.model.proofs.Lists.{drop-at, drop-end}
 use Rattle.fischer.proofs.Critical.{otherCritical, othersFrom}
 use Rattle.fischer.proofs.Notes.{lateFrom, first, Noted, fault, fine, note-at}
 
@@ -118,7 +118,7 @@ module _ (s : State) (acting m i : ℕ) (f : Survey) (passed : Passed s acting m
 pub passed-whole : (s : State) (acting m i : ℕ) (f : Survey) → Passed s acting m i f → 96 ≤ i → Whole s acting m f
 unfolding entriesSound soonest othersFrom
 passed-whole s acting m i f passed h =
-    let e : drop i (s .processes) ≡ [] = drop-end (s .processes) 96 i (passed .size) h (passed .most) in
+    let e : drop i (s .processes) ≡ [] = drop-end (s .processes) i (omega (arith, passed .size)) (omega (arith, passed .size, passed .most)) in
     record {
       none = passed .none;
       sound = sound-parts s ∙ rw (passed .stand, ← rw e at (passed .sound));

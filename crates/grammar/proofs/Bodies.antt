@@ -8,7 +8,7 @@ use lib.Seq.{drop-drop}
 use Rattle.model.specs.declared.Row.{Row}
 use Rattle.model.specs.declared.Row.the-variants.{Step, Unread}
 use Rattle.model.specs.Readings.{eventAt, Body, before, bodyIn, bodyOf}
-use Rattle.grammar.proofs.Lists.{drop-end}
+use Rattle.model.proofs.Lists.{drop-end}
 use Rattle.grammar.proofs.Fields.{took-le}
 use Rattle.grammar.proofs.Lines.{event-some, event-was}
 

@@ -1,3 +1,4 @@
+pub mod Lists
 pub mod Tests
 pub mod Locations
 pub mod Soundness

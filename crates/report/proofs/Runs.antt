@@ -16,7 +16,7 @@ use Rattle.model.specs.Writings.{eventsIn, Written, writeGave, fitted}
 use Rattle.model.proofs.Given.{write-gave}
 use Rattle.model.specs.Reports.{answerText, runText}
 use Rattle.model.proofs.Tests.{by-cond}
-use Rattle.grammar.proofs.Lists.{drop-at}
+use Rattle.model.proofs.Lists.{drop-at}
 use Rattle.trace.specs.Puts.{Put}
 use Rattle.trace.proofs.Putting.{sets-append, put-both, number-width}
 

@@ -7,7 +7,7 @@ use native.Mathlib.Nat.{add-zero, zero-add}
 use lib.ListN.{length, getD, set, drop, length-append}
 use lib.Seq.{sets}
 use Rattle.model.specs.Texts.{Event, decimal, comma, newline, numberText, words, wordText, valuesText, eventText, headText}
-use Rattle.grammar.proofs.Lists.{drop-at}
+use Rattle.model.proofs.Lists.{drop-at}
 use Rattle.grammar.proofs.Digits.{digits-word}
 use Rattle.trace.specs.Puts.{Put}
 

@@ -10,7 +10,7 @@ use lib.Seq.{sets, sets-eq}
 use Rattle.model.specs.declared.Row.the-variants.{Step, Unread}
 use Rattle.model.specs.Texts.{Event}
 use Rattle.model.specs.Readings.{eventAt, Body, bodyOf, over}
-use Rattle.grammar.proofs.Lists.{drop-end}
+use Rattle.model.proofs.Lists.{drop-end}
 use Rattle.grammar.proofs.Bodies.{Along, along-turn, body-end, body-fault, some-left}
 
 -- a run of stores from the start is the values, and the rest of the list as it was

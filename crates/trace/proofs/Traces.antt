@@ -9,7 +9,7 @@ use Rattle.model.specs.Texts.{Event, eventText, eventsText, hasForm}
 use Rattle.model.specs.Readings.{Lists, lists, room}
 use Rattle.model.specs.Writings.{eventsIn, eventsOf, formlessFrom}
 use Rattle.model.proofs.Tests.{if-lt}
-use Rattle.grammar.proofs.Lists.{drop-at}
+use Rattle.model.proofs.Lists.{drop-at}
 
 -- no second or third list, no step
 none-second : (x z : List ℕ) → eventsIn x [] z ≡ []

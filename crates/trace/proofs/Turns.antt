@@ -9,7 +9,7 @@ use Rattle.model.specs.declared.Field.{Field}
 use Rattle.model.specs.declared.Field.the-variants.{Value, Bad}
 use Rattle.model.specs.Texts.{newline, words}
 use Rattle.model.specs.Readings.{startsWith, numberFrom, wordFrom}
-use Rattle.grammar.proofs.Lists.{drop-at, drop-end}
+use Rattle.model.proofs.Lists.{drop-at, drop-end}
 
 module _ (w s : List ℕ) (i : ℕ) (hw : i < length w) where
   pub starts-short : length s ≤ i → i ≤ length s → startsWith (drop i w) (drop i s) ≡ false

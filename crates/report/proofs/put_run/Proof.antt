@@ -7,7 +7,7 @@ use lib.ListN.{length, drop}
 use borrow.Author.Needs.{needs}
 use Rattle.model.specs.Writings.{eventsIn}
 use Rattle.model.specs.Reports.{runText}
-use Rattle.grammar.proofs.Lists.{drop-end}
+use Rattle.model.proofs.Lists.{drop-end}
 use Rattle.report.proofs.Runs.{Going, start, next, finish, going-long, run-at}
 use Rattle.report.proofs.put_run.Statement.{statement}
 use Rattle.report.proofs.put_run.Tie as tie

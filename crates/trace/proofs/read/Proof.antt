@@ -9,7 +9,7 @@ use Rattle.model.specs.Readings.{headOf, bodyOf, Lists, lists, room}
 use Rattle.trace.specs.declared.steps.Tally.the-variants.{Steps}
 use Rattle.trace.specs.Passes.{tallyOf}
 use Rattle.model.proofs.Given.{read-gave}
-use Rattle.grammar.proofs.Lists.{part-is}
+use Rattle.model.proofs.Lists.{part-is}
 use Rattle.grammar.proofs.Fields.{took-le}
 use Rattle.grammar.proofs.Heads.{head-was}
 use Rattle.trace.proofs.Readings.{read-refused, read-fault, read-many, read-full, read-stored, fits-each}

@@ -10,7 +10,7 @@ use lib.Dec.{leb}
 use lib.ListN.{length, getD, drop}
 use Rattle.model.specs.declared.Field.the-variants.{Bad}
 use Rattle.model.specs.Readings.{numberFrom, numberAt}
-use Rattle.grammar.proofs.Lists.{drop-end}
+use Rattle.model.proofs.Lists.{drop-end}
 use Rattle.trace.proofs.Turns.{numberTurn, number-at}
 use Rattle.trace.proofs.fields.number_at.Statement.{statement}
 use Rattle.trace.proofs.fields.number_at.Tie as tie

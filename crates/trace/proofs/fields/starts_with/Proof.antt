@@ -6,7 +6,7 @@ use native.Mathlib.Omega.{arith}
 use borrow.Author.Tests.{eq-eqb, ne-eqb}
 use lib.ListN.{length, drop}
 use Rattle.model.specs.Readings.{startsWith}
-use Rattle.grammar.proofs.Lists.{drop-end}
+use Rattle.model.proofs.Lists.{drop-end}
 use Rattle.trace.proofs.Turns.{starts-short, starts-at}
 use Rattle.trace.proofs.fields.starts_with.Statement.{statement}
 use Rattle.trace.proofs.fields.starts_with.Tie as tie

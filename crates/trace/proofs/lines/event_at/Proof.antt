@@ -8,7 +8,7 @@ use Rattle.model.specs.declared.Field.the-variants.{Value}
 use Rattle.model.specs.Texts.{comma, timeBound, numberBound}
 use Rattle.model.specs.Readings.{numberAt, wordAt}
 use Rattle.model.specs.Readings.{eventAt}
-use Rattle.grammar.proofs.Lists.{part-is}
+use Rattle.model.proofs.Lists.{part-is}
 use Rattle.grammar.proofs.Fields.{took-le, number-was, word-was}
 use borrow.Author.Needs.{needs}
 use Rattle.trace.proofs.lines.event_at.Statement.{statement}

@@ -13,7 +13,7 @@ use Rattle.model.specs.States.{countStands, limitsStand}
 use Rattle.model.specs.Texts.{valueNames}
 use Rattle.model.specs.Readings.{valuesAt}
 use Rattle.model.specs.Readings.{headOf}
-use Rattle.grammar.proofs.Lists.{part-is}
+use Rattle.model.proofs.Lists.{part-is}
 use Rattle.grammar.proofs.Fields.{took-le, starts-took}
 use Rattle.grammar.proofs.Lines.{values-was}
 use borrow.Author.Needs.{needs}

@@ -8,7 +8,7 @@ use Rattle.model.specs.declared.Field.the-variants.{Value}
 use Rattle.model.specs.Texts.{comma, newline, numberBound}
 use Rattle.model.specs.Readings.{numberAt}
 use Rattle.model.specs.Readings.{valuesAt}
-use Rattle.grammar.proofs.Lists.{part-is}
+use Rattle.model.proofs.Lists.{part-is}
 use Rattle.grammar.proofs.Fields.{took-le, number-was}
 use borrow.Author.Needs.{needs}
 use Rattle.trace.proofs.lines.values_at.Statement.{statement}

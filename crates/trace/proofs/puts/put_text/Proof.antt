@@ -5,7 +5,7 @@ use native.Mathlib.Omega.{arith}
 use native.Mathlib.Nat.{add-zero}
 use lib.ListN.{length, drop, length-set}
 use lib.Seq.{sets}
-use Rattle.grammar.proofs.Lists.{drop-end}
+use Rattle.model.proofs.Lists.{drop-end}
 use Rattle.trace.proofs.Putting.{sets-at}
 use borrow.Author.Needs.{needs}
 use Rattle.trace.proofs.puts.put_text.Statement.{statement}

@@ -8,7 +8,7 @@ use borrow.Author.Tests.{ne-eqb}
 use lib.ListN.{length, drop}
 use Rattle.model.specs.declared.Row.the-variants.{Step}
 use Rattle.model.specs.Readings.{eventAt}
-use Rattle.grammar.proofs.Lists.{part-is}
+use Rattle.model.proofs.Lists.{part-is}
 use Rattle.grammar.proofs.Bodies.{Along, along-start, along-step, along-more, along-inside, along-end, along-fault}
 use Rattle.trace.proofs.steps.count_events.Statement.{statement}
 use Rattle.trace.proofs.steps.count_events.Tie as tie

@@ -8,7 +8,7 @@ use lib.ListN.{length, drop}
 use Rattle.model.specs.declared.Row.the-variants.{Step, Unread}
 use Rattle.model.specs.Texts.{Event}
 use Rattle.model.specs.Readings.{eventAt}
-use Rattle.grammar.proofs.Lists.{part-is}
+use Rattle.model.proofs.Lists.{part-is}
 use Rattle.grammar.proofs.Bodies.{Along, along-start, along-step, along-more, along-inside}
 use Rattle.trace.proofs.Stores.{Stored, stored-start, stored-step, stored-place, stored-end, stored-fault}
 use Rattle.trace.proofs.steps.store_events.Statement.{statement}

@@ -19,6 +19,3 @@ drop-end l i h g = let q : i ≡ length l = omega arith in rw q (drop-length l)
 pub part-is : {A : Type 0} (l : List A) (i : ℕ) → take (length l - i) (drop i l) ≡ drop i l
 part-is l i = take-all (length l - i) (drop i l) (omega (arith, length-drop i l))
 
--- what fits a part fits after what stands before it
-pub part-within : (l : List ℕ) (i j : ℕ) → i ≤ length l → j ≤ length (take (length l - i) (drop i l)) → i + j ≤ length l
-part-within l i j h g = omega (arith, simp (part-is, length-drop) at g)
