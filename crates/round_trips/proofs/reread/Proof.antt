@@ -19,15 +19,18 @@ use Rattle.round_trips.proofs.not_read.Reads as not-read-reads
 use Rattle.trace.proofs.read.Reads as read-reads
 use Rattle.trace.proofs.write.Reads as write-reads
 
--- what was lent, where the writing has been answered
+-- What was lent, and what is due, where the writing has been answered
+abbrev start : tie.After-write → tie.Start
+start c = c .before .before .before .before .before .before .before .before .before
+
 abbrev lent : tie.After-write → Lists
-lent c = let a = c .before .before .before .before .before .before .before .before .before .args in lists (a .times .now) (a .processes .now) (a .actions .now)
+lent c = let a = start c .args in lists (a .times .now) (a .processes .now) (a .actions .now)
 
 abbrev lent2 : tie.After-write → Lists
-lent2 c = let a = c .before .before .before .before .before .before .before .before .before .args in lists (a .times2 .now) (a .processes2 .now) (a .actions2 .now)
+lent2 c = let a = start c .args in lists (a .times2 .now) (a .processes2 .now) (a .actions2 .now)
 
 abbrev due : tie.After-write → Written
-due c = let a = c .before .before .before .before .before .before .before .before .before .args in writeOf (a .n) (a .a) (a .b) (a .c) (eventsOf (lent c)) (a .out .now)
+due c = let a = start c .args in writeOf (a .n) (a .a) (a .b) (a .c) (eventsOf (lent c)) (a .out .now)
 
 -- what the writing gave
 abbrev given : tie.After-write → Written
@@ -37,7 +40,9 @@ was-written : (c : tie.After-write) → given c ≡ due c
 was-written c = c .write .ensures
 
 fits : (c : tie.After-write) → given c .answer .code ≡ 0 → given c .answer .time ≤ length (given c .out)
-fits c = let a = c .before .before .before .before .before .before .before .before .before .args in written-held (a .n) (a .a) (a .b) (a .c) (eventsOf (lent c)) (a .out .now) (was-written c)
+fits c =
+    let a = start c .args in
+    written-held (a .n) (a .a) (a .b) (a .c) (eventsOf (lent c)) (a .out .now) (was-written c)
 
 write-requires : tie.Need-write-requires
 write-requires c κs = search needs
@@ -52,8 +57,10 @@ returns : tie.Need-returns
 returns c =
     let k = c .before .before .before .before .before in
     let e = was-written k in
-    let gave = ap (λ (r : Reading). readGave r (lent2 k)) (c .not-read .ensures) ∙ (sym (reread-refused (given k) (lent2 k) (c .before .if1 .taken))) in
-    (gave-out e, (gave ∙ ap (λ (w : Written). rereadOf w (lent2 k)) e, λ z _. absurd (c .before .if1 .taken (ap (λ (w : Written). w .answer .code) e ∙ z))))
+    let n = c .before .if1 .taken in
+    let gave = ap (λ (r : Reading). readGave r (lent2 k)) (c .not-read .ensures) ∙ sym (reread-refused (given k) (lent2 k) n) in
+    let r = gave ∙ ap (λ (w : Written). rereadOf w (lent2 k)) e in
+    (gave-out e, (r, λ z _. absurd (n (ap (λ (w : Written). w .answer .code) e ∙ z))))
 
 slice-reshare-prefix-read : tie.Need-slice-reshare-prefix-read
 slice-reshare-prefix-read c = fits (c .before .before .before .before) (c .if1 .left)
@@ -79,9 +86,10 @@ same-length-5 c = search needs
 returns-2 : tie.Need-returns-2
 returns-2 c =
     let k = c .before .before .before .before .before .before .before .before .before .before .before .before .before .before .before in
-    let a = c .before .before .before .before .before .before .before .before .before .before .before .before .before .before .before .before .before .before .before .before .before .before .before .before .args in
+    let a = start k .args in
     let e = was-written k in
-    let r = c .before .before .before .before .before .before .read .ensures ∙ (sym (reread-done (given k) (lent2 k) (c .before .before .before .before .before .before .before .before .before .before .before .if1 .left)) ∙ ap (λ (w : Written). rereadOf w (lent2 k)) e) in
+    let done = sym (reread-done (given k) (lent2 k) (c .before .before .before .before .before .before .before .before .before .before .before .if1 .left)) in
+    let r = c .before .before .before .before .before .before .read .ensures ∙ (done ∙ ap (λ (w : Written). rereadOf w (lent2 k)) e) in
     (gave-out e, (r, λ z h. ap eventsRead r ∙ reread-same (a .n) (a .a) (a .b) (a .c) (lent k) (a .out .now) (lent2 k) z h))
 
 pub reread-spec : {M : Type 1} → statement M

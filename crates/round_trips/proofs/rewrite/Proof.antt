@@ -15,19 +15,23 @@ use Rattle.round_trips.proofs.rewrite.Lts as lts
 use Rattle.trace.proofs.read.Reads as read-reads
 use Rattle.trace.proofs.write.Reads as write-reads
 
--- what was lent, where the reading has been answered
+-- What was lent, and what the reading gave, where it has been answered
+abbrev start : tie.After-answer → tie.Start
+start c = c .before .before .before .before .before .before .before .before .before .before .before .before .before .before .before .before
+
 abbrev text : tie.After-answer → List ℕ
-text c = c .before .before .before .before .before .before .before .before .before .before .before .before .before .before .before .before .args .text .now
+text c = start c .args .text .now
 
 abbrev lent : tie.After-answer → Lists
-lent c = let a = c .before .before .before .before .before .before .before .before .before .before .before .before .before .before .before .before .args in lists (a .times .now) (a .processes .now) (a .actions .now)
+lent c = let a = start c .args in lists (a .times .now) (a .processes .now) (a .actions .now)
 
 abbrev out : tie.After-answer → List ℕ
-out c = c .before .before .before .before .before .before .before .before .before .before .before .before .before .before .before .before .args .out .now
+out c = start c .args .out .now
 
--- what the reading gave
 abbrev given : tie.After-answer → Read
-given c = let r = c .before .before .before .before .before .before .before .read in readGave (r .result) (lists (r .last .1 .0) (r .last .1 .1 .0) (r .last .1 .1 .1 .0))
+given c =
+    let r = c .before .before .before .before .before .before .before .read in
+    readGave (r .result) (lists (r .last .1 .0) (r .last .1 .1 .0) (r .last .1 .1 .1 .0))
 
 was-read : (c : tie.After-answer) → given c ≡ readOf (text c) (lent c)
 was-read c = c .before .before .before .before .before .before .before .read .ensures
@@ -91,8 +95,8 @@ returns-2 : tie.Need-returns-2
 returns-2 c =
     let k = c .before .before .before .before .before .before .before .before .before in
     let e = was-read k in
-    let done = sym (rewrite-done (given k) (out k) (c .before .before .before .before .before .before .before .if1 .left)) ∙ ap (λ (r : Read). rewriteOf r (out k)) e in
-    let w = c .before .before .write .ensures ∙ done in
+    let done = sym (rewrite-done (given k) (out k) (c .before .before .before .before .before .before .before .if1 .left)) in
+    let w = c .before .before .write .ensures ∙ (done ∙ ap (λ (r : Read). rewriteOf r (out k)) e) in
     (ap (λ (r : Read). r .kept) e, (w, λ z h. gave-out w ∙ rewrite-same (text k) (lent k) (out k) z h))
 
 pub rewrite-spec : {M : Type 1} → statement M

@@ -70,7 +70,8 @@ enum-told c = search needs
 returns : tie.Need-returns Inv-loop μ-loop
 returns c =
     let v = c .before .before .before .before .before .loop in
-    let f = along-fault (c .before .before .before .before .before .before .before .args .s .now) (v .at) (v .count) (v .inv) _ _ (c .before .before .before .before .loop-test .taken) (rw part-is at (sym (c .before .before .event-at .ensures) ∙ c .enum-told .given .1)) in
+    let e = rw part-is at (sym (c .before .before .event-at .ensures) ∙ c .enum-told .given .1) in
+    let f = along-fault (c .before .before .before .before .before .before .before .args .s .now) (v .at) (v .count) (v .inv) _ _ (c .before .before .before .before .loop-test .taken) e in
     rw (f .1) (simp (ne-eqb (v .count + 4) 0 (λ (z : v .count + 4 ≡ 0). omega arith)))
 
 add-at : tie.Need-add-at Inv-loop μ-loop
@@ -83,11 +84,13 @@ loop-less : tie.Need-loop-less Inv-loop μ-loop
 loop-less c = omega (arith, along-more (text c) (start c) (past c) _ _ _ (width c) (more c) (step-read c))
 
 loop-again : tie.Need-loop-again Inv-loop μ-loop
-loop-again c = along-step (text c) (start c) (past c) _ _ _ (width c) (more c) (step-read c) (c .before .before .before .before .before .before .loop .inv)
+loop-again c =
+    along-step (text c) (start c) (past c) _ _ _ (width c) (more c) (step-read c) (c .before .before .before .before .before .before .loop .inv)
 
 returns-2 : tie.Need-returns-2 Inv-loop μ-loop
 returns-2 c =
-    let e = along-end (c .before .before .before .args .s .now) (c .before .loop .at) (c .before .loop .count) (c .before .loop .inv) (c .loop-test .left) in
+    let v = c .before .loop in
+    let e = along-end (c .before .before .before .args .s .now) (v .at) (v .count) (v .inv) (c .loop-test .left) in
     rw (e .1, e .0)
 
 pub count-events-spec : {M : Type 1} → statement M

@@ -38,6 +38,12 @@ past c = c .before .before .before .before .before .before .loop .i
 abbrev width : tie.After-known-told Inv-loop μ-loop → ℕ
 width c = c .before .row .given .0 .1 .1 .1 .0
 
+abbrev turn : tie.After-known-told Inv-loop μ-loop → tie.At-loop Inv-loop μ-loop
+turn c = c .before .before .before .before .before .before
+
+abbrev lent : tie.After-known-told Inv-loop μ-loop → tie.Start Inv-loop μ-loop
+lent c = c .before .before .before .before .before .before .before .before .before .before .before
+
 more : (c : tie.After-known-told Inv-loop μ-loop) → start c < length (text c)
 more c = c .before .before .before .before .before .loop-test .taken
 
@@ -46,19 +52,26 @@ step-read : (c : tie.After-known-told Inv-loop μ-loop)
     ≡ Step (c .before .row .given .0 .0) (c .before .row .given .0 .1 .0) (c .before .row .given .0 .1 .1 .0) (width c)
 step-read c = rw part-is at (sym (c .before .before .before .event-at .ensures) ∙ c .before .row .given .1)
 
-place-times : (c : tie.After-known-told Inv-loop μ-loop) → past c < length (c .before .before .before .before .before .before .loop .times)
-place-times c = let v = c .before .before .before .before .before .before .loop in stored-place _ _ _ _ _ _ (v .inv .1) _ _ _ (width c) (more c) (step-read c) (v .inv .0) (c .before .before .before .before .before .before .before .before .before .before .before .pre .0)
+place-times : (c : tie.After-known-told Inv-loop μ-loop) → past c < length (turn c .loop .times)
+place-times c =
+    let v = turn c .loop in
+    stored-place _ _ _ _ _ _ (v .inv .1) _ _ _ (width c) (more c) (step-read c) (v .inv .0) (lent c .pre .0)
 
-place-processes : (c : tie.After-known-told Inv-loop μ-loop) → past c < length (c .before .before .before .before .before .before .loop .processes)
-place-processes c = let v = c .before .before .before .before .before .before .loop in stored-place _ _ _ _ _ _ (v .inv .2) _ _ _ (width c) (more c) (step-read c) (v .inv .0) (c .before .before .before .before .before .before .before .before .before .before .before .pre .1 .0)
+place-processes : (c : tie.After-known-told Inv-loop μ-loop) → past c < length (turn c .loop .processes)
+place-processes c =
+    let v = turn c .loop in
+    stored-place _ _ _ _ _ _ (v .inv .2) _ _ _ (width c) (more c) (step-read c) (v .inv .0) (lent c .pre .1 .0)
 
-place-actions : (c : tie.After-known-told Inv-loop μ-loop) → past c < length (c .before .before .before .before .before .before .loop .actions)
-place-actions c = let v = c .before .before .before .before .before .before .loop in stored-place _ _ _ _ _ _ (v .inv .3) _ _ _ (width c) (more c) (step-read c) (v .inv .0) (c .before .before .before .before .before .before .before .before .before .before .before .pre .1 .1)
+place-actions : (c : tie.After-known-told Inv-loop μ-loop) → past c < length (turn c .loop .actions)
+place-actions c =
+    let v = turn c .loop in
+    stored-place _ _ _ _ _ _ (v .inv .3) _ _ _ (width c) (more c) (step-read c) (v .inv .0) (lent c .pre .1 .1)
 
 -- the line that is no step
 fault : (c : tie.After-enum-told Inv-loop μ-loop)
     → (let v = c .before .before .before .before .before .loop in
-    eventAt (v .i + 4) (drop (v .at) (c .before .before .before .before .before .before .before .before .before .before .args .s .now)) ≡ Unread (c .enum-told .given .0 .0) (c .enum-told .given .0 .1 .0))
+    let text = c .before .before .before .before .before .before .before .before .before .before .args .s .now in
+    eventAt (v .i + 4) (drop (v .at) text) ≡ Unread (c .enum-told .given .0 .0) (c .enum-told .given .0 .1 .0))
 fault c = rw part-is at (sym (c .before .before .event-at .ensures) ∙ c .enum-told .given .1)
 
 loop-holds : tie.Need-loop-holds Inv-loop μ-loop
@@ -107,19 +120,19 @@ returns c =
     )
 
 mul-times : tie.Need-mul-times Inv-loop μ-loop
-mul-times c = let v = c .before .before .before .before .before .before .loop in omega (arith, place-times c, v .inv .1 .long, c .before .before .before .before .before .before .before .before .before .before .before .good)
+mul-times c = omega (arith, place-times c, turn c .loop .inv .1 .long, lent c .good)
 
 slice-write-times : tie.Need-slice-write-times Inv-loop μ-loop
 slice-write-times c = place-times c
 
 mul-processes : tie.Need-mul-processes Inv-loop μ-loop
-mul-processes c = let v = c .before .before .before .before .before .before .loop in omega (arith, place-processes c, v .inv .2 .long, c .before .before .before .before .before .before .before .before .before .before .before .good)
+mul-processes c = omega (arith, place-processes c, turn c .loop .inv .2 .long, lent c .good)
 
 slice-write-processes : tie.Need-slice-write-processes Inv-loop μ-loop
 slice-write-processes c = place-processes c
 
 mul-actions : tie.Need-mul-actions Inv-loop μ-loop
-mul-actions c = let v = c .before .before .before .before .before .before .loop in omega (arith, place-actions c, v .inv .3 .long, c .before .before .before .before .before .before .before .before .before .before .before .good)
+mul-actions c = omega (arith, place-actions c, turn c .loop .inv .3 .long, lent c .good)
 
 slice-write-actions : tie.Need-slice-write-actions Inv-loop μ-loop
 slice-write-actions c = place-actions c
