@@ -18,4 +18,3 @@ drop-end l i h g = let q : i ≡ length l = omega arith in rw q (drop-length l)
 -- a part from i to the end is what is left after i
 pub part-is : {A : Type 0} (l : List A) (i : ℕ) → take (length l - i) (drop i l) ≡ drop i l
 part-is l i = take-all (length l - i) (drop i l) (omega (arith, length-drop i l))
-
