@@ -7,3 +7,4 @@ pub mod Exact
 pub mod Fits
 pub mod RoundTrips
 pub mod Wholes
+pub mod Faults

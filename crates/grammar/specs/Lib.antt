@@ -1,3 +1,4 @@
 pub mod Exact
 pub mod RoundTrips
 pub mod Wholes
+pub mod Faults

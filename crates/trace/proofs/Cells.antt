@@ -1,10 +1,11 @@
 -- The table of the acts' words in the code is that of the definitions. Assumes nothing.
-use Prim.Native.Nat.{ℕ, zero, suc, _+_, _-_, _*_, _≤_, _<_}
+use Prim.Native.Nat.{ℕ, _+_, _-_, _*_, _≤_, _<_}
 use mathlib.Core.Path.{_≡_, refl}
 use mathlib.Core.List.{List, [], _∷_, _++_}
 use native.Mathlib.Omega.{arith}
 use lib.ListN.{length, getD, take, drop}
 use Rattle.model.specs.Texts.{bytes, newline, words}
+use Rattle.grammar.proofs.Fields.{each-word}
 
 -- the constants of `words`
 abbrev pub cells : List ℕ
@@ -20,13 +21,10 @@ pub record Cell (a : ℕ) : Type 0 where
   pub fits : getD widths a 0 ≤ 6
 
 pub cell : (a : ℕ) → a < length words → Cell a
-cell zero h = record { holds = refl; wide = refl; fits = omega arith }
-cell (suc zero) h = record { holds = refl; wide = refl; fits = omega arith }
-cell (suc (suc zero)) h = record { holds = refl; wide = refl; fits = omega arith }
-cell (suc (suc (suc zero))) h = record { holds = refl; wide = refl; fits = omega arith }
-cell (suc (suc (suc (suc zero)))) h = record { holds = refl; wide = refl; fits = omega arith }
-cell (suc (suc (suc (suc (suc zero))))) h = record { holds = refl; wide = refl; fits = omega arith }
-cell (suc (suc (suc (suc (suc (suc zero)))))) h = record { holds = refl; wide = refl; fits = omega arith }
-cell (suc (suc (suc (suc (suc (suc (suc zero))))))) h = record { holds = refl; wide = refl; fits = omega arith }
-cell (suc (suc (suc (suc (suc (suc (suc (suc zero)))))))) h = record { holds = refl; wide = refl; fits = omega arith }
-cell (suc (suc (suc (suc (suc (suc (suc (suc (suc a))))))))) h = absurd (omega arith)
+cell a h =
+    each-word Cell
+    (record { holds = refl; wide = refl; fits = omega arith }) (record { holds = refl; wide = refl; fits = omega arith })
+    (record { holds = refl; wide = refl; fits = omega arith }) (record { holds = refl; wide = refl; fits = omega arith })
+    (record { holds = refl; wide = refl; fits = omega arith }) (record { holds = refl; wide = refl; fits = omega arith })
+    (record { holds = refl; wide = refl; fits = omega arith }) (record { holds = refl; wide = refl; fits = omega arith })
+    (record { holds = refl; wide = refl; fits = omega arith }) a h
