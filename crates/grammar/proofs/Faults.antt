@@ -7,7 +7,7 @@ use mathlib.Core.List.{List, [], _∷_, _++_, append-assoc}
 use native.Mathlib.Omega.{arith}
 use lib.Dec.{ltb, eqb}
 use lib.ListN.{length, drop, length-drop}
-use borrow.Author.Tests.{eq-eqb, eqb-false, ltb-true, not-true, not-false}
+use borrow.Author.Tests.{eq-eqb, eqb-false, ltb-true, ltb-false, not-true, not-false}
 use Rattle.model.specs.declared.Row.{Row}
 use Rattle.model.specs.declared.Row.the-variants.{Step, Unread}
 use Rattle.model.specs.declared.Head.{Head}
@@ -38,31 +38,31 @@ abbrev HeadFaults : List ℕ → Head → Type 0
 HeadFaults text (Values n a b c k) = Unit
 HeadFaults text (Refused code line) = Fault text code line
 
-values-fault : (text : List ℕ) → startsWith valueNames text ≡ true
+values-fault : (text : List ℕ) → length text ≤ textLimit → startsWith valueNames text ≡ true
     → (h : Head) → valuesAt (drop (length valueNames) text) ≡ h → HeadFaults text (afterValues text h)
-values-fault text named (Refused code line) e =
+values-fault text short named (Refused code line) e =
     let s = drop (length valueNames) text in
-    values s (starts-took valueNames text named .split)
+    values s short (starts-took valueNames text named .split)
     (λ n a b c hn ha hb hc more q.
     let read = sym e ∙ (ap valuesAt q ∙ values-reads n a b c more hn ha hb hc) in
     let z : _≡_ {A = ℕ} 0 1 = cc in
     absurd (omega arith))
-values-fault text named (Values n a b c k) e =
+values-fault text short named (Values n a b c k) e =
     let t = took-both (starts-took valueNames text named) (values-was (drop (length valueNames) text) n a b c k e) in
     let rest = drop (length valueNames + k) text in
     let split : text ≡ valueNames ++ (valuesText n a b c ++ rest) = t .split ∙ append-assoc valueNames (valuesText n a b c) rest in
-    by-cond (HeadFaults text) (not (countStands n)) (λ u. count n a b c rest split (not-true _ u)) (λ u.
-    by-cond (HeadFaults text) (not (limitsStand a b c)) (λ v. limits n a b c rest split (not-false _ u) (not-true _ v)) (λ v.
+    by-cond (HeadFaults text) (not (countStands n)) (λ u. count n a b c rest short split (not-true _ u)) (λ u.
+    by-cond (HeadFaults text) (not (limitsStand a b c)) (λ v. limits n a b c rest short split (not-false _ u) (not-true _ v)) (λ v.
     by-cond (HeadFaults text) (not (startsWith eventNames rest))
-    (λ w. steps n a b c rest split (not-false _ u) (not-false _ v) (differs eventNames rest (not-true _ w)))
+    (λ w. steps n a b c rest short split (not-false _ u) (not-false _ v) (differs eventNames rest (not-true _ w)))
     (λ _. tt)))
 
 head-fault : (text : List ℕ) → HeadFaults text (headOf text)
 unfolding headOf
 head-fault text =
-    by-cond (HeadFaults text) (ltb textLimit (length text)) (λ t. long (ltb-true _ _ t)) (λ _.
-    by-cond (HeadFaults text) (not (startsWith valueNames text)) (λ u. names (differs valueNames text (not-true _ u))) (λ u.
-    values-fault text (not-false _ u) (valuesAt (drop (length valueNames) text)) refl))
+    by-cond (HeadFaults text) (ltb textLimit (length text)) (λ t. long (ltb-true _ _ t)) (λ t.
+    by-cond (HeadFaults text) (not (startsWith valueNames text)) (λ u. names (ltb-false _ _ t) (differs valueNames text (not-true _ u))) (λ u.
+    values-fault text (ltb-false _ _ t) (not-false _ u) (valuesAt (drop (length valueNames) text)) refl))
 
 -- The steps
 
@@ -132,8 +132,10 @@ fault-of text (Values n a b c k) q f =
     by-cond (Faults text) (eqb (body .fault) 0) (λ _. tt)
     (λ t.
     let r = body-stops (length s) 4 s (omega arith) (eqb-false _ _ t) in
-    let split = head-was text n a b c k q .took .split ∙ ap (λ (l : List ℕ). headText n a b c ++ l) (r .split) in
-    subst (λ (line : ℕ). Fault text 14 line) (sym (r .named)) (step n a b c (body .events) (r .rest) split (r .forms 4) (r .some) (r .none)))
+    let w = head-was text n a b c k q in
+    let split = w .took .split ∙ ap (λ (l : List ℕ). headText n a b c ++ l) (r .split) in
+    subst (λ (line : ℕ). Fault text 14 line) (sym (r .named))
+    (step n a b c (body .events) (r .rest) (w .short) split (w .count) (w .limits) (r .forms 4) (r .some) (r .none)))
 
 pub refused-for : RefusedFor
 unfolding traceOf

@@ -1,5 +1,5 @@
 -- The refusals of a reading from a second side: why a text is refused, said by what is written. Assumes nothing.
-use Prim.Native.Nat.{ℕ, _+_, _<_}
+use Prim.Native.Nat.{ℕ, _+_, _≤_, _<_}
 use mathlib.Core.Path.{_≡_}
 use mathlib.Core.Logic.{_≢_}
 use mathlib.Core.Bool.{true, false}
@@ -14,26 +14,28 @@ use Rattle.model.specs.Writings.{formlessOf}
 abbrev pub Differs : List ℕ → List ℕ → Type 0
 Differs start text = (more : List ℕ) → text ≢ start ++ more
 
--- The number of a refusal and its line, each with what it says of the text
+-- The number of a refusal and its line, each with what it says of the text; what would be refused before it is ruled out.
 pub data Fault (text : List ℕ) : ℕ → ℕ → Type 0 where
   -- | 15, -, - | text longer than 65,536 bytes |
   long : textLimit < length text → Fault text 15 0
   -- | 13, -, line | a names line differs or is missing |, line 1
-  names : Differs valueNames text → Fault text 13 1
+  names : length text ≤ textLimit → Differs valueNames text → Fault text 13 1
   -- | 14, -, line | a line of values [..] differs from its form, or line 2 is missing |
-  values : (rest : List ℕ) → text ≡ valueNames ++ rest
+  values : (rest : List ℕ) → length text ≤ textLimit → text ≡ valueNames ++ rest
       → ((n a b c : ℕ) → n < numberBound → a < numberBound → b < numberBound → c < numberBound → Differs (valuesText n a b c) rest)
       → Fault text 14 2
   -- | 11, -, - | n outside 1 to 96 |
-  count : (n a b c : ℕ) (rest : List ℕ) → text ≡ valueNames ++ (valuesText n a b c ++ rest) → countStands n ≡ false → Fault text 11 0
+  count : (n a b c : ℕ) (rest : List ℕ) → length text ≤ textLimit → text ≡ valueNames ++ (valuesText n a b c ++ rest)
+      → countStands n ≡ false → Fault text 11 0
   -- | 12, -, - | a, b, c outside their rule |
-  limits : (n a b c : ℕ) (rest : List ℕ) → text ≡ valueNames ++ (valuesText n a b c ++ rest)
+  limits : (n a b c : ℕ) (rest : List ℕ) → length text ≤ textLimit → text ≡ valueNames ++ (valuesText n a b c ++ rest)
       → countStands n ≡ true → limitsStand a b c ≡ false → Fault text 12 0
   -- | 13, -, line | a names line differs or is missing |, line 3
-  steps : (n a b c : ℕ) (rest : List ℕ) → text ≡ valueNames ++ (valuesText n a b c ++ rest)
+  steps : (n a b c : ℕ) (rest : List ℕ) → length text ≤ textLimit → text ≡ valueNames ++ (valuesText n a b c ++ rest)
       → countStands n ≡ true → limitsStand a b c ≡ true → Differs eventNames rest → Fault text 13 3
   -- | 14, -, line | [..] a step differs from its form |: the lines before it are those of steps that have a form
-  step : (n a b c : ℕ) (events : List Event) (rest : List ℕ) → text ≡ headText n a b c ++ (eventsText events ++ rest)
+  step : (n a b c : ℕ) (events : List Event) (rest : List ℕ) → length text ≤ textLimit
+      → text ≡ headText n a b c ++ (eventsText events ++ rest) → countStands n ≡ true → limitsStand a b c ≡ true
       → formlessOf events ≡ 0 → 0 < length rest → ((e : Event) → hasForm e ≡ true → Differs (eventText e) rest)
       → Fault text 14 (4 + length events)
 
