@@ -75,7 +75,7 @@ module _ (text : List ℕ) (l : Lists) (out : List ℕ) where
 
 pub read-then-write : ReadThenWrite
 unfolding readOf
-read-then-write text l out = read-then text l out (traceOf text) (trace-tells text)
+read-then-write text l out e h = read-then text l out (traceOf text) (trace-tells text) e h
 
 pub write-then-read : WriteThenRead
 unfolding readOf

@@ -1,12 +1,13 @@
 -- Laws of putting texts into a lent output, and how wide the texts are at most. Assumes nothing.
 use Prim.Native.Nat.{ℕ, zero, suc, _+_, _^_, _≤_, _<_, max}
-use mathlib.Core.Path.{_≡_, refl, sym, _∙_}
+use mathlib.Core.Path.{_≡_, refl, sym, ap, _∙_}
 use mathlib.Core.List.{List, [], _∷_, _++_}
 use native.Mathlib.Omega.{arith}
 use native.Mathlib.Nat.{add-zero, zero-add}
 use lib.ListN.{length, getD, set, drop, length-append}
-use lib.Seq.{sets}
+use lib.Seq.{sets, sets-eq, length-sets}
 use Rattle.model.specs.Texts.{Event, decimal, comma, newline, numberText, words, wordText, valuesText, eventText, headText}
+use Rattle.model.specs.Readings.{over}
 use Rattle.model.proofs.Lists.{drop-at}
 use Rattle.grammar.proofs.Digits.{digits-word}
 use Rattle.trace.specs.Puts.{Put}
@@ -22,7 +23,15 @@ pub sets-at : (l text : List ℕ) (at i : ℕ) → i < length text
     → sets l (at + i) (drop i text) ≡ sets (set l (at + i) (getD text i 0)) (at + (i + 1)) (drop (i + 1) text)
 sets-at l text at i h = let e : suc (at + i) ≡ at + (i + 1) = omega arith in rw (drop-at text i 0 h, ← e)
 
+-- a text that fits, from the start on, and the rest as it was
+pub sets-over : (text out : List ℕ) → length text ≤ length out → sets out 0 text ≡ over text out
+sets-over text out h = sets-eq text out 0 (omega arith) ∙ rw zero-add
+
 -- Putting
+
+-- an output keeps its length
+pub put-long : {old new text : List ℕ} {at width : ℕ} → Put old new at text width → length new ≡ length old
+put-long {old} {text = text} {at = at} p = ap length (p .stored) ∙ length-sets old at text
 
 pub put-nothing : {old : List ℕ} {at : ℕ} → Put old old at [] 0
 put-nothing = record { stored = refl; wide = refl }
@@ -41,6 +50,31 @@ put-both {old} {mid} {new} {x} {y} {at} {i} {j} f g =
 -- a text at the start, and one after it
 pub put-first : {old mid new x y : List ℕ} {i j : ℕ} → Put old mid 0 x i → Put mid new i y j → Put old new 0 (x ++ y) (i + j)
 put-first {i = i} f g = put-both f (rw zero-add g)
+
+-- Putting part by part
+
+-- `whole` is being put into `old` from `start` on: it is `new` now, and `rest` is left to put from `at` on
+pub record Left (old : List ℕ) (start : ℕ) (whole new : List ℕ) (at : ℕ) (rest : List ℕ) : Type 0 where
+  pub ends : at + length rest ≡ start + length whole
+  pub same : length new ≡ length old
+  pub stored : sets new at rest ≡ sets old start whole
+
+pub left-all : {old : List ℕ} {start : ℕ} {whole : List ℕ} → Left old start whole old start whole
+left-all = record { ends = refl; same = refl; stored = refl }
+
+-- one text more is put
+pub left-next : {old whole mid new x y : List ℕ} {start at k : ℕ}
+    → Left old start whole mid at (x ++ y) → Put mid new at x k → Left old start whole new (at + k) y
+left-next {mid = mid} {x = x} {y = y} {at = at} f p =
+    record {
+      ends = omega (arith, f .ends, p .wide, length-append x y);
+      same = put-long p ∙ f .same;
+      stored = rw (p .stored, p .wide) (sym (sets-append x y mid at) ∙ f .stored);
+    }
+
+-- nothing is left
+pub left-done : {old whole new : List ℕ} {start at k : ℕ} → Left old start whole new at [] → at ≡ start + k → Put old new start whole k
+left-done f e = record { stored = f .stored; wide = omega (arith, f .ends) }
 
 -- Widths
 

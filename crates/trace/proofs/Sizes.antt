@@ -1,11 +1,10 @@
 -- Putting a text that may be too long, part by part, with its size. Assumes nothing.
 use Prim.Native.Nat.{ℕ, _+_, _≤_, _<_}
-use mathlib.Core.Path.{_≡_, refl, sym, ap, _∙_}
+use mathlib.Core.Path.{_≡_, refl, sym, _∙_}
 use mathlib.Core.List.{List, [], _∷_, _++_}
 use native.Mathlib.Omega.{arith}
 use native.Mathlib.Nat.{zero-add}
-use lib.ListN.{length, length-append}
-use lib.Seq.{sets, length-sets}
+use lib.ListN.{length}
 use borrow.Author.Tests.{lt-ltb, le-ltb}
 use Rattle.model.specs.Texts.{textLimit}
 use Rattle.model.proofs.Tests.{if-lt}
@@ -13,26 +12,7 @@ use Rattle.trace.specs.declared.texts.Size.{Size}
 use Rattle.trace.specs.declared.texts.Size.the-variants.{Bytes, Long}
 use Rattle.trace.specs.Puts.{Put}
 use Rattle.trace.specs.Passes.{PutSized}
-use Rattle.trace.proofs.Putting.{sets-append}
-
--- `whole` is being put into `old` from `start` on: it is `new` now, and `rest` is left to put from `at` on
-pub record Left (old : List ℕ) (start : ℕ) (whole new : List ℕ) (at : ℕ) (rest : List ℕ) : Type 0 where
-  pub ends : at + length rest ≡ start + length whole
-  pub same : length new ≡ length old
-  pub stored : sets new at rest ≡ sets old start whole
-
-pub left-all : {old : List ℕ} {start : ℕ} {whole : List ℕ} → Left old start whole old start whole
-left-all = record { ends = refl; same = refl; stored = refl }
-
--- one text more is put
-pub left-next : {old whole mid new x y : List ℕ} {start at k : ℕ}
-    → Left old start whole mid at (x ++ y) → Put mid new at x k → Left old start whole new (at + k) y
-left-next {mid = mid} {x = x} {y = y} {at = at} f p =
-    record {
-      ends = omega (arith, f .ends, p .wide, length-append x y);
-      same = ap length (p .stored) ∙ (length-sets mid at x ∙ f .same);
-      stored = rw (p .stored, p .wide) (sym (sets-append x y mid at) ∙ f .stored);
-    }
+use Rattle.trace.proofs.Putting.{Left, left-all, left-next}
 
 pub left-nothing : {old whole new : List ℕ} {start at : ℕ}
     → Left old start whole new at [] → at ≤ textLimit → PutSized old new start whole (Bytes at)

@@ -4,18 +4,14 @@ use mathlib.Core.Path.{_≡_, refl, ap, _∙_}
 use mathlib.Core.List.{List, [], map}
 use native.Mathlib.Omega.{arith}
 use native.Mathlib.Numerals.{add-one}
-use native.Mathlib.Nat.{zero-add}
 use lib.ListN.{length, drop, set, length-set, length-map}
-use lib.Seq.{sets, sets-eq}
+use lib.Seq.{sets}
 use Rattle.model.specs.declared.Row.the-variants.{Step, Unread}
 use Rattle.model.specs.Texts.{Event}
 use Rattle.model.specs.Readings.{eventAt, Body, bodyOf, over}
 use Rattle.model.proofs.Lists.{drop-end}
+use Rattle.trace.proofs.Putting.{sets-over}
 use Rattle.grammar.proofs.Bodies.{Along, along-turn, body-end, body-fault, some-left}
-
--- a run of stores from the start is the values, and the rest of the list as it was
-pub sets-over : (values list : List ℕ) → length values ≤ length list → sets list 0 values ≡ over values list
-sets-over values list h = sets-eq values list 0 (omega arith) ∙ rw zero-add
 
 -- the steps before `at` have been stored in `new`, which was `old`: storing the others gives the whole
 pub record Stored (f : Event → ℕ) (s : List ℕ) (at i : ℕ) (old new : List ℕ) : Type 0 where

@@ -1,19 +1,18 @@
 -- The answers to a writing: one law for each row of `writeOf`, in the order of its tests. Assumes nothing.
-use Prim.Native.Nat.{ℕ, _+_, _≤_, _<_}
-use mathlib.Core.Path.{_≡_, sym, _∙_}
+use Prim.Native.Nat.{ℕ, _≤_, _<_}
+use mathlib.Core.Path.{_≡_, _∙_}
 use mathlib.Core.Logic.{_≢_}
 use mathlib.Core.Bool.{true, false}
 use mathlib.Core.List.{List}
-use native.Mathlib.Omega.{arith}
-use native.Mathlib.Nat.{zero-add}
 use lib.ListN.{length}
-use lib.Seq.{sets, sets-eq}
+use lib.Seq.{sets}
 use borrow.Author.Tests.{ne-eqb, eq-eqb, lt-ltb, le-ltb}
 use Rattle.model.specs.States.{countStands, limitsStand}
 use Rattle.model.specs.Answers.{answerOf}
 use Rattle.model.specs.Texts.{Event, traceText, textLimit}
-use Rattle.model.specs.Readings.{over}
 use Rattle.model.specs.Writings.{formlessOf, Written, unwritten, fitted, writeOf}
+use Rattle.grammar.proofs.RoundTrips.{write-done as formed-written}
+use Rattle.trace.proofs.Putting.{sets-over}
 
 -- what is to be written, and the lent bytes
 pub record Task : Type 0 where
@@ -50,11 +49,6 @@ pub record Sound (t : Task) : Type 0 where
   pub limited : limitsStand (t .a) (t .b) (t .c) ≡ true
   pub formed : formlessOf (t .events) ≡ 0
 
-over-sets : (text out : List ℕ) → length text ≤ length out → over text out ≡ sets out 0 text
-over-sets text out h =
-    let e : 0 + length text ≡ length text = zero-add (length text) in
-    sym (rw e at (sets-eq text out 0 (omega arith)))
-
 module _ {t : Task} (s : Sound t) where
   pub write-long : textLimit < length (textOf t) → done t ≡ unwritten 15 0 (t .out)
   unfolding writeOf
@@ -71,5 +65,7 @@ module _ {t : Task} (s : Sound t) where
 
     pub write-done : length (textOf t) ≤ length (t .out)
         → done t ≡ record { answer = answerOf 0 0 (length (textOf t)); out = sets (t .out) 0 (textOf t) }
-    unfolding fitted
-    write-done h = fits ∙ rw (le-ltb (length (t .out)) (length (textOf t)) h, over-sets (textOf t) (t .out) h)
+    write-done h =
+        rw (sets-over (textOf t) (t .out) h)
+        (formed-written (t .n) (t .a) (t .b) (t .c) (t .events) (t .out)
+        (record { count = s .counted; limits = s .limited; forms = s .formed; short = short }) h)

@@ -1,7 +1,7 @@
 -- `report::put_line` meets its contract. Assumes nothing.
 use native.Mathlib.Omega.{arith}
 use borrow.Author.Needs.{needs}
-use Rattle.report.proofs.Runs.{line-long}
+use Rattle.trace.proofs.Putting.{values-width}
 use Rattle.report.proofs.put_line.Statement.{statement}
 use Rattle.report.proofs.put_line.Tie as tie
 
@@ -15,7 +15,7 @@ returns : tie.Need-returns
 returns c =
     let s = c .before .before .before .before .before in
     let line =
-    line-long (s .args .line) (s .args .code) (s .args .process) (s .args .time)
+    values-width (s .args .line) (s .args .code) (s .args .process) (s .args .time)
     (s .fits .line .fits) (s .fits .code .fits) (s .fits .process .fits) (s .fits .time .fits) in
     (c .before .before .put-values .ensures, omega (arith, c .before .before .put-values .ensures .wide, line))
 

@@ -10,7 +10,8 @@ use Rattle.model.specs.Readings.{Lists, lists, room, refused, traceOf}
 use Rattle.model.specs.Reports.{answerNames, reportText}
 use Rattle.trace.specs.Puts.{Put}
 use Rattle.report.proofs.Kept.{Kept, kept, refusal}
-use Rattle.report.proofs.Runs.{put-long, after-names}
+use Rattle.trace.proofs.Putting.{put-long}
+use Rattle.report.proofs.Runs.{after-names}
 use borrow.Author.Needs.{needs}
 use Rattle.report.proofs.put_report.Statement.{statement}
 use Rattle.report.proofs.put_report.Tie as tie

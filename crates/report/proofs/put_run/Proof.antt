@@ -8,21 +8,22 @@ use borrow.Author.Needs.{needs}
 use Rattle.model.specs.Writings.{eventsIn}
 use Rattle.model.specs.Reports.{runText}
 use Rattle.model.proofs.Lists.{drop-end}
-use Rattle.report.proofs.Runs.{Going, start, next, finish, going-long, run-at}
+use Rattle.trace.proofs.Putting.{Left, left-all, left-next, left-done}
+use Rattle.report.proofs.Runs.{run-at}
 use Rattle.report.proofs.put_run.Statement.{statement}
 use Rattle.report.proofs.put_run.Tie as tie
 
 abbrev Inv-loop : tie.InvT-loop
 Inv-loop out₀ times processes actions state₀ size₀ i₀ out state size i =
     (i ≤ length times) × (size ≤ 84 * i)
-    × Going out₀ out (runText 4 state₀ (eventsIn times processes actions))
-    (runText (i + 4) state (eventsIn (drop i times) (drop i processes) (drop i actions))) size
+    × Left out₀ 26 (runText 4 state₀ (eventsIn times processes actions)) out (size + 26)
+    (runText (i + 4) state (eventsIn (drop i times) (drop i processes) (drop i actions)))
 
 abbrev μ-loop : tie.MeasureT-loop
 μ-loop out₀ times processes actions state₀ size₀ i₀ out state size i = length times - i
 
 loop-holds : tie.Need-loop-holds Inv-loop μ-loop
-loop-holds c = (omega arith, omega arith, start)
+loop-holds c = (omega arith, omega arith, left-all)
 
 mul-step : tie.Need-mul-step Inv-loop μ-loop
 mul-step c = omega arith
@@ -76,10 +77,11 @@ loop-again c =
     let turn =
     run-at (v .state) (step .result) (s .args .times .now) (s .args .processes .now) (s .args .actions .now)
     (v .i) 0 0 0 here (s .pre .1 .0) (s .pre .1 .1) (step .ensures) in
-    (omega arith, omega (arith, line .ensures .1), next (rw turn at (v .inv .2)) (line .ensures .0))
+    let moved : v .size + 26 + line .result ≡ v .size + line .result + 26 = omega arith in
+    (omega arith, omega (arith, line .ensures .1), rw moved at (left-next (rw turn at (v .inv .2)) (line .ensures .0)))
 
 same-length : tie.Need-same-length Inv-loop μ-loop
-same-length c = going-long (c .before .loop .inv .2)
+same-length c = c .before .loop .inv .2 .same
 
 returns : tie.Need-returns Inv-loop μ-loop
 unfolding runText eventsIn
@@ -87,7 +89,7 @@ returns c =
     let v = c .before .loop in
     let s = c .before .before .before .before .before .before in
     let e : drop (v .i) (s .args .times .now) ≡ [] = drop-end (s .args .times .now) (v .i) (omega arith) (omega arith) in
-    (finish (rw e at (v .inv .2)), omega arith)
+    (left-done (rw e at (v .inv .2)) (omega arith), omega arith)
 
 pub put-run-spec : {M : Type 1} → statement M
 put-run-spec =

@@ -4,9 +4,9 @@ use native.Mathlib.Omega.{arith}
 use Rattle.model.specs.Texts.{eventsText}
 use Rattle.model.specs.Readings.{Lists, lists}
 use Rattle.model.specs.Writings.{eventsOf}
-use Rattle.trace.proofs.Putting.{event-width}
+use Rattle.trace.proofs.Putting.{Left, left-all, left-next, event-width}
 use Rattle.trace.proofs.Traces.{eventOf, from, text-at, text-end}
-use Rattle.trace.proofs.Sizes.{Left, left-all, left-next, left-nothing, left-long}
+use Rattle.trace.proofs.Sizes.{left-nothing, left-long}
 use borrow.Author.Needs.{needs}
 use Rattle.trace.proofs.texts.put_events.Statement.{statement}
 use Rattle.trace.proofs.texts.put_events.Tie as tie
