@@ -2,11 +2,12 @@
 -- step is defined by, so that the theorems check those from a second side. Assumes nothing.
 use Prim.Native.Nat.{ℕ, _+_, _≤_}
 use mathlib.Core.Path.{_≡_}
+use mathlib.Core.Bool.{true}
 use Rattle.model.specs.declared.Location.{Location}
 use Rattle.model.specs.declared.Location.the-variants.{Testing, Setting, Checking, Entering, Critical, Resetting, Leaving}
 use Rattle.model.specs.declared.State.{State}
 use Rattle.model.specs.declared.Outcome.{Outcome}
-use Rattle.model.specs.States.{limitOf, entryOf}
+use Rattle.model.specs.States.{limitOf, trying, entryOf}
 
 -- a call is accepted
 abbrev pub Accepted : Outcome → Type 0
@@ -16,6 +17,11 @@ Accepted o = o .answer .code ≡ 0
 pub record IsCritical (s : State) (i : ℕ) : Type 0 where
   pub from : 1 ≤ i
   pub at : entryOf s i .location ≡ Critical
+
+-- process i, from 1, is trying
+pub record IsTrying (s : State) (i : ℕ) : Type 0 where
+  pub from : 1 ≤ i
+  pub at : trying (entryOf s i .location) ≡ true
 
 -- "Only the six timed places carry the moment at which the window came there"
 pub data Arrival : Location → ℕ → Type 0 where

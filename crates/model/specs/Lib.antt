@@ -7,3 +7,6 @@ pub mod Texts
 pub mod Readings
 pub mod Writings
 pub mod Reports
+pub mod Summaries
+pub mod Calls
+pub mod Tallies

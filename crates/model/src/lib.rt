@@ -79,3 +79,26 @@ pub struct Reading {
     pub b: u64,
     pub c: u64,
 }
+
+// The counts of a summary, and the longest wait.
+pub struct Counts {
+    pub accepted: u64,
+    pub refused: u64,
+    // accepted crits and exits
+    pub entries: u64,
+    pub exits: u64,
+    // from a try to its crit
+    pub longest: u64,
+}
+
+// The running summary: the try moment of process p, from 1, has the place p - 1.
+pub struct Statistics {
+    pub counts: Counts,
+    pub tries: [u64; 96],
+}
+
+// What a recorded step gives back: the outcome, and the summary brought up to date.
+pub struct Recorded {
+    pub outcome: Outcome,
+    pub statistics: Statistics,
+}
