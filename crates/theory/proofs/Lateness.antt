@@ -118,7 +118,7 @@ none-found-iff-all-in-time s m = (
 
 late-first : {s : State} {act p m : ℕ} {o : Outcome} → Stepped s act p m o → o .answer .code ≡ 8
     → FirstMissed s m (o .answer .process) (o .answer .time)
-late-first (Stepped.refused r) e = absurd (r .not-late e)
+late-first (Stepped.refused r) e = absurd (r .numbered .not-late e)
 late-first {s} {m = m} (Stepped.late a l) e = found-first s (late-searched s m) l
 late-first (Stepped.accepted g) e = absurd (omega arith)
 
@@ -127,7 +127,7 @@ late-names-the-first s act p m = late-first (stepped s act p m)
 
 searches-none : {s : State} {act p m : ℕ} {o : Outcome} → Stepped s act p m o → Admissible s act p m
     → (o .answer .code ≢ 8) ↔ (lateOf s m .code ≢ 8)
-searches-none (Stepped.refused r) d = (λ _. r .none-late d, λ _. r .not-late)
+searches-none (Stepped.refused r) d = (λ _. r .none-late d, λ _. r .numbered .not-late)
 searches-none (Stepped.late a l) d = (λ h. h, λ h. h)
 searches-none (Stepped.accepted g) d = (λ _. g .in-time, λ _. omega arith)
 
@@ -138,7 +138,7 @@ not-late-iff-all-in-time s act p m d =
     (λ n. k .0 (h .0 n), λ a. h .1 (k .1 a))
 
 late-admissible : {s : State} {act p m : ℕ} {o : Outcome} → Stepped s act p m o → o .answer .code ≡ 8 → Admissible s act p m
-late-admissible (Stepped.refused r) e = absurd (r .not-late e)
+late-admissible (Stepped.refused r) e = absurd (r .numbered .not-late e)
 late-admissible (Stepped.late a l) e = a
 late-admissible (Stepped.accepted g) e = g .admissible
 

@@ -2,7 +2,7 @@
 -- These laws look at the eight locations, so that other proofs need not. Assumes nothing.
 use Prim.Native.Nat.{ℕ, _+_, _≤_, _<_}
 use mathlib.Core.Path.{_≡_, refl, sym, _∙_}
-use mathlib.Core.Logic.{_↔_}
+use mathlib.Core.Logic.{_↔_, _≢_}
 use mathlib.Core.Bool.{true, false, cond, false≢true}
 use native.Mathlib.Omega.{arith}
 use lib.Dec.{eqb}
@@ -10,7 +10,7 @@ use Rattle.model.specs.declared.Location.{Location}
 use Rattle.model.specs.declared.Location.the-variants.{Remainder, Testing, Setting, Checking, Entering, Critical, Resetting, Leaving}
 use Rattle.model.specs.declared.Process.{Process}
 use Rattle.model.specs.declared.State.{State}
-use Rattle.model.specs.Stages.{checking}
+use Rattle.model.specs.Stages.{remainder, checking, critical}
 use Rattle.model.specs.States.{stageOf, timed, sinceOf, limitOf, deadline, late}
 use Rattle.model.specs.Facts.{Arrival, Deadline}
 use Rattle.model.proofs.Tests.{tests}
@@ -68,6 +68,35 @@ timed-deadline a c (Leaving t) e = Deadline.leaving
 
 pub deadline-unique : {a c d e : ℕ} {l : Location} → Deadline a c l d → Deadline a c l e → d ≡ e
 deadline-unique h k = sym (deadline-timed h .1) ∙ deadline-timed k .1
+
+-- what a deadline d in l tells, by the stage: l is timed, and d is not before the arrival
+pub record Due (l : Location) (d : ℕ) : Type 0 where
+  pub not-remainder : stageOf l ≢ remainder
+  pub not-critical : stageOf l ≢ critical
+  pub after : sinceOf l ≤ d
+
+pub deadline-due : {a c d : ℕ} {l : Location} → Deadline a c l d → Due l d
+deadline-due Deadline.testing = omega arith
+deadline-due Deadline.setting = omega arith
+deadline-due Deadline.checking = omega arith
+deadline-due Deadline.entering = omega arith
+deadline-due Deadline.resetting = omega arith
+deadline-due Deadline.leaving = omega arith
+
+-- no deadline in l is before the time m, by the stage
+pub record InTime (a c m : ℕ) (l : Location) : Type 0 where
+  pub short : stageOf l ≢ remainder → stageOf l ≢ checking → stageOf l ≢ critical → m ≤ sinceOf l + a
+  pub long : stageOf l ≡ checking → m ≤ sinceOf l + c
+
+pub in-time : {a c m : ℕ} (l : Location) → ((d : ℕ) → Deadline a c l d → m ≤ d) → InTime a c m l
+in-time Remainder h = omega arith
+in-time (Testing t) h = omega (arith, h _ Deadline.testing)
+in-time (Setting t) h = omega (arith, h _ Deadline.setting)
+in-time (Checking t) h = omega (arith, h _ Deadline.checking)
+in-time (Entering t) h = omega (arith, h _ Deadline.entering)
+in-time Critical h = omega arith
+in-time (Resetting t) h = omega (arith, h _ Deadline.resetting)
+in-time (Leaving t) h = omega (arith, h _ Deadline.leaving)
 
 -- a late process has missed its deadline
 pub late-missed : (s : State) (m i : ℕ) (q : Process) → late s m i q ≡ true

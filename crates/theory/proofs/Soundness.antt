@@ -13,7 +13,7 @@ use Rattle.model.specs.declared.Location.the-variants.{Remainder}
 use Rattle.model.specs.declared.Process.{Process}
 use Rattle.model.specs.declared.State.{State}
 use Rattle.model.specs.declared.Outcome.{Outcome}
-use Rattle.model.specs.States.{countStands, limitsStand, idle, initial, stageOf, entrySound, entriesSound, soundOf, entryOf}
+use Rattle.model.specs.States.{countStands, limitsStand, lastTime, idle, initial, stageOf, entrySound, entriesSound, soundOf, entryOf}
 use Rattle.model.specs.Answers.{answers, blank, freshOf}
 use Rattle.model.specs.Facts.{Accepted, Arrival}
 use Rattle.theory.specs.Soundness.{CountStands, LimitsStand, Sound, SoundIffPlain, Fresh, FreshIsPlain}
@@ -25,10 +25,10 @@ use Rattle.theory.proofs.Locations.{Latest, past-iff, not-late-iff}
 -- One entry
 
 -- the part of `Sound` that speaks of process i, whose entry is q
-record EntryPlain (s : State) (i : ℕ) (q : Process) : Type 0 where
-  above : s .n < i → q .location ≡ Remainder
-  past : (t : ℕ) → Arrival (q .location) t → t ≤ s .clock
-  in-time : (d : ℕ) → Latest s i q d → s .clock ≤ d
+pub record EntryPlain (s : State) (i : ℕ) (q : Process) : Type 0 where
+  pub above : s .n < i → q .location ≡ Remainder
+  pub past : (t : ℕ) → Arrival (q .location) t → t ≤ s .clock
+  pub in-time : (d : ℕ) → Latest s i q d → s .clock ≤ d
 
 -- an entry in remainder has neither arrival nor deadline
 remainder-plain : (s : State) (i : ℕ) (q : Process) → q .location ≡ Remainder → EntryPlain s i q
@@ -68,21 +68,29 @@ entries-plain : (s : State) → entriesSound s 1 (s .processes) ≡ true → (i 
 entries-plain s e =
     each-entry (EntryPlain s) (λ j. remainder-plain s j idle refl) s (λ j q a. entry-plain s j q (entries-each s a e))
 
+-- the part of `Sound` that speaks of no process
+pub record NumbersPlain (s : State) : Type 0 where
+  pub count : CountStands (s .n)
+  pub limits : LimitsStand (s .a) (s .b) (s .c)
+  pub clock : s .clock ≤ lastTime
+  pub word : s .word ≤ s .n
+
 -- `Sound` speaks of each number i, and `entryOf` gives 0, which is no process, the entry of process 1
+pub sound-from : (s : State) → NumbersPlain s → ((i : ℕ) → 1 ≤ i → EntryPlain s i (entryOf s i)) → Sound s
+unfolding entryOf
+sound-from s h entry = record {
+  count = h .count;
+  limits = h .limits;
+  clock = h .clock;
+  word = h .word;
+  above = λ i k. entry i (omega arith) .above k;
+  past = λ i. elim i [ zero ↦ entry 1 (omega arith) .past | suc k ↦ entry (suc k) (omega arith) .past ];
+  in-time = λ i d k. entry i (k .from) .in-time d (k .is);
+}
+
 sound-plain : (s : State) → soundOf s ≡ true → Sound s
-unfolding soundOf entryOf
-sound-plain s e =
-    let h = simp tests at e in
-    let entry = entries-plain s (h .1) in
-    record {
-      count = omega arith;
-      limits = omega arith;
-      clock = omega arith;
-      word = omega arith;
-      above = λ i k. entry i (omega arith) .above k;
-      past = λ i. elim i [ zero ↦ entry 1 (omega arith) .past | suc k ↦ entry (suc k) (omega arith) .past ];
-      in-time = λ i d k. entry i (k .from) .in-time d (k .is);
-    }
+unfolding soundOf
+sound-plain s e = let h = simp tests at e in sound-from s (omega arith) (entries-plain s (h .1))
 
 plain-sound : (s : State) → Sound s → soundOf s ≡ true
 unfolding soundOf

@@ -1,9 +1,9 @@
 -- What a step gives, and why: one of the refusals, the answer 8, or acceptance. `stepOf` is taken apart here and nowhere else.
 -- Assumes nothing.
-use Prim.Native.Nat.{ℕ}
+use Prim.Native.Nat.{ℕ, _≤_}
 use mathlib.Core.Path.{_≡_, refl}
 use mathlib.Core.Logic.{_≢_}
-use mathlib.Core.Bool.{false, not}
+use mathlib.Core.Bool.{true, false, not}
 use native.Mathlib.Omega.{arith}
 use lib.Dec.{eqb}
 use borrow.Author.Tests.{eqb-true, eqb-false, not-true, not-false}
@@ -14,7 +14,8 @@ use Rattle.model.specs.Actions.{effect}
 use Rattle.model.specs.Answers.{answers, backward, beyond, unknown, misnamed, lateOf, misplaced, early, accepts, stepOf}
 use Rattle.model.specs.Facts.{Accepted}
 use Rattle.theory.specs.Lateness.{Admissible}
-use Rattle.model.proofs.Tests.{by-cond, clash}
+use Rattle.theory.specs.Soundness.{UnsoundIffOne}
+use Rattle.model.proofs.Tests.{by-test, by-cond, clash}
 
 -- The step
 
@@ -25,11 +26,22 @@ pub record Guards (s : State) (act p m : ℕ) : Type 0 where
   pub placed : misplaced s act p m ≡ false
   pub released : early s act p m ≡ false
 
+-- "4 to 10 raise the summary's refused count"
+pub record Refuses (code : ℕ) : Type 0 where
+  pub some : 4 ≤ code
+  pub most : code ≤ 10
+
 module _ (s : State) (act p m : ℕ) where
+  -- the number of a refusal other than 8: 1 tells that the state is not sound
+  pub record Numbered (code : ℕ) : Type 0 where
+    pub not-late : code ≢ 8
+    pub one : soundOf s ≡ false → code ≡ 1
+    pub refuses : soundOf s ≡ true → Refuses code
+
   -- one of the answers 1 to 10 but 8
   pub record Refused (o : Outcome) : Type 0 where
     pub not-accepted : o .answer .code ≢ 0
-    pub not-late : o .answer .code ≢ 8
+    pub numbered : Numbered (o .answer .code)
     pub stays : o .state ≡ s
     -- 9 and 10 come after 8, so the search for a late process found none
     pub none-late : Admissible s act p m → lateOf s m .code ≢ 8
@@ -40,23 +52,29 @@ module _ (s : State) (act p m : ℕ) where
     late : Admissible s act p m → lateOf s m .code ≡ 8 → Stepped (record { answer = lateOf s m; state = s })
     accepted : Guards s act p m → Stepped (accepts (effect s act p m))
 
+  one : not (soundOf s) ≡ true → Numbered 1
+  one e = record { not-late = omega arith; one = λ _. refl; refuses = λ f. clash f (not-true _ e) }
+
+  past-one : {code : ℕ} → not (soundOf s) ≡ false → Refuses code × (code ≢ 8) → Numbered code
+  past-one g h = record { not-late = h .1; one = λ f. clash (not-false _ g) f; refuses = λ _. h .0 }
+
   -- one of the answers 1 to 7
-  inadmissible : {code process time : ℕ} → (code ≢ 0) × (code ≢ 8) → (Admissible s act p m → ⊥)
+  inadmissible : {code process time : ℕ} → code ≢ 0 → Numbered code → (Admissible s act p m → ⊥)
       → Stepped (answers code process time s)
-  inadmissible h n = refused (record {
-    not-accepted = h .0;
-    not-late = h .1;
+  inadmissible h k n = refused (record {
+    not-accepted = h;
+    numbered = k;
     stays = refl;
     none-late = λ d. absurd (n d);
     barred = λ g. n (g .admissible);
   })
 
   -- one of the answers 9 and 10
-  unfit : {code process time : ℕ} → (code ≢ 0) × (code ≢ 8) → lateOf s m .code ≢ 8 → (Guards s act p m → ⊥)
+  unfit : {code process time : ℕ} → code ≢ 0 → Numbered code → lateOf s m .code ≢ 8 → (Guards s act p m → ⊥)
       → Stepped (answers code process time s)
-  unfit h t n = refused (record {
-    not-accepted = h .0;
-    not-late = h .1;
+  unfit h k t n = refused (record {
+    not-accepted = h;
+    numbered = k;
     stays = refl;
     none-late = λ d. t;
     barred = n;
@@ -70,14 +88,17 @@ module _ (s : State) (act p m : ℕ) where
   pub stepped : Stepped (stepOf s act p m)
   unfolding stepOf
   stepped =
-      by-cond Stepped (not (soundOf s)) (λ e. inadmissible (omega arith) (λ d. clash (d .sound) (not-true _ e)))
-      (λ g₁. by-cond Stepped (backward s m) (λ e. inadmissible (omega arith) (λ d. clash e (d .forward)))
-      (λ g₄. by-cond Stepped (beyond m) (λ e. inadmissible (omega arith) (λ d. clash e (d .within)))
-      (λ g₅. by-cond Stepped (unknown act) (λ e. inadmissible (omega arith) (λ d. clash e (d .known)))
-      (λ g₆. by-cond Stepped (misnamed (s .n) act p) (λ e. inadmissible (omega arith) (λ d. clash e (d .named)))
+      by-cond Stepped (not (soundOf s)) (λ e. inadmissible (omega arith) (one e) (λ d. clash (d .sound) (not-true _ e)))
+      (λ g₁. by-cond Stepped (backward s m) (λ e. inadmissible (omega arith) (past-one g₁ (omega arith)) (λ d. clash e (d .forward)))
+      (λ g₄. by-cond Stepped (beyond m) (λ e. inadmissible (omega arith) (past-one g₁ (omega arith)) (λ d. clash e (d .within)))
+      (λ g₅. by-cond Stepped (unknown act) (λ e. inadmissible (omega arith) (past-one g₁ (omega arith)) (λ d. clash e (d .known)))
+      (λ g₆. by-cond Stepped (misnamed (s .n) act p)
+      (λ e. inadmissible (omega arith) (past-one g₁ (omega arith)) (λ d. clash e (d .named)))
       (λ g₇. by-cond Stepped (eqb (lateOf s m .code) 8) (λ e. late (admitted g₁ g₄ g₅ g₆ g₇) (eqb-true _ _ e))
-      (λ g₈. by-cond Stepped (misplaced s act p m) (λ e. unfit (omega arith) (eqb-false _ _ g₈) (λ g. clash e (g .placed)))
-      (λ g₉. by-cond Stepped (early s act p m) (λ e. unfit (omega arith) (eqb-false _ _ g₈) (λ g. clash e (g .released)))
+      (λ g₈. by-cond Stepped (misplaced s act p m)
+      (λ e. unfit (omega arith) (past-one g₁ (omega arith)) (eqb-false _ _ g₈) (λ g. clash e (g .placed)))
+      (λ g₉. by-cond Stepped (early s act p m)
+      (λ e. unfit (omega arith) (past-one g₁ (omega arith)) (eqb-false _ _ g₈) (λ g. clash e (g .released)))
       (λ g₁₀. accepted (record {
         admissible = admitted g₁ g₄ g₅ g₆ g₇;
         in-time = eqb-false _ _ g₈;
@@ -97,3 +118,31 @@ module _ {s : State} {act p m : ℕ} where
   guards-accept (refused r) g = absurd (r .barred g)
   guards-accept (late a l) g = absurd (g .in-time l)
   guards-accept (accepted _) g = refl
+
+-- 1, or one from 4 to 10
+
+module _ (s : State) (act p m : ℕ) where
+  one-unsound : {o : Outcome} → Stepped s act p m o → o .answer .code ≡ 1 → soundOf s ≡ false
+  one-unsound (refused r) e = by-test (soundOf s) (λ f. absurd (omega (arith, r .numbered .refuses f))) (λ f. f)
+  one-unsound (late a l) e = absurd (omega arith)
+  one-unsound (accepted g) e = absurd (omega arith)
+
+  unsound-one : {o : Outcome} → Stepped s act p m o → soundOf s ≡ false → o .answer .code ≡ 1
+  unsound-one (refused r) f = r .numbered .one f
+  unsound-one (late a l) f = clash (a .sound) f
+  unsound-one (accepted g) f = clash (g .admissible .sound) f
+
+  sound-refuses : {o : Outcome} → Stepped s act p m o → soundOf s ≡ true → o .answer .code ≢ 0 → Refuses (o .answer .code)
+  sound-refuses (refused r) f n = r .numbered .refuses f
+  sound-refuses (late a l) f n = omega arith
+  sound-refuses (accepted g) f n = absurd (n refl)
+
+  pub step-refuses : soundOf s ≡ true → stepOf s act p m .answer .code ≢ 0 → Refuses (stepOf s act p m .answer .code)
+  step-refuses = sound-refuses (stepped s act p m)
+
+  pub unsound-is : soundOf s ≡ false → stepOf s act p m ≡ answers 1 0 0 s
+  unfolding stepOf
+  unsound-is e = simp e
+
+pub unsound-iff-one : UnsoundIffOne
+unsound-iff-one s act p m = (one-unsound s act p m (stepped s act p m), unsound-one s act p m (stepped s act p m))

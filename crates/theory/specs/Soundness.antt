@@ -1,5 +1,5 @@
--- What a sound state is, in plain facts, and that `soundOf` tells it; what a fresh table is, and that `freshOf` gives it.
--- Assumes nothing.
+-- What a sound state is, in plain facts, and that `soundOf` tells it and the step answers 1 to all others; what a fresh table is,
+-- and that `freshOf` gives it. Assumes nothing.
 use Prim.Native.Nat.{ℕ, _≤_, _<_}
 use mathlib.Core.Path.{_≡_}
 use mathlib.Core.Logic.{_↔_, _≢_}
@@ -8,7 +8,7 @@ use lib.ListN.{length}
 use Rattle.model.specs.declared.Location.the-variants.{Remainder}
 use Rattle.model.specs.declared.State.{State}
 use Rattle.model.specs.States.{lastTime, entryOf, soundOf}
-use Rattle.model.specs.Answers.{freshOf}
+use Rattle.model.specs.Answers.{stepOf, freshOf}
 use Rattle.model.specs.Facts.{Accepted, Arrival, HasDeadline}
 
 -- "n (1 to 96)"
@@ -36,6 +36,10 @@ pub record Sound (s : State) : Type 0 where
 
 abbrev pub SoundIffPlain : Type 0
 SoundIffPlain = (s : State) → (soundOf s ≡ true) ↔ Sound s
+
+-- | 1, -, - | table not sound |: an act is answered so exactly then
+abbrev pub UnsoundIffOne : Type 0
+UnsoundIffOne = (s : State) (act p m : ℕ) → (stepOf s act p m .answer .code ≡ 1) ↔ (soundOf s ≡ false)
 
 -- A fresh table
 

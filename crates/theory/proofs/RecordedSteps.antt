@@ -1,0 +1,47 @@
+-- What a recorded step gives, and why: 1, 2 or 3 with the summary as it was, or what the step gives, counted. `recordedOf` is taken
+-- apart here for all of the theory. Assumes nothing.
+use Prim.Native.Nat.{ℕ, _+_}
+use mathlib.Core.Path.{_≡_}
+use mathlib.Core.Logic.{_≢_}
+use mathlib.Core.Bool.{true, false, not}
+use borrow.Author.Tests.{eqb-true, eqb-false, ne-eqb, not-true, not-false}
+use Rattle.model.specs.declared.State.{State}
+use Rattle.model.specs.declared.Statistics.{Statistics}
+use Rattle.model.specs.declared.Recorded.{Recorded}
+use Rattle.model.specs.States.{soundOf}
+use Rattle.model.specs.Answers.{answers, stepOf}
+use Rattle.model.specs.Summaries.{mostActs, statisticsSound, full, acceptedCounted, refusedCounted, noted, beside, counting, recordedOf}
+use Rattle.theory.specs.Summaries.{NotFull}
+use Rattle.model.proofs.Tests.{by-cond}
+
+module _ (s : State) (x : Statistics) (act p m : ℕ) where
+  -- none of 1, 2 and 3 applies
+  pub record Open : Type 0 where
+    pub sound : soundOf s ≡ true
+    pub summary : statisticsSound (s .clock) x ≡ true
+    pub not-full : NotFull x
+
+  pub data Judged : Recorded → Type 0 where
+    no-table : soundOf s ≡ false → Judged (beside x (answers 1 0 0 s))
+    no-summary : soundOf s ≡ true → statisticsSound (s .clock) x ≡ false → Judged (beside x (answers 2 0 0 s))
+    filled : soundOf s ≡ true → statisticsSound (s .clock) x ≡ true → x .counts .accepted + x .counts .refused ≡ mostActs
+        → Judged (beside x (answers 3 0 0 s))
+    counted : Open → Judged (counting x act p m (stepOf s act p m))
+
+  pub judged : Judged (recordedOf s x act p m)
+  unfolding recordedOf
+  judged =
+      by-cond Judged (not (soundOf s)) (λ e. no-table (not-true _ e))
+      (λ g₁. by-cond Judged (not (statisticsSound (s .clock) x)) (λ e. no-summary (not-false _ g₁) (not-true _ e))
+      (λ g₂. by-cond Judged (full x) (λ e. filled (not-false _ g₁) (not-false _ g₂) (eqb-true _ _ e))
+      (λ g₃. counted (record { sound = not-false _ g₁; summary = not-false _ g₂; not-full = eqb-false _ _ g₃ }))))
+
+  -- What is counted, by the number of the answer
+
+  pub noted-accepted : {code : ℕ} → code ≡ 0 → noted x code act p m ≡ acceptedCounted x act p m
+  unfolding noted
+  noted-accepted e = rw e
+
+  pub noted-refused : {code : ℕ} → code ≢ 0 → noted x code act p m ≡ refusedCounted x
+  unfolding noted
+  noted-refused {code} n = rw (ne-eqb code 0 n)
