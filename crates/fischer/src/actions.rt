@@ -1,13 +1,19 @@
-// The acts table: the numbers of the acts that are not told by their row alone, and the rows as values.
+// The acts table: the numbers of the acts that are told apart outside their rows, and the rows as values.
 use crate::stages::REMAINDER;
 use model::Location;
 use model::Transition;
 ghost use mathlib.Core.Path.{_≡_};
 ghost use Rattle.model.specs.Actions.{«row», afterTest, afterCheck};
 
-pub(crate) const WAIT: u64 = 0;
+pub const WAIT: u64 = 0;
+
+pub const TRY: u64 = 1;
 
 pub(crate) const CHECK: u64 = 4;
+
+pub const CRIT: u64 = 5;
+
+pub const EXIT: u64 = 6;
 
 // the last act
 pub(crate) const REM: u64 = 8;

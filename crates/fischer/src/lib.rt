@@ -1,6 +1,6 @@
 // Fischer's timed mutual exclusion as a step machine: `fresh` makes a state, `step` takes one action in it.
 // Both take any numbers and any state, and answer what `freshOf` and `stepOf` of the model say.
-mod actions;
+pub mod actions;
 pub mod answers;
 pub mod limits;
 pub mod stages;

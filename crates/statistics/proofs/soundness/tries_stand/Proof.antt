@@ -1,0 +1,54 @@
+-- `statistics::soundness::tries_stand` meets its contract: the try moments that are left stand just where all do. Assumes nothing.
+use Prim.Native.Nat.{_-_, _≤_}
+use mathlib.Core.Path.{_≡_, refl, sym, _∙_}
+use mathlib.Core.Logic.{⊎-elim}
+use native.Mathlib.Omega.{arith}
+use borrow.Author.Needs.{needs}
+use borrow.Author.Tests.{le-leb}
+use lib.ListN.{drop}
+use Rattle.model.specs.Summaries.{triesSound}
+use Rattle.statistics.proofs.Laws.{tries-at, all-stand, one-late}
+use Rattle.statistics.proofs.soundness.tries_stand.Statement.{statement}
+use Rattle.statistics.proofs.soundness.tries_stand.Tie as tie
+
+abbrev Inv-loop : tie.InvT-loop
+Inv-loop clock tries i₀ i = (i ≤ 96) × (triesSound clock (drop i tries) ≡ triesSound clock tries)
+
+abbrev μ-loop : tie.MeasureT-loop
+μ-loop clock tries i₀ i = 96 - i
+
+loop-holds : tie.Need-loop-holds Inv-loop μ-loop
+loop-holds c = (omega arith, refl)
+
+mul-if1 : tie.Need-mul-if1 Inv-loop μ-loop
+mul-if1 c = search needs
+
+array-read-if1 : tie.Need-array-read-if1 Inv-loop μ-loop
+array-read-if1 c = search needs
+
+add-i : tie.Need-add-i Inv-loop μ-loop
+add-i c = search needs
+
+loop-less : tie.Need-loop-less Inv-loop μ-loop
+loop-less c = search needs
+
+loop-again : tie.Need-loop-again Inv-loop μ-loop
+loop-again c =
+    let a = c .before .before .before .args in
+    let v = c .before .before .loop in
+    (omega arith, simp (le-leb _ _ (c .if1 .left)) at (sym (tries-at (a .clock) (a .t1) (v .i) (search needs))) ∙ v .inv .1)
+
+returns : tie.Need-returns Inv-loop μ-loop
+-- the loop runs to its end, or breaks at a try moment after the clock
+returns c =
+    let a = c .before .before .args in
+    let v = c .before .loop in
+    ⊎-elim
+    (λ w. all-stand (a .clock) (a .t1) (v .i) (search needs) (omega (arith, w .left, v .inv .0)) (v .inv .1))
+    (λ w. one-late (a .clock) (a .t1) (v .i) (omega (arith, w .0 .taken)) (search needs) (w .1 .taken) (v .inv .1))
+    (c .loop-test .came)
+
+pub tries-stand-spec : {M : Type 1} → statement M
+tries-stand-spec =
+    tie.close
+    (tie.spec Inv-loop μ-loop loop-holds mul-if1 array-read-if1 add-i loop-less loop-again returns)

@@ -1,0 +1,119 @@
+// The running summary: `record` takes one action and counts it, by value; `record_step` is lent the summary.
+// Both take any state and any summary, and answer what `recordedOf` of the model says.
+mod counting;
+mod soundness;
+
+use crate::counting::with_accepted;
+use crate::counting::with_entry;
+use crate::counting::with_exit;
+use crate::counting::with_refused;
+use crate::soundness::fault_by;
+use crate::soundness::tries_stand;
+use fischer::actions::CRIT;
+use fischer::actions::EXIT;
+use fischer::actions::TRY;
+use fischer::actions::WAIT;
+use fischer::answers::answer_with;
+use fischer::step;
+use model::Counts;
+use model::Outcome;
+use model::Recorded;
+use model::State;
+use model::Statistics;
+ghost use mathlib.Core.Path.{_≡_};
+ghost use mathlib.Core.Bool.{cond};
+ghost use Rattle.model.specs.States.{soundOf};
+ghost use Rattle.model.specs.Answers.{answers};
+ghost use Rattle.model.specs.Summaries.{unused, beside, recordedOf};
+
+// "A new one is all zeros."
+pub fn unused_statistics() -> Statistics
+    ensures { λ r. ⌜ r ≡ unused ⌝ }
+{
+    Statistics {
+        counts: Counts {
+            accepted: 0,
+            refused: 0,
+            entries: 0,
+            exits: 0,
+            longest: 0,
+        },
+        tries: [0; 96],
+    }
+}
+
+// The refusal 2 or 3, or 1 before it: whether the state is sound is told by a wait at its own clock, which changes nothing.
+fn refuse(state: State, fault: u64) -> Outcome
+    ensures { λ r. ⌜ r ≡ cond (soundOf state) (answers fault 0 0 state) (answers 1 0 0 state) ⌝ }
+{
+    let judged = step(state, WAIT, 0, state.clock);
+    let answer = judged.answer;
+    if answer.code == 1 {
+        return judged;
+    }
+    Outcome {
+        answer: answer_with(fault, 0, 0),
+        state: state,
+    }
+}
+
+// One action of a process at a time, and the summary after it. The summary is judged first and changed in place, as each hand-over
+// of it copies 808 bytes.
+pub fn record(
+    state: State,
+    mut statistics: Statistics,
+    action: u64,
+    process: u64,
+    time: u64,
+) -> Recorded
+    ensures { λ r. ⌜ r ≡ recordedOf state statistics action process time ⌝ }
+{
+    let counts = statistics.counts;
+    let tries = statistics.tries;
+    let fault = fault_by(counts, tries_stand(tries, state.clock));
+    if fault != 0 {
+        return Recorded {
+            outcome: refuse(state, fault),
+            statistics: statistics,
+        };
+    }
+    let outcome = step(state, action, process, time);
+    let answer = outcome.answer;
+    if answer.code == 0 {
+        if action == TRY {
+            let slot = (process - 1) as usize;
+            statistics.counts = with_accepted(counts);
+            statistics.tries[slot] = time;
+        } else if action == CRIT {
+            let slot = (process - 1) as usize;
+            let tried = statistics.tries[slot];
+            statistics.counts = with_entry(counts, time - tried);
+            statistics.tries[slot] = 0;
+        } else if action == EXIT {
+            statistics.counts = with_exit(counts);
+        } else {
+            statistics.counts = with_accepted(counts);
+        }
+    } else if answer.code != 1 {
+        statistics.counts = with_refused(counts);
+    }
+    Recorded {
+        outcome: outcome,
+        statistics: statistics,
+    }
+}
+
+// "The caller lends the summary to each recorded step and finds it brought up to date."
+pub fn record_step(
+    state: State,
+    statistics: &mut Statistics,
+    action: u64,
+    process: u64,
+    time: u64,
+) -> Outcome
+    ensures { λ r. ⌜ beside (now (statistics .exit)) r ≡ recordedOf state (now (statistics .entry)) action process time ⌝ }
+{
+    let recorded = record(state, *statistics, action, process, time);
+    *statistics = recorded.statistics;
+    recorded.outcome
+}

@@ -1,0 +1,55 @@
+// Which summaries stand beside a clock. Differences are taken and no sum, so that nothing overflows whatever the summary holds.
+use model::Counts;
+ghost use mathlib.Core.Path.{_≡_};
+ghost use Rattle.model.specs.Summaries.{countsSound, triesSound};
+ghost use Rattle.statistics.specs.Countings.{faultBy};
+
+// "1,000,000,000,000", of acts and of microseconds
+const MOST: u64 = 1000000000000;
+
+fn counts_stand(counts: Counts) -> bool
+    ensures { λ r. ⌜ r ≡ countsSound counts ⌝ }
+{
+    if MOST < counts.accepted {
+        return false;
+    }
+    if MOST - counts.accepted < counts.refused {
+        return false;
+    }
+    if counts.accepted < counts.entries {
+        return false;
+    }
+    if counts.accepted - counts.entries < counts.exits {
+        return false;
+    }
+    counts.longest <= MOST
+}
+
+pub(crate) fn tries_stand(tries: [u64; 96], clock: u64) -> bool
+    ensures { λ r. ⌜ r ≡ triesSound clock tries ⌝ }
+{
+    let mut i: usize = 0;
+    while i < 96 {
+        if clock < tries[i] {
+            break;
+        }
+        i += 1;
+    }
+    i == 96
+}
+
+// The number of the refusal, 2 or 3; 0 where an act can be counted.
+pub(crate) fn fault_by(counts: Counts, tried: bool) -> u64
+    ensures { λ r. ⌜ r ≡ faultBy counts tried ⌝ }
+{
+    if !counts_stand(counts) {
+        return 2;
+    }
+    if !tried {
+        return 2;
+    }
+    if MOST - counts.accepted == counts.refused {
+        return 3;
+    }
+    0
+}
