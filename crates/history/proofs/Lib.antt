@@ -1,0 +1,4 @@
+pub mod Runs
+pub mod Turns
+pub mod Threading
+pub mod Chain

@@ -1,0 +1,125 @@
+-- Calls as rows of numbers, as `run` is lent them, and all that it gives back. A call is a row of `calls` with a row of `counts` and one
+-- of `tries`, the summary that it is lent; its answer goes to a row of `answers`. Assumes nothing.
+use Prim.Native.Nat.{ℕ}
+use mathlib.Core.Path.{_≡_}
+use mathlib.Core.Bool.{not}
+use mathlib.Core.List.{List, [], _∷_, _++_, map}
+use lib.Dec.{eqb}
+use lib.ListN.{length, getD, set, take, drop}
+use Rattle.model.specs.declared.State.{State}
+use Rattle.model.specs.declared.Outcome.{Outcome}
+use Rattle.model.specs.declared.Counts.{Counts}
+use Rattle.model.specs.declared.Statistics.{Statistics}
+use Rattle.model.specs.declared.Recorded.{Recorded}
+use Rattle.model.specs.Answers.{freshOf}
+use Rattle.model.specs.Summaries.{countsOf, statisticsOf}
+use Rattle.model.specs.Calls.{Call, callOf, runOf, resultsOf}
+use Rattle.theory.specs.Demand3.{Demand3}
+
+-- Rows of numbers
+
+abbrev pub Tuple : Type 0
+Tuple = List ℕ
+
+-- a summary is a row of counts, and one of try moments
+abbrev pub summaryIn : Tuple → Tuple → Statistics
+summaryIn row tries =
+    statisticsOf (countsOf (getD row 0 0) (getD row 1 0) (getD row 2 0) (getD row 3 0) (getD row 4 0)) tries
+
+abbrev pub tupleOf : Counts → Tuple
+tupleOf k = k .accepted ∷ k .refused ∷ k .entries ∷ k .exits ∷ k .longest ∷ []
+
+-- kind, action, process, time: kind 0 is a step without a summary
+abbrev pub callIn : Tuple → Statistics → Call
+callIn row x = record {
+  recorded = not (eqb (getD row 0 0) 0);
+  action = getD row 1 0;
+  process = getD row 2 0;
+  time = getD row 3 0;
+  lent = x;
+}
+
+-- What is lent to `run` and comes back
+
+pub record Rows : Type 0 where
+  pub counts : List Tuple
+  pub tries : List Tuple
+  pub answers : List Tuple
+
+abbrev pub rows : List Tuple → List Tuple → List Tuple → Rows
+rows counts tries answers = record { counts = counts; tries = tries; answers = answers }
+
+-- as many calls as the shortest list has rows
+unfoldable pub callsIn : List Tuple → List Tuple → List Tuple → List Call
+callsIn [] cs ts = []
+callsIn (r ∷ rs) [] ts = []
+callsIn (r ∷ rs) (c ∷ cs) [] = []
+callsIn (r ∷ rs) (c ∷ cs) (t ∷ ts) = callIn r (summaryIn c t) ∷ callsIn rs cs ts
+
+abbrev pub callsOf : List Tuple → Rows → List Call
+callsOf calls l = take (length (l .answers)) (callsIn calls (l .counts) (l .tries))
+
+-- the first list, written over the front of the second
+abbrev pub over : List Tuple → List Tuple → List Tuple
+over xs l = xs ++ drop (length xs) l
+
+-- the rows of a call after it
+abbrev pub countsRow : Recorded → Tuple
+countsRow r = tupleOf (r .statistics .counts)
+
+abbrev pub triesRow : Recorded → Tuple
+triesRow r = r .statistics .tries
+
+abbrev pub answerRow : Recorded → Tuple
+answerRow r = r .outcome .answer .code ∷ r .outcome .answer .process ∷ r .outcome .answer .time ∷ []
+
+abbrev pub overwritten : List Recorded → Rows → Rows
+overwritten rs l =
+    rows (over (map countsRow rs) (l .counts)) (over (map triesRow rs) (l .tries)) (over (map answerRow rs) (l .answers))
+
+-- All that `run` gives back: the answer to the fresh table, the table after the last call, and the rows
+
+pub record Run : Type 0 where
+  pub outcome : Outcome
+  pub kept : Rows
+
+abbrev pub runGave : Outcome → Rows → Run
+runGave o l = record { outcome = o; kept = l }
+
+-- the outcome o with the table s instead
+abbrev pub ending : Outcome → State → Outcome
+ending o s = record { answer = o .answer; state = s }
+
+abbrev pub ranFrom : Outcome → List Call → Rows → Run
+ranFrom o ds l = runGave (ending o (runOf (o .state) ds)) (overwritten (resultsOf (o .state) ds) l)
+
+unfoldable pub ranOf : ℕ → ℕ → ℕ → ℕ → List Tuple → Rows → Run
+ranOf n a b c calls l = ranFrom (freshOf n a b c) (callsOf calls l) l
+
+-- Demand 3, of what `run` is lent and gives back: from the table s, with the calls ds, the rows l became l′, and the last table is t
+
+pub record Ran (s : State) (ds : List Call) (l l′ : Rows) (t : State) : Type 0 where
+  -- what each call gave back: its answer and its summary stand in its row
+  pub results : List Recorded
+  pub written : l′ ≡ overwritten results l
+  pub demand3 : Demand3 s ds results t
+
+-- One turn of the loop: the call in row i
+
+abbrev pub resultAt : State → List Tuple → Rows → ℕ → Recorded
+resultAt s calls l i =
+    callOf s (callIn (getD calls i []) (summaryIn (getD (l .counts) i []) (getD (l .tries) i [])))
+
+abbrev pub stored : Rows → ℕ → Recorded → Rows
+stored l i r = rows (set (l .counts) i (countsRow r)) (set (l .tries) i (triesRow r)) (set (l .answers) i (answerRow r))
+
+-- the table after it, and the rows
+pub record Turn : Type 0 where
+  pub state : State
+  pub kept : Rows
+
+abbrev pub turnGave : State → Rows → Turn
+turnGave s l = record { state = s; kept = l }
+
+abbrev pub turnOf : State → List Tuple → Rows → ℕ → Turn
+turnOf s calls l i = turnGave (resultAt s calls l i .outcome .state) (stored l i (resultAt s calls l i))

@@ -1,0 +1,60 @@
+-- Recorded steps as rows of numbers, each lent the summary that the one before it left, as `run_recorded` makes them, and all that it
+-- gives back. Assumes nothing.
+use Prim.Native.Nat.{ℕ}
+use mathlib.Core.List.{List, [], _∷_, map}
+use lib.ListN.{length, getD, set, take}
+use Rattle.model.specs.declared.Recorded.{Recorded}
+use Rattle.model.specs.Texts.{Event}
+use Rattle.model.specs.Tallies.{Attempt}
+use Rattle.theory.specs.Tallies.{recordNext, recordAll, recordsOf, startOf}
+use Rattle.history.specs.Lists.{Tuple, over, answerRow, ending}
+
+-- action, process, time
+abbrev pub eventIn : Tuple → Event
+eventIn row = record { time = getD row 2 0; process = getD row 1 0; action = getD row 0 0 }
+
+-- as many as the shorter list has rows
+abbrev pub eventsOf : List Tuple → List Tuple → List Event
+eventsOf acts answers = take (length answers) (map eventIn acts)
+
+-- the log of acts and of the answers to them, the last one first
+abbrev pub attemptIn : Tuple → Tuple → Attempt
+attemptIn act answer = record {
+  action = getD act 0 0;
+  process = getD act 1 0;
+  time = getD act 2 0;
+  code = getD answer 0 0;
+}
+
+unfoldable pub logOnto : List Attempt → List Tuple → List Tuple → List Attempt
+logOnto log [] rs = log
+logOnto log (e ∷ es) [] = log
+logOnto log (e ∷ es) (r ∷ rs) = logOnto (attemptIn e r ∷ log) es rs
+
+abbrev pub logOf : List Tuple → List Tuple → List Attempt
+logOf acts answers = logOnto [] acts answers
+
+-- All that `run_recorded` gives back: the answer to the fresh table, the table and the summary after the last step, and the answers
+
+pub record Thread : Type 0 where
+  pub recorded : Recorded
+  pub answers : List Tuple
+
+abbrev pub threadGave : Recorded → List Tuple → Thread
+threadGave r answers = record { recorded = r; answers = answers }
+
+-- the answer of the first, the table and the summary of the second
+abbrev pub started : Recorded → Recorded → Recorded
+started r t = record { outcome = ending (r .outcome) (t .outcome .state); statistics = t .statistics }
+
+abbrev pub threadFrom : Recorded → List Event → List Tuple → Thread
+threadFrom r es answers = threadGave (started r (recordAll r es)) (over (map answerRow (recordsOf r es)) answers)
+
+unfoldable pub threadOf : ℕ → ℕ → ℕ → ℕ → List Tuple → List Tuple → Thread
+threadOf n a b c acts answers = threadFrom (startOf n a b c) (eventsOf acts answers) answers
+
+-- One turn of the loop: the step in row i
+
+abbrev pub recordAt : Recorded → List Tuple → List Tuple → ℕ → Thread
+recordAt r acts answers i =
+    let t = recordNext r (eventIn (getD acts i [])) in threadGave t (set answers i (answerRow t))

@@ -1,0 +1,159 @@
+// Whole lists of calls, each of which gets the state that the call before it gave back. The calls are rows of numbers, in slices of
+// arrays, so that a caller can lend any list; the shortest slice sets their number.
+mod lend;
+mod rows;
+
+use crate::lend::lent_step;
+use crate::rows::answer_row;
+use crate::rows::summary_in;
+use crate::rows::tuple_of;
+use fischer::fresh;
+use fischer::step;
+use model::Outcome;
+use model::Recorded;
+use model::State;
+use model::Statistics;
+use statistics::unused_statistics;
+ghost use mathlib.Core.Path.{_≡_};
+ghost use Prim.Native.Nat.{_<_, min};
+ghost use lib.ListN.{length};
+ghost use Rattle.model.specs.Answers.{freshOf};
+ghost use Rattle.model.specs.Facts.{Accepted};
+ghost use Rattle.model.specs.Calls.{callOf};
+ghost use Rattle.theory.specs.Tallies.{Tallied};
+ghost use Rattle.history.specs.Lists.{callIn, rows, callsOf, runGave, ranOf, Ran, turnGave, turnOf};
+ghost use Rattle.history.specs.Threads.{logOf, threadGave, threadOf, recordAt};
+
+fn least(a: usize, b: usize) -> usize
+    ensures { λ r. ⌜ r ≡ min a b ⌝ }
+{
+    if a < b { a } else { b }
+}
+
+// One call: a step without a summary (kind 0), or a recorded step with the one that is lent.
+fn make_call(state: State, row: [u64; 4], lent: Statistics) -> Recorded
+    ensures { λ r. ⌜ r ≡ callOf state (callIn row lent) ⌝ }
+{
+    let kind = row[0];
+    if kind == 0 {
+        let outcome = step(state, row[1], row[2], row[3]);
+        return Recorded {
+            outcome: outcome,
+            statistics: lent,
+        };
+    }
+    lent_step(state, lent, row[1], row[2], row[3])
+}
+
+// The call in row i.
+fn make_turn(
+    state: State,
+    calls: &[[u64; 4]],
+    counts: &mut [[u64; 5]],
+    tries: &mut [[u64; 96]],
+    answers: &mut [[u64; 3]],
+    i: usize,
+) -> State
+    requires { ⌜ (i < length (now calls)) × (i < length (now counts)) × (i < length (now tries)) × (i < length (now answers)) ⌝ }
+    ensures { λ r. ⌜ turnGave r (rows (now (counts .exit)) (now (tries .exit)) (now (answers .exit))) ≡ turnOf state (now (calls .entry)) (rows (now (counts .entry)) (now (tries .entry)) (now (answers .entry))) i ⌝ }
+{
+    let made = make_call(state, calls[i], summary_in(counts[i], tries[i]));
+    let outcome = made.outcome;
+    let answer = outcome.answer;
+    let left = made.statistics;
+    let left_tries = left.tries;
+    let left_counts = tuple_of(left.counts);
+    counts[i] = left_counts;
+    tries[i] = left_tries;
+    let told = answer_row(answer);
+    answers[i] = told;
+    let next = outcome.state;
+    next
+}
+
+// A whole list of calls from a fresh table. The answer is that of `fresh`, the state that of the last call. Each call's summary is lent
+// in its row, brought up to date there, and its answer stored; the contract is demand 3.
+pub fn run(
+    n: u64,
+    a: u64,
+    b: u64,
+    c: u64,
+    calls: &[[u64; 4]],
+    counts: &mut [[u64; 5]],
+    tries: &mut [[u64; 96]],
+    answers: &mut [[u64; 3]],
+) -> Outcome
+    ensures equals { λ r. ⌜ runGave r (rows (now (counts .exit)) (now (tries .exit)) (now (answers .exit))) ≡ ranOf n a b c (now (calls .entry)) (rows (now (counts .entry)) (now (tries .entry)) (now (answers .entry))) ⌝ }
+    ensures demand3 { λ r. ⌜ (Accepted (freshOf n a b c) → Ran (freshOf n a b c .state) (callsOf (now (calls .entry)) (rows (now (counts .entry)) (now (tries .entry)) (now (answers .entry)))) (rows (now (counts .entry)) (now (tries .entry)) (now (answers .entry))) (rows (now (counts .exit)) (now (tries .exit)) (now (answers .exit))) (r .state)) ⌝ }
+{
+    let start = fresh(n, a, b, c);
+    let answer = start.answer;
+    let mut state = start.state;
+    let count = least(
+        least(calls.len(), counts.len()),
+        least(tries.len(), answers.len()),
+    );
+    let mut i: usize = 0;
+    while i < count {
+        state = make_turn(state, calls, counts, tries, answers, i);
+        i += 1;
+    }
+    Outcome {
+        answer: answer,
+        state: state,
+    }
+}
+
+// The recorded step in row i, with the state and the summary that the one before it left.
+fn record_turn(last: Recorded, acts: &[[u64; 3]], answers: &mut [[u64; 3]], i: usize) -> Recorded
+    requires { ⌜ (i < length (now acts)) × (i < length (now answers)) ⌝ }
+    ensures { λ r. ⌜ threadGave r (now (answers .exit)) ≡ recordAt last (now (acts .entry)) (now (answers .entry)) i ⌝ }
+{
+    let act = acts[i];
+    let before = last.outcome;
+    let state = before.state;
+    let summary = last.statistics;
+    let made = lent_step(state, summary, act[0], act[1], act[2]);
+    let outcome = made.outcome;
+    let answer = outcome.answer;
+    let told = answer_row(answer);
+    answers[i] = told;
+    made
+}
+
+// Recorded steps from a fresh table and a new summary that is lent to every one. The answer is that of `fresh`, the state and the
+// summary those after the last step; the contract has the tally of the acts and their answers.
+pub fn run_recorded(
+    n: u64,
+    a: u64,
+    b: u64,
+    c: u64,
+    acts: &[[u64; 3]],
+    answers: &mut [[u64; 3]],
+) -> Recorded
+    ensures equals { λ r. ⌜ threadGave r (now (answers .exit)) ≡ threadOf n a b c (now (acts .entry)) (now (answers .entry)) ⌝ }
+    ensures tallied { λ r. ⌜ (Accepted (freshOf n a b c) → Tallied (logOf (now (acts .entry)) (now (answers .exit))) r) ⌝ }
+{
+    let start = fresh(n, a, b, c);
+    let answer = start.answer;
+    let mut last = Recorded {
+        outcome: start,
+        statistics: unused_statistics(),
+    };
+    let count = least(acts.len(), answers.len());
+    let mut i: usize = 0;
+    while i < count {
+        last = record_turn(last, acts, answers, i);
+        i += 1;
+    }
+    let end = last.outcome;
+    let state = end.state;
+    let summary = last.statistics;
+    Recorded {
+        outcome: Outcome {
+            answer: answer,
+            state: state,
+        },
+        statistics: summary,
+    }
+}

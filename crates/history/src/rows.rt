@@ -1,0 +1,40 @@
+// Summaries and answers as rows of numbers.
+use model::Answer;
+use model::Counts;
+use model::Statistics;
+ghost use mathlib.Core.Path.{_≡_};
+ghost use mathlib.Core.List.{[], _∷_};
+ghost use Rattle.history.specs.Lists.{summaryIn, tupleOf};
+
+pub(crate) fn summary_in(counts: [u64; 5], tries: [u64; 96]) -> Statistics
+    ensures { λ r. ⌜ r ≡ summaryIn counts tries ⌝ }
+{
+    Statistics {
+        counts: Counts {
+            accepted: counts[0],
+            refused: counts[1],
+            entries: counts[2],
+            exits: counts[3],
+            longest: counts[4],
+        },
+        tries: tries,
+    }
+}
+
+pub(crate) fn tuple_of(counts: Counts) -> [u64; 5]
+    ensures { λ r. ⌜ r ≡ tupleOf counts ⌝ }
+{
+    [
+        counts.accepted,
+        counts.refused,
+        counts.entries,
+        counts.exits,
+        counts.longest,
+    ]
+}
+
+pub(crate) fn answer_row(answer: Answer) -> [u64; 3]
+    ensures { λ r. ⌜ r ≡ answer .code ∷ answer .process ∷ answer .time ∷ [] ⌝ }
+{
+    [answer.code, answer.process, answer.time]
+}
