@@ -1,11 +1,13 @@
-//! Seeded recordings for `compare`: walks that follow the machine and hit its edges, damaged texts, long texts.
-//! The same seed and index always give the same recording.
+//! Seeded recordings for `compare`: walks that follow the machine and hit its edges, damaged texts, long texts; and lists of calls.
+//! The same seed and index always give the same recording, and the same list.
 
 mod damage;
 mod length;
+mod lists;
 mod random;
 mod walk;
 
+use crate::list::List;
 use random::Random;
 
 pub struct Generated {
@@ -22,4 +24,9 @@ pub fn generate(seed: u64, index: u64) -> Generated {
         5..=109 => walk::recording(&mut random, 5_200),
         _ => damage::damaged(&mut random),
     }
+}
+
+/// The list number `index` of a seed, of so many calls.
+pub fn generate_list(count: u64, seed: u64, index: u64) -> List {
+    lists::list(&mut Random::new(seed, index), count)
 }

@@ -3,6 +3,7 @@
 
 pub mod answer;
 pub mod generator;
+pub mod list;
 pub mod machine;
 pub mod recording;
 pub mod replay;

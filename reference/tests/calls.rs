@@ -2,7 +2,8 @@
 //! And, over generated recordings, what document 01 says of the summary and of writing what was read.
 
 use reference::answer::*;
-use reference::generator::generate;
+use reference::generator::{generate, generate_list};
+use reference::list;
 use reference::machine::*;
 use reference::recording::{read, read_into, write, TEXT_END};
 use reference::summary::{recorded_step, Summary};
@@ -157,5 +158,33 @@ fn what_was_read_is_written_again() {
         let answered = write(recording.values, &times, &windows, &acts, &mut output);
         assert_eq!(answered, answer(ACCEPTED, 0, text.len() as u64));
         assert_eq!(output[..text.len()], text);
+    }
+}
+
+#[test]
+fn a_list_is_read_as_it_was_written() {
+    for index in 0..50 {
+        let list = generate_list(30, 7, index);
+        assert_eq!(list::read(&list::text(&list)), Some(list));
+    }
+    assert_eq!(list::read("2,5,8,x\n"), None);
+    assert_eq!(list::read(""), None);
+}
+
+#[test]
+fn generated_lists_have_every_answer_of_a_recorded_step() {
+    let mut numbers = [0; 17];
+    for index in 0..200 {
+        let list = generate_list(40, 1, index);
+        let (_, mut table) = fresh(list.values);
+        for mut call in list.calls {
+            let answer;
+            (answer, table) = list::make(table, &mut call);
+            numbers[answer.number as usize] += 1;
+        }
+    }
+    assert_eq!(numbers[1], 0);
+    for number in [0, 2, 3, 4, 5, 6, 7, 8, 9, 10] {
+        assert!(numbers[number] > 0, "no answer {number}");
     }
 }

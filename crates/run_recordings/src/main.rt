@@ -2,6 +2,7 @@
 // what the reference prints. A file that cannot be opened or read is told on standard error.
 use libc::STDOUT_FILENO;
 use streams::kept;
+use streams::open_argument;
 use streams::print_report;
 use streams::read_text;
 
@@ -22,18 +23,13 @@ fn run(fd: i32, name: &[u8]) {
 
 fn open_and_run(place: usize) {
     let mut path = io::buffer();
-    let length = os::arg(place, &mut path);
-    if os::errno() != 0 {
-        os::fail(b"argument");
+    let opened = open_argument(place, &mut path);
+    let length = opened.length;
+    if opened.fd < 0 {
         return;
     }
-    let fd = os::open_read(&path[..length]);
-    if fd < 0 {
-        os::fail(&path[..length]);
-        return;
-    }
-    run(fd, &path[..length]);
-    libc::close(fd);
+    run(opened.fd, &path[..length]);
+    libc::close(opened.fd);
 }
 
 fn main() {

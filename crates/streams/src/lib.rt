@@ -1,4 +1,4 @@
-// What the programs over `report` share: reading a text to its end, and printing its report.
+// What the programs share: opening a file that an argument names, reading a text to its end, and printing its report.
 use libc::STDOUT_FILENO;
 ghost use mathlib.Core.Path.{_≡_};
 ghost use Prim.Native.Nat.{_≤_};
@@ -10,6 +10,34 @@ ghost use Rattle.model.specs.Reports.{reportText};
 pub struct Input {
     pub size: usize,
     pub is_whole: bool,
+}
+
+// A file that was opened, and how many bytes its path has; `fd` is negative where it could not be.
+pub struct Opened {
+    pub fd: i32,
+    pub length: usize,
+}
+
+// Opens the file that an argument of the program names, whose path is kept; a failure is told on standard error.
+pub fn open_argument(place: usize, path: &mut [u8]) -> Opened
+    ensures { λ r. ⌜ Counts (r .length) (now (path .exit)) ⌝ }
+{
+    let length = os::arg(place, path);
+    if os::errno() != 0 {
+        os::fail(b"argument");
+        return Opened {
+            fd: -1,
+            length: length,
+        };
+    }
+    let fd = os::open_read(&path[..length]);
+    if fd < 0 {
+        os::fail(&path[..length]);
+    }
+    Opened {
+        fd: fd,
+        length: length,
+    }
 }
 
 // One byte more than a recording may have: a longer input is refused by the bytes that are kept of it.

@@ -111,20 +111,16 @@ pub fn text(random: &mut Random, values: Values, mood: Mood, bytes: usize) -> Ve
     let mut walk = Walk { random, table, focus: mood.focus.min(values.n), pause: mood.pause };
     let mut text = head(values);
     if mood.start > 0 {
-        text += &walk.take(wait(mood.start));
+        text += &walk.take(Walk::wait(mood.start));
     }
     for _ in 0..mood.steps {
         if text.len() >= bytes {
             break;
         }
-        let step = if walk.random.chance(mood.wild) { walk.wild_step() } else { walk.likely_step() };
+        let step = walk.step(mood.wild);
         text += &walk.take(step);
     }
     text.into_bytes()
-}
-
-fn wait(time: u64) -> Step {
-    Step { time, window: 0, act: WAIT }
 }
 
 /// The act that leaves a place.
@@ -141,14 +137,28 @@ fn act_from(place: Place) -> u64 {
     }
 }
 
-struct Walk<'a> {
-    random: &'a mut Random,
-    table: Table,
-    focus: u64,
-    pause: u64,
+/// A walk at a table.
+pub struct Walk<'a> {
+    pub random: &'a mut Random,
+    pub table: Table,
+    pub focus: u64,
+    pub pause: u64,
 }
 
 impl Walk<'_> {
+    pub fn wait(time: u64) -> Step {
+        Step { time, window: 0, act: WAIT }
+    }
+
+    /// A step that is not a likely one that many times in a hundred.
+    pub fn step(&mut self, wild: u64) -> Step {
+        if self.random.chance(wild) {
+            self.wild_step()
+        } else {
+            self.likely_step()
+        }
+    }
+
     /// Makes the step and gives its line.
     fn take(&mut self, taken: Step) -> String {
         (_, self.table) = step(self.table, taken.act, taken.window, taken.time);
@@ -190,7 +200,7 @@ impl Walk<'_> {
     fn likely_step(&mut self) -> Step {
         let time = self.moment();
         if self.random.chance(6) {
-            return wait(time);
+            return Walk::wait(time);
         }
         let window = self.likely_window();
         match self.table.place(window) {
@@ -234,7 +244,7 @@ impl Walk<'_> {
             6 => Step { time: last + 1, window, act: natural },
             7 => Step { time: last + 1, window: self.any_window(), act },
             8 => Step { time: last + self.random.below(5), window, act },
-            9 => wait(last + 1),
+            9 => Walk::wait(last + 1),
             _ => self.far_step(window, act),
         }
     }

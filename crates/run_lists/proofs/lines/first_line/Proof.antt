@@ -1,0 +1,65 @@
+-- `lines::first_line` meets its contract. The invariant: the line so far lies within the text, and has no more fields than bytes.
+-- Assumes nothing.
+use Prim.Native.Nat.{_-_, _≤_}
+use native.Mathlib.Omega.{arith}
+use lib.ListN.{length}
+use borrow.Author.Needs.{needs}
+use Rattle.run_lists.proofs.lines.first_line.Statement.{statement}
+use Rattle.run_lists.proofs.lines.first_line.Tie as tie
+
+abbrev Inv-loop : tie.InvT-loop
+Inv-loop text line₀ field₀ i₀ line field i = (i ≤ length text) × (field ≤ i)
+
+abbrev μ-loop : tie.MeasureT-loop
+μ-loop text line₀ field₀ i₀ line field i = length text - i
+
+loop-holds : tie.Need-loop-holds Inv-loop μ-loop
+loop-holds c = omega arith
+
+shared-slice-read-byte : tie.Need-shared-slice-read-byte Inv-loop μ-loop
+shared-slice-read-byte c = search needs
+
+add-i : tie.Need-add-i Inv-loop μ-loop
+add-i c = search needs
+
+add-field : tie.Need-add-field Inv-loop μ-loop
+add-field c = search needs
+
+loop-less : tie.Need-loop-less Inv-loop μ-loop
+loop-less c = search needs
+
+loop-again : tie.Need-loop-again Inv-loop μ-loop
+loop-again c = search needs
+
+with-digit-requires : tie.Need-with-digit-requires Inv-loop μ-loop
+with-digit-requires c κs = search needs
+
+loop-less-2 : tie.Need-loop-less-2 Inv-loop μ-loop
+loop-less-2 c = search needs
+
+loop-again-2 : tie.Need-loop-again-2 Inv-loop μ-loop
+loop-again-2 c = search needs
+
+returns : tie.Need-returns Inv-loop μ-loop
+returns c = search needs
+
+returns-2 : tie.Need-returns-2 Inv-loop μ-loop
+returns-2 c = search needs
+
+pub first-line-spec : {M : Type 1} → statement M
+first-line-spec =
+    tie.close
+    (tie.spec
+    Inv-loop
+    μ-loop
+    loop-holds
+    shared-slice-read-byte
+    add-i
+    add-field
+    loop-less
+    loop-again
+    with-digit-requires
+    loop-less-2
+    loop-again-2
+    returns
+    returns-2)

@@ -1,0 +1,80 @@
+// What comes of a list of calls, printed: numbers between commas.
+use fischer::stages::since_of;
+use fischer::stages::stage_of;
+use libc::STDOUT_FILENO;
+use model::Process;
+use model::State;
+use model::Statistics;
+ghost use Prim.Native.Nat.{_≤_};
+
+pub(crate) fn print_line(text: &[u8]) {
+    io::write_all(STDOUT_FILENO, text);
+    io::write_all(STDOUT_FILENO, b"\n");
+}
+
+fn print_number(number: u64) {
+    io::write_all(STDOUT_FILENO, b",");
+    io::print_decimal(STDOUT_FILENO, number);
+}
+
+fn print_numbers(numbers: &[u64]) {
+    let mut i: usize = 0;
+    while i < numbers.len() {
+        print_number(numbers[i]);
+        i += 1;
+    }
+}
+
+pub(crate) fn print_answer(name: &[u8], answer: [u64; 3]) {
+    io::write_all(STDOUT_FILENO, name);
+    print_numbers(&answer);
+    io::write_all(STDOUT_FILENO, b"\n");
+}
+
+// How many processes are shown: those of the table that was asked for.
+fn shown_of(n: u64) -> usize
+    ensures { λ r. ⌜ r ≤ 96 ⌝ }
+{
+    if n < 96 { n as usize } else { 96 }
+}
+
+// The counts and the longest wait, and the try moments of the processes that are shown.
+pub(crate) fn print_summary(n: u64, counts: [u64; 5], tries: [u64; 96]) {
+    io::write_all(STDOUT_FILENO, b"summary");
+    print_numbers(&counts);
+    let count = shown_of(n);
+    print_numbers(&tries[..count]);
+    io::write_all(STDOUT_FILENO, b"\n");
+}
+
+pub(crate) fn print_statistics(n: u64, statistics: Statistics) {
+    let counts = statistics.counts;
+    let row = [
+        counts.accepted,
+        counts.refused,
+        counts.entries,
+        counts.exits,
+        counts.longest,
+    ];
+    let tries = statistics.tries;
+    print_summary(n, row, tries);
+}
+
+fn print_process(process: Process) {
+    let location = process.location;
+    print_number(stage_of(location));
+    print_number(since_of(location));
+}
+
+// The clock, the word, and place and arrival of the processes that are shown.
+pub(crate) fn print_state(n: u64, state: State) {
+    io::write_all(STDOUT_FILENO, b"table");
+    print_number(state.clock);
+    print_number(state.word);
+    for i in 0..96 {
+        if (i as u64) < n {
+            print_process(state.processes[i]);
+        }
+    }
+    io::write_all(STDOUT_FILENO, b"\n");
+}

@@ -1,0 +1,101 @@
+//! Lists of calls whose acts follow a table as a walk does, with summaries of every make: none, new, left by an earlier step, of
+//! another make, full or about to be, and not sound in each of the ways there are.
+
+use super::random::Random;
+use super::walk::{small_values, Walk};
+use crate::answer::{NO_SUMMARY, SUMMARY_FULL};
+use crate::list::*;
+use crate::machine::*;
+use crate::recording::Step;
+use crate::summary::Summary;
+
+/// The greatest sum of accepted and refused acts, and the greatest longest wait.
+const SUMMARY_END: u64 = 1_000_000_000_000;
+
+/// A list of so many calls.
+pub fn list(random: &mut Random, count: u64) -> List {
+    let values = match random.below(4) {
+        0 => small_values(random, 1, 2),
+        1 => small_values(random, 90, 96),
+        _ => small_values(random, 2, 6),
+    };
+    let start = if random.chance(15) { CLOCK_END - random.below(60) } else { 0 };
+    let wild = random.pick(&[2, 10, 40]);
+    let (_, mut table) = fresh(values);
+    let mut left = Summary::new();
+    let mut calls = Vec::new();
+    for place in 0..count {
+        let mut walk = Walk { random, table, focus: values.n.min(4), pause: 3 };
+        let mut step = if place == 0 { Walk::wait(start) } else { walk.step(wild) };
+        if random.chance(3) {
+            exceed(random, &mut step);
+        }
+        let (recorded, summary) = lent(random, table.clock, &left, wild);
+        let mut call = Call { recorded, act: step.act, window: step.window, moment: step.time, summary };
+        calls.push(call.clone());
+        let answer;
+        (answer, table) = make(table, &mut call);
+        if recorded && !matches!(answer.number, NO_SUMMARY | SUMMARY_FULL) {
+            left = call.summary;
+        }
+    }
+    List { values, calls }
+}
+
+/// A number that no step of a recording can have.
+fn exceed(random: &mut Random, step: &mut Step) {
+    match random.below(3) {
+        0 => step.act = random.pick(&[9, 255, u64::MAX]),
+        1 => step.window = u64::MAX,
+        _ => step.time = u64::MAX,
+    }
+}
+
+/// Whether a summary is lent, and which. A step without one has it beside it all the same now and then, and must leave it.
+fn lent(random: &mut Random, clock: u64, left: &Summary, wild: u64) -> (bool, Summary) {
+    if random.chance(wild) {
+        return (!random.chance(10), unsound_or_full(random, clock));
+    }
+    match random.below(8) {
+        0 | 1 => (false, Summary::new()),
+        2 => (false, foreign(random, clock)),
+        3 => (true, Summary::new()),
+        4 => (true, foreign(random, clock)),
+        _ => (true, left.clone()),
+    }
+}
+
+/// A sound one with any counts.
+fn foreign(random: &mut Random, clock: u64) -> Summary {
+    let most = random.pick(&[0, 3, 1_000, SUMMARY_END / 2]);
+    let accepted = random.between(0, most);
+    let entries = random.between(0, accepted);
+    let mut summary = Summary {
+        accepted,
+        refused: random.below(SUMMARY_END / 2),
+        entries,
+        exits: random.between(0, accepted - entries),
+        longest_wait: random.pick(&[0, 1, 40, SUMMARY_END]),
+        ..Summary::new()
+    };
+    for window in 0..random.index(WINDOWS + 1) {
+        summary.try_moments[window] = random.between(0, clock);
+    }
+    summary
+}
+
+/// One that is full, that one more act makes full, or that is not sound in one way.
+fn unsound_or_full(random: &mut Random, clock: u64) -> Summary {
+    let mut summary = foreign(random, clock);
+    match random.below(9) {
+        0 | 1 => summary.refused = SUMMARY_END - summary.accepted,
+        2 => summary.refused = SUMMARY_END - summary.accepted - 1,
+        3 => summary.refused = SUMMARY_END - summary.accepted + 1,
+        4 => summary.refused = u64::MAX - random.between(0, summary.accepted),
+        5 => summary.exits = summary.accepted - summary.entries + 1,
+        6 => summary.exits = u64::MAX - random.between(0, summary.entries),
+        7 => summary.longest_wait = random.pick(&[SUMMARY_END + 1, u64::MAX]),
+        _ => summary.try_moments[random.index(WINDOWS)] = random.pick(&[clock + 1, u64::MAX]),
+    }
+    summary
+}

@@ -1,0 +1,154 @@
+//! A list of calls, as text, and what comes of it: document 01, "The lists of demand 3" and "The running summary".
+//! Line 1 has n, a, b, c. Each further line is a call: 1 with a summary or 0 without, act, window, moment, then the summary that is
+//! lent: its four counts, the longest wait and the try moments. What a line leaves out at its end is 0.
+
+use crate::answer::Answer;
+use crate::machine::*;
+use crate::summary::*;
+
+#[derive(Clone, Debug, PartialEq, Eq)]
+pub struct Call {
+    pub recorded: bool,
+    pub act: u64,
+    pub window: u64,
+    pub moment: u64,
+    pub summary: Summary,
+}
+
+#[derive(Clone, Debug, PartialEq, Eq)]
+pub struct List {
+    pub values: Values,
+    pub calls: Vec<Call>,
+}
+
+/// Makes one call; the summary is as the call leaves it.
+pub fn make(table: Table, call: &mut Call) -> (Answer, Table) {
+    if call.recorded {
+        recorded_step(table, &mut call.summary, call.act, call.window, call.moment)
+    } else {
+        step(table, call.act, call.window, call.moment)
+    }
+}
+
+// The list as text
+
+pub fn text(list: &List) -> String {
+    let Values { n, a, b, c } = list.values;
+    let calls = list.calls.iter().map(call_line);
+    [joined(&[n, a, b, c])].into_iter().chain(calls).map(|line| line + "\n").collect()
+}
+
+fn call_line(call: &Call) -> String {
+    let mut numbers = vec![call.recorded as u64, call.act, call.window, call.moment];
+    if call.summary != Summary::new() {
+        numbers.extend(summary_numbers(&call.summary));
+    }
+    joined(&numbers)
+}
+
+/// The try moments up to the last that is not 0.
+fn summary_numbers(summary: &Summary) -> Vec<u64> {
+    let tried = summary.try_moments.iter().rposition(|&moment| moment != 0).map_or(0, |last| last + 1);
+    [&counts(summary), &summary.try_moments[..tried]].concat()
+}
+
+fn counts(summary: &Summary) -> [u64; 5] {
+    [summary.accepted, summary.refused, summary.entries, summary.exits, summary.longest_wait]
+}
+
+fn joined(numbers: &[u64]) -> String {
+    numbers.iter().map(u64::to_string).collect::<Vec<_>>().join(",")
+}
+
+/// The list of a text, if it is one.
+pub fn read(text: &str) -> Option<List> {
+    let mut lines = text.lines().map(numbers);
+    let first = lines.next()??;
+    let values = Values { n: first[0], a: first[1], b: first[2], c: first[3] };
+    Some(List { values, calls: lines.map(|line| Some(call(&line?))).collect::<Option<_>>()? })
+}
+
+/// The numbers of a line: four of the call, five of the summary, the try moments.
+type Numbers = [u64; 9 + WINDOWS];
+
+fn numbers(line: &str) -> Option<Numbers> {
+    let mut numbers = [0; 9 + WINDOWS];
+    for (place, word) in line.split(',').enumerate() {
+        *numbers.get_mut(place)? = word.parse().ok()?;
+    }
+    Some(numbers)
+}
+
+fn call(line: &Numbers) -> Call {
+    let mut summary = Summary {
+        accepted: line[4],
+        refused: line[5],
+        entries: line[6],
+        exits: line[7],
+        longest_wait: line[8],
+        ..Summary::new()
+    };
+    summary.try_moments.copy_from_slice(&line[9..]);
+    Call { recorded: line[0] != 0, act: line[1], window: line[2], moment: line[3], summary }
+}
+
+// What comes of it
+
+/// What comes of the list, beside what comes of the same acts with one summary, new at the start and lent to every step: of each
+/// call both answers and the summary that it leaves, then the last table; and then the one summary and its last table.
+pub fn outcome(list: &List) -> String {
+    let (answer, mut table) = fresh(list.values);
+    let (mut one, mut one_table) = (Summary::new(), table);
+    let mut lines = answer_line("fresh", answer);
+    for call in &list.calls {
+        let mut call = call.clone();
+        let (answer, one_answer);
+        (answer, table) = make(table, &mut call);
+        (one_answer, one_table) = recorded_step(one_table, &mut one, call.act, call.window, call.moment);
+        lines += &answer_line("call", answer);
+        lines += &answer_line("one", one_answer);
+        lines += &summary_line(list.values.n, &call.summary);
+    }
+    lines += &table_line(list.values.n, &table);
+    lines += &summary_line(list.values.n, &one);
+    lines + &table_line(list.values.n, &one_table)
+}
+
+fn answer_line(name: &str, answer: Answer) -> String {
+    line(name, &[answer.number, answer.window, answer.moment])
+}
+
+/// The four counts, the longest wait, and the try moments of the windows 1 to n.
+fn summary_line(n: u64, summary: &Summary) -> String {
+    line("summary", &[&counts(summary), &summary.try_moments[..shown(n)]].concat())
+}
+
+/// The clock, the word, and place and arrival of the windows 1 to n.
+fn table_line(n: u64, table: &Table) -> String {
+    let places = table.places[..shown(n)].iter();
+    let numbers = places.flat_map(|&place| [number_of(place), place.arrival().unwrap_or(0)]);
+    line("table", &[table.clock, table.word].into_iter().chain(numbers).collect::<Vec<u64>>())
+}
+
+/// How many windows are shown of a table that was asked for with that n.
+fn shown(n: u64) -> usize {
+    n.min(WINDOWS as u64) as usize
+}
+
+fn line(name: &str, numbers: &[u64]) -> String {
+    format!("{name},{}\n", joined(numbers))
+}
+
+/// The places in the paper's order.
+fn number_of(place: Place) -> u64 {
+    match place {
+        Place::Remainder => 0,
+        Place::Testing(_) => 1,
+        Place::Setting(_) => 2,
+        Place::Checking(_) => 3,
+        Place::Entering(_) => 4,
+        Place::Selling => 5,
+        Place::Resetting(_) => 6,
+        Place::Leaving(_) => 7,
+    }
+}
