@@ -2,7 +2,7 @@
 //! The reader checks the whole text before it stores a step: 16 comes last, and a refusal leaves the lists alone.
 
 use crate::answer::*;
-use crate::machine::Values;
+use crate::machine::{Values, WAIT};
 
 /// The longest text, in bytes.
 pub const TEXT_END: usize = 65_536;
@@ -23,6 +23,12 @@ pub struct Step {
     pub time: u64,
     pub window: u64,
     pub act: u64,
+}
+
+impl Step {
+    pub fn wait(time: u64) -> Step {
+        Step { time, window: 0, act: WAIT }
+    }
 }
 
 #[derive(Clone, Debug, PartialEq, Eq)]

@@ -5,7 +5,7 @@ use crate::answer::*;
 use crate::machine::*;
 
 /// The greatest sum of accepted and refused acts, and the greatest longest wait.
-const SUMMARY_END: u64 = 1_000_000_000_000;
+pub const SUMMARY_END: u64 = 1_000_000_000_000;
 
 #[derive(Clone, Debug, PartialEq, Eq)]
 pub struct Summary {

@@ -172,10 +172,11 @@ fn a_list_is_read_as_it_was_written() {
 }
 
 #[test]
-fn generated_lists_have_every_answer_of_a_recorded_step() {
+fn the_stored_lists_have_every_answer_of_a_recorded_step() {
     let mut numbers = [0; 17];
-    for index in 0..200 {
-        let list = generate_list(40, 1, index);
+    // those of `store_outputs`
+    for index in 0..10 {
+        let list = generate_list(48, 1, index);
         let (_, mut table) = fresh(list.values);
         for mut call in list.calls {
             let answer;

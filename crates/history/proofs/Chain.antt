@@ -1,4 +1,4 @@
--- Demand 3 where no code makes the list. A chain has for each call a result that the contract of the function called allows, as the
+-- Demand 3, and the tally, where no code makes the list. A chain has for each call a result that the contract of the function called allows, as the
 -- checker reads the contract off the source, each on the table that the result before it holds. Its results are those of the plain
 -- table, so demand 3 holds of it. Assumes nothing.
 use Prim.Native.Nat.{ℕ}
@@ -15,13 +15,20 @@ use Rattle.model.specs.declared.State.{State}
 use Rattle.model.specs.declared.Outcome.{Outcome}
 use Rattle.model.specs.declared.Statistics.{Statistics}
 use Rattle.model.specs.declared.Recorded.{Recorded}
+use Rattle.model.specs.Answers.{freshOf}
 use Rattle.model.specs.Facts.{Accepted}
+use Rattle.model.specs.Texts.{Event}
+use Rattle.model.specs.Summaries.{newStatistics, beside}
+use Rattle.model.specs.Tallies.{Attempt}
 use Rattle.model.specs.Calls.{Call, callOf, tableOf, runOf, resultsOf}
 use Rattle.model.proofs.Tests.{by-test}
 use Rattle.theory.specs.Demand3.{Demand3}
+use Rattle.theory.specs.Tallies.{recordNext, recordAll, attemptOf, logFrom, Tallied, startOf}
 use Rattle.theory.proofs.Demand3.{every-list}
+use Rattle.theory.proofs.Tallies.{every-tally}
 use Rattle.fischer.proofs.fresh.Reads as fresh-reads
 use Rattle.fischer.proofs.step.Reads as step-reads
+use Rattle.statistics.proofs.record.Reads as record-reads
 use Rattle.statistics.proofs.record_step as record-step
 
 -- What the contracts allow
@@ -31,6 +38,9 @@ Starts n a b c o = fresh-reads.Post tt (n, (a, (b, (c, tt)))) o (n, (a, (b, (c, 
 
 abbrev pub Steps : State → ℕ → ℕ → ℕ → Outcome → Type 0
 Steps s a p t o = step-reads.Post tt (s, (a, (p, (t, tt)))) o (s, (a, (p, (t, tt))))
+
+abbrev pub RecordsByValue : State → Statistics → ℕ → ℕ → ℕ → Recorded → Type 0
+RecordsByValue s x a p t r = record-reads.Post tt (s, (x, (a, (p, (t, tt))))) r (s, (x, (a, (p, (t, tt)))))
 
 -- `record_step` takes a reference to a struct, and of such a function the checker makes no reading: its clause is read here, by the
 -- law that the checker's readings use. `lent` is the reference at entry, and `left` at exit.
@@ -60,6 +70,7 @@ pub record Records (s : State) (x : Statistics) (a p t : ℕ) (r : Recorded) : T
 -- a result of one call
 pub data Made (s : State) (d : Call) (r : Recorded) : Type 0 where
   by-step : d .recorded ≡ false → Steps s (d .action) (d .process) (d .time) (r .outcome) → r .statistics ≡ d .lent → Made s d r
+  by-value : d .recorded ≡ true → RecordsByValue s (d .lent) (d .action) (d .process) (d .time) r → Made s d r
   by-record : d .recorded ≡ true → Records s (d .lent) (d .action) (d .process) (d .time) r → Made s d r
 
 pub data Chain : State → List Call → List Recorded → Type 0 where
@@ -77,6 +88,7 @@ lastTable s (r ∷ rs) = lastTable (r .outcome .state) rs
 call-made : {s : State} {d : Call} {r : Recorded} → Made s d r → r ≡ callOf s d
 unfolding callOf
 call-made (by-step k h e) = rw k (λ i. record { outcome = h i; statistics = e i })
+call-made (by-value k h) = rw k h
 call-made (by-record k h) = rw k (rw (h .entry, h .exit) at (h .allowed))
 
 chain-results : {s : State} {ds : List Call} {rs : List Recorded} → Chain s ds rs → rs ≡ resultsOf s ds
@@ -92,11 +104,13 @@ chain-last ended = refl
 chain-last (made {ds = ds} m ch) = chain-last ch ∙ ap (λ (q : Recorded). runOf (q .outcome .state) ds) (call-made m)
 
 pub every-chain : (n a b c : ℕ) {o : Outcome} {ds : List Call} {rs : List Recorded} → Starts n a b c o → Accepted o → Chain (o .state) ds rs
-    → Demand3 (o .state) ds rs (lastTable (o .state) rs)
+    → Demand3 (freshOf n a b c .state) ds rs (lastTable (o .state) rs)
 every-chain n a b c {o} {ds} {rs} h accepted ch =
-    let plain : Demand3 (o .state) ds (resultsOf (o .state) ds) (runOf (o .state) ds) = rw h (every-list n a b c (rw h at accepted) ds) in
-    subst (λ (q : List Recorded). Demand3 (o .state) ds q (lastTable (o .state) rs)) (sym (chain-results ch))
-    (subst (Demand3 (o .state) ds (resultsOf (o .state) ds)) (sym (chain-last ch)) plain)
+    let s : State = freshOf n a b c .state in
+    let results : rs ≡ resultsOf s ds = chain-results ch ∙ ap (λ (q : Outcome). resultsOf (q .state) ds) h in
+    let last : lastTable (o .state) rs ≡ runOf s ds = chain-last ch ∙ ap (λ (q : Outcome). runOf (q .state) ds) h in
+    subst (λ (q : List Recorded). Demand3 s ds q (lastTable (o .state) rs)) (sym results)
+    (subst (Demand3 s ds (resultsOf s ds)) (sym last) (every-list n a b c (rw h at accepted) ds))
 
 -- The premise is not an empty one: every list has a chain
 
@@ -117,3 +131,49 @@ pub some-chain : (s : State) (ds : List Call) → Chain s ds (resultsOf s ds)
 unfolding resultsOf
 some-chain s [] = ended
 some-chain s (d ∷ ds) = made (callable s d) (some-chain (tableOf s d) ds)
+
+-- The tally of a chain of recorded steps, each lent the summary that the result before it left
+
+abbrev pub callOn : Recorded → Event → Call
+callOn r e = record { recorded = true; action = e .action; process = e .process; time = e .time; lent = r .statistics }
+
+pub data RecordedChain : Recorded → List Event → List Recorded → Type 0 where
+  ended : {r : Recorded} → RecordedChain r [] []
+  made : {r t : Recorded} {e : Event} {es : List Event} {rs : List Recorded} → Made (r .outcome .state) (callOn r e) t
+      → RecordedChain t es rs → RecordedChain r (e ∷ es) (t ∷ rs)
+
+abbrev pub lastResult : Recorded → List Recorded → Recorded
+lastResult r [] = r
+lastResult r (t ∷ rs) = lastResult t rs
+
+-- the acts with the answers to them, the last one first
+abbrev pub logOver : List Attempt → List Event → List Recorded → List Attempt
+logOver log [] rs = log
+logOver log (e ∷ es) [] = log
+logOver log (e ∷ es) (r ∷ rs) = logOver (attemptOf e r ∷ log) es rs
+
+next-made : (r : Recorded) (e : Event) {t : Recorded} → Made (r .outcome .state) (callOn r e) t → t ≡ recordNext r e
+unfolding callOf
+next-made r e m = call-made m
+
+recorded-last : {r : Recorded} {es : List Event} {rs : List Recorded} → RecordedChain r es rs → lastResult r rs ≡ recordAll r es
+unfolding recordAll
+recorded-last ended = refl
+recorded-last (made {r = r} {e = e} {es = es} m ch) = recorded-last ch ∙ ap (λ (q : Recorded). recordAll q es) (next-made r e m)
+
+recorded-log : (log : List Attempt) {r : Recorded} {es : List Event} {rs : List Recorded} → RecordedChain r es rs
+    → logOver log es rs ≡ logFrom log r es
+unfolding logFrom
+recorded-log log ended = refl
+recorded-log log (made {r = r} {e = e} {es = es} m ch) =
+    recorded-log _ ch ∙ ap (λ (q : Recorded). logFrom (attemptOf e q ∷ log) q es) (next-made r e m)
+
+pub every-recorded-chain : (n a b c : ℕ) {o : Outcome} {es : List Event} {rs : List Recorded} → Starts n a b c o → Accepted o
+    → RecordedChain (beside newStatistics o) es rs → Tallied (logOver [] es rs) (lastResult (beside newStatistics o) rs)
+every-recorded-chain n a b c {o} {es} {rs} h accepted ch =
+    let last : lastResult (beside newStatistics o) rs ≡ recordAll (startOf n a b c) es =
+    recorded-last ch ∙ ap (λ (q : Outcome). recordAll (beside newStatistics q) es) h in
+    let log : logOver [] es rs ≡ logFrom [] (startOf n a b c) es =
+    recorded-log [] ch ∙ ap (λ (q : Outcome). logFrom [] (beside newStatistics q) es) h in
+    subst (λ (q : Recorded). Tallied (logOver [] es rs) q) (sym last)
+    (subst (λ (l : List Attempt). Tallied l (recordAll (startOf n a b c) es)) (sym log) (every-tally n a b c (rw h at accepted) es))

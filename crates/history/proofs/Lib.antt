@@ -1,4 +1,4 @@
 pub mod Runs
 pub mod Turns
-pub mod Threading
+pub mod RecordedTurns
 pub mod Chain

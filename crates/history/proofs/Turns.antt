@@ -11,12 +11,12 @@ use Rattle.model.specs.declared.State.{State}
 use Rattle.model.specs.declared.Outcome.{Outcome}
 use Rattle.model.specs.declared.Statistics.{Statistics}
 use Rattle.model.specs.declared.Recorded.{Recorded}
+use Rattle.model.specs.Readings.{over}
 use Rattle.model.specs.Answers.{freshOf}
-use Rattle.model.specs.Facts.{Accepted}
 use Rattle.model.specs.Calls.{Call, callOf, tableOf, runOf, resultsOf}
-use Rattle.history.specs.Lists.{Tuple, summaryIn, callIn, Rows, rows, callsIn, callsOf, over}
-use Rattle.history.specs.Lists.{countsRow, triesRow, answerRow, overwritten, Run, runGave, ending, ranFrom, ranOf, Ran}
-use Rattle.history.specs.Lists.{resultAt, stored, Turn, turnGave, turnOf}
+use Rattle.history.specs.Lists.{Tuple, summaryIn, callIn, Rows, rows, callsIn, callsOf}
+use Rattle.history.specs.Lists.{countsRow, triesRow, answerRow, overwritten, Run, runGave, ending, ranFrom, ranOf, MeetsDemand3}
+use Rattle.history.specs.Lists.{callAt, resultAt, stored, Turn, turnGave, turnOf}
 use Rattle.theory.proofs.Demand3.{every-list}
 use Rattle.history.proofs.Runs.{run-snoc, results-snoc, length-results}
 
@@ -49,9 +49,6 @@ pub record Inside (i : ℕ) (calls : List Tuple) (l : Rows) : Type 0 where
   pub in-counts : i < length (l .counts)
   pub in-tries : i < length (l .tries)
   pub in-answers : i < length (l .answers)
-
-abbrev pub callAt : List Tuple → Rows → ℕ → Call
-callAt calls l i = callIn (getD calls i []) (summaryIn (getD (l .counts) i []) (getD (l .tries) i []))
 
 length-calls-in : (rs cs ts : List Tuple) → length (callsIn rs cs ts) ≡ min (length rs) (min (length cs) (length ts))
 unfolding callsIn
@@ -185,8 +182,8 @@ ends {o = o} {calls = calls} {l = l} {t = t} {i = i} e g h =
 
 -- Demand 3, which holds of every list, of what the loop leaves
 
-pub ran-demand3 : (n a b c : ℕ) (calls : List Tuple) (l : Rows) {r : Run} → r ≡ ranOf n a b c calls l → Accepted (freshOf n a b c)
-    → Ran (freshOf n a b c .state) (callsOf calls l) l (r .kept) (r .outcome .state)
+pub ran-demand3 : (n a b c : ℕ) (calls : List Tuple) (l : Rows) {r : Run} → r ≡ ranOf n a b c calls l
+    → MeetsDemand3 n a b c calls l (r .kept) (r .outcome .state)
 unfolding ranOf
 ran-demand3 n a b c calls l e accepted = record {
   results = resultsOf (freshOf n a b c .state) (callsOf calls l);

@@ -1,2 +1,2 @@
 pub mod Lists
-pub mod Threads
+pub mod RecordedRuns

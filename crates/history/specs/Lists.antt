@@ -3,15 +3,17 @@
 use Prim.Native.Nat.{ℕ}
 use mathlib.Core.Path.{_≡_}
 use mathlib.Core.Bool.{not}
-use mathlib.Core.List.{List, [], _∷_, _++_, map}
+use mathlib.Core.List.{List, [], _∷_, map}
 use lib.Dec.{eqb}
-use lib.ListN.{length, getD, set, take, drop}
+use lib.ListN.{length, getD, set, take}
 use Rattle.model.specs.declared.State.{State}
 use Rattle.model.specs.declared.Outcome.{Outcome}
 use Rattle.model.specs.declared.Counts.{Counts}
 use Rattle.model.specs.declared.Statistics.{Statistics}
 use Rattle.model.specs.declared.Recorded.{Recorded}
+use Rattle.model.specs.Readings.{over}
 use Rattle.model.specs.Answers.{freshOf}
+use Rattle.model.specs.Facts.{Accepted}
 use Rattle.model.specs.Summaries.{countsOf, statisticsOf}
 use Rattle.model.specs.Calls.{Call, callOf, runOf, resultsOf}
 use Rattle.theory.specs.Demand3.{Demand3}
@@ -59,10 +61,6 @@ callsIn (r ∷ rs) (c ∷ cs) (t ∷ ts) = callIn r (summaryIn c t) ∷ callsIn 
 abbrev pub callsOf : List Tuple → Rows → List Call
 callsOf calls l = take (length (l .answers)) (callsIn calls (l .counts) (l .tries))
 
--- the first list, written over the front of the second
-abbrev pub over : List Tuple → List Tuple → List Tuple
-over xs l = xs ++ drop (length xs) l
-
 -- the rows of a call after it
 abbrev pub countsRow : Recorded → Tuple
 countsRow r = tupleOf (r .statistics .counts)
@@ -104,11 +102,18 @@ pub record Ran (s : State) (ds : List Call) (l l′ : Rows) (t : State) : Type 0
   pub written : l′ ≡ overwritten results l
   pub demand3 : Demand3 s ds results t
 
+-- "A list starts from a fresh table answered with 0"
+abbrev pub MeetsDemand3 : ℕ → ℕ → ℕ → ℕ → List Tuple → Rows → Rows → State → Type 0
+MeetsDemand3 n a b c calls l l′ t =
+    Accepted (freshOf n a b c) → Ran (freshOf n a b c .state) (callsOf calls l) l l′ t
+
 -- One turn of the loop: the call in row i
 
+abbrev pub callAt : List Tuple → Rows → ℕ → Call
+callAt calls l i = callIn (getD calls i []) (summaryIn (getD (l .counts) i []) (getD (l .tries) i []))
+
 abbrev pub resultAt : State → List Tuple → Rows → ℕ → Recorded
-resultAt s calls l i =
-    callOf s (callIn (getD calls i []) (summaryIn (getD (l .counts) i []) (getD (l .tries) i [])))
+resultAt s calls l i = callOf s (callAt calls l i)
 
 abbrev pub stored : Rows → ℕ → Recorded → Rows
 stored l i r = rows (set (l .counts) i (countsRow r)) (set (l .tries) i (triesRow r)) (set (l .answers) i (answerRow r))

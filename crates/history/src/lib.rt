@@ -1,7 +1,7 @@
 // Whole lists of calls, each of which gets the state that the call before it gave back. The calls are rows of numbers, in slices of
 // arrays, so that a caller can lend any list; the shortest slice sets their number.
 mod lend;
-mod rows;
+pub mod rows;
 
 use crate::lend::lent_step;
 use crate::rows::answer_row;
@@ -13,7 +13,7 @@ use model::Outcome;
 use model::Recorded;
 use model::State;
 use model::Statistics;
-use statistics::unused_statistics;
+use statistics::new_statistics;
 ghost use mathlib.Core.Path.{_≡_};
 ghost use Prim.Native.Nat.{_<_, min};
 ghost use lib.ListN.{length};
@@ -21,8 +21,8 @@ ghost use Rattle.model.specs.Answers.{freshOf};
 ghost use Rattle.model.specs.Facts.{Accepted};
 ghost use Rattle.model.specs.Calls.{callOf};
 ghost use Rattle.theory.specs.Tallies.{Tallied};
-ghost use Rattle.history.specs.Lists.{callIn, rows, callsOf, runGave, ranOf, Ran, turnGave, turnOf};
-ghost use Rattle.history.specs.Threads.{logOf, threadGave, threadOf, recordAt};
+ghost use Rattle.history.specs.Lists.{callIn, rows, runGave, ranOf, MeetsDemand3, turnGave, turnOf};
+ghost use Rattle.history.specs.RecordedRuns.{logOf, recordedRunGave, recordedRunOf, recordAt};
 
 fn least(a: usize, b: usize) -> usize
     ensures { λ r. ⌜ r ≡ min a b ⌝ }
@@ -65,8 +65,8 @@ fn make_turn(
     let left_counts = tuple_of(left.counts);
     counts[i] = left_counts;
     tries[i] = left_tries;
-    let told = answer_row(answer);
-    answers[i] = told;
+    let row = answer_row(answer);
+    answers[i] = row;
     let next = outcome.state;
     next
 }
@@ -84,7 +84,7 @@ pub fn run(
     answers: &mut [[u64; 3]],
 ) -> Outcome
     ensures equals { λ r. ⌜ runGave r (rows (now (counts .exit)) (now (tries .exit)) (now (answers .exit))) ≡ ranOf n a b c (now (calls .entry)) (rows (now (counts .entry)) (now (tries .entry)) (now (answers .entry))) ⌝ }
-    ensures demand3 { λ r. ⌜ (Accepted (freshOf n a b c) → Ran (freshOf n a b c .state) (callsOf (now (calls .entry)) (rows (now (counts .entry)) (now (tries .entry)) (now (answers .entry)))) (rows (now (counts .entry)) (now (tries .entry)) (now (answers .entry))) (rows (now (counts .exit)) (now (tries .exit)) (now (answers .exit))) (r .state)) ⌝ }
+    ensures demand3 { λ r. ⌜ MeetsDemand3 n a b c (now (calls .entry)) (rows (now (counts .entry)) (now (tries .entry)) (now (answers .entry))) (rows (now (counts .exit)) (now (tries .exit)) (now (answers .exit))) (r .state) ⌝ }
 {
     let start = fresh(n, a, b, c);
     let answer = start.answer;
@@ -107,7 +107,7 @@ pub fn run(
 // The recorded step in row i, with the state and the summary that the one before it left.
 fn record_turn(last: Recorded, acts: &[[u64; 3]], answers: &mut [[u64; 3]], i: usize) -> Recorded
     requires { ⌜ (i < length (now acts)) × (i < length (now answers)) ⌝ }
-    ensures { λ r. ⌜ threadGave r (now (answers .exit)) ≡ recordAt last (now (acts .entry)) (now (answers .entry)) i ⌝ }
+    ensures { λ r. ⌜ recordedRunGave r (now (answers .exit)) ≡ recordAt last (now (acts .entry)) (now (answers .entry)) i ⌝ }
 {
     let act = acts[i];
     let before = last.outcome;
@@ -116,8 +116,8 @@ fn record_turn(last: Recorded, acts: &[[u64; 3]], answers: &mut [[u64; 3]], i: u
     let made = lent_step(state, summary, act[0], act[1], act[2]);
     let outcome = made.outcome;
     let answer = outcome.answer;
-    let told = answer_row(answer);
-    answers[i] = told;
+    let row = answer_row(answer);
+    answers[i] = row;
     made
 }
 
@@ -131,14 +131,14 @@ pub fn run_recorded(
     acts: &[[u64; 3]],
     answers: &mut [[u64; 3]],
 ) -> Recorded
-    ensures equals { λ r. ⌜ threadGave r (now (answers .exit)) ≡ threadOf n a b c (now (acts .entry)) (now (answers .entry)) ⌝ }
+    ensures equals { λ r. ⌜ recordedRunGave r (now (answers .exit)) ≡ recordedRunOf n a b c (now (acts .entry)) (now (answers .entry)) ⌝ }
     ensures tallied { λ r. ⌜ (Accepted (freshOf n a b c) → Tallied (logOf (now (acts .entry)) (now (answers .exit))) r) ⌝ }
 {
     let start = fresh(n, a, b, c);
     let answer = start.answer;
     let mut last = Recorded {
         outcome: start,
-        statistics: unused_statistics(),
+        statistics: new_statistics(),
     };
     let count = least(acts.len(), answers.len());
     let mut i: usize = 0;

@@ -6,7 +6,7 @@ ghost use mathlib.Core.Path.{_≡_};
 ghost use mathlib.Core.List.{[], _∷_};
 ghost use Rattle.history.specs.Lists.{summaryIn, tupleOf};
 
-pub(crate) fn summary_in(counts: [u64; 5], tries: [u64; 96]) -> Statistics
+pub fn summary_in(counts: [u64; 5], tries: [u64; 96]) -> Statistics
     ensures { λ r. ⌜ r ≡ summaryIn counts tries ⌝ }
 {
     Statistics {
@@ -21,7 +21,7 @@ pub(crate) fn summary_in(counts: [u64; 5], tries: [u64; 96]) -> Statistics
     }
 }
 
-pub(crate) fn tuple_of(counts: Counts) -> [u64; 5]
+pub fn tuple_of(counts: Counts) -> [u64; 5]
     ensures { λ r. ⌜ r ≡ tupleOf counts ⌝ }
 {
     [
@@ -33,7 +33,7 @@ pub(crate) fn tuple_of(counts: Counts) -> [u64; 5]
     ]
 }
 
-pub(crate) fn answer_row(answer: Answer) -> [u64; 3]
+pub fn answer_row(answer: Answer) -> [u64; 3]
     ensures { λ r. ⌜ r ≡ answer .code ∷ answer .process ∷ answer .time ∷ [] ⌝ }
 {
     [answer.code, answer.process, answer.time]

@@ -145,7 +145,7 @@ abbrev pub room : Lists → ℕ
 room l = min (length (l .times)) (min (length (l .processes)) (length (l .actions)))
 
 -- "Places past the last step keep what they held."
-abbrev pub over : List ℕ → List ℕ → List ℕ
+abbrev pub over : {A : Type 0} → List A → List A → List A
 over values list = values ++ drop (length values) list
 
 abbrev pub timesOf : List Event → List ℕ

@@ -100,7 +100,14 @@ late s m i q = bounded s q && ltb (deadline s i q) m
 
 -- "A window is trying in testing, setting, checking or entering."
 abbrev pub trying : Location → Bool
-trying l = leb testing (stageOf l) && leb (stageOf l) entering
+trying Remainder = false
+trying (Testing t) = true
+trying (Setting t) = true
+trying (Checking t) = true
+trying (Entering t) = true
+trying Critical = false
+trying (Resetting t) = false
+trying (Leaving t) = false
 
 -- Soundness: "A table is sound when the ranges above hold, entries above n are in remainder,
 -- and for each timed place arrival ≤ clock ≤ latest moment. Soundness looks at nothing else"

@@ -28,8 +28,8 @@ abbrev pub statisticsOf : Counts → List ℕ → Statistics
 statisticsOf k tries = record { counts = k; tries = tries }
 
 -- "A new one is all zeros."
-abbrev pub unused : Statistics
-unused = statisticsOf (countsOf 0 0 0 0 0) (replicate 96 0)
+abbrev pub newStatistics : Statistics
+newStatistics = statisticsOf (countsOf 0 0 0 0 0) (replicate 96 0)
 
 -- Soundness: "It is sound when accepted + refused ≤ 1,000,000,000,000, entries + exits ≤ accepted, the longest wait is at most
 -- 1,000,000,000,000 and each try moment is at most the clock." The sums are those of numbers without an end: none wraps.
@@ -50,8 +50,8 @@ unfoldable pub statisticsSound : ℕ → Statistics → Bool
 statisticsSound clock x = countsSound (x .counts) && triesSound clock (x .tries)
 
 -- | 3, -, - | accepted + refused = 1,000,000,000,000 |
-abbrev pub full : Statistics → Bool
-full x = eqb (x .counts .accepted + x .counts .refused) mostActs
+abbrev pub full : Counts → Bool
+full k = eqb (k .accepted + k .refused) mostActs
 
 -- Counting
 
@@ -108,5 +108,5 @@ unfoldable pub recordedOf : State → Statistics → ℕ → ℕ → ℕ → Rec
 recordedOf s x act p m =
     cond (not (soundOf s)) (beside x (answers 1 0 0 s))
     (cond (not (statisticsSound (s .clock) x)) (beside x (answers 2 0 0 s))
-    (cond (full x) (beside x (answers 3 0 0 s))
+    (cond (full (x .counts)) (beside x (answers 3 0 0 s))
     (counting x act p m (stepOf s act p m))))

@@ -17,6 +17,9 @@ pub record Attempt : Type 0 where
   pub time : ℕ
   pub code : ℕ
 
+abbrev pub attempt : ℕ → ℕ → ℕ → ℕ → Attempt
+attempt act p m code = record { action = act; process = p; time = m; code = code }
+
 -- Kinds of attempts
 
 abbrev pub isAccepted : Attempt → Bool

@@ -10,6 +10,7 @@ use crate::prints::print_line;
 use crate::prints::print_state;
 use crate::prints::print_statistics;
 use crate::prints::print_summary;
+use history::rows::answer_row;
 use model::Answer;
 use streams::kept;
 use streams::open_argument;
@@ -110,8 +111,7 @@ fn print_calls(
 }
 
 fn print_fresh(answer: Answer) {
-    let row = [answer.code, answer.process, answer.time];
-    print_answer(b"fresh", row);
+    print_answer(b"fresh", answer_row(answer));
 }
 
 fn run_list(text: &[u8]) {

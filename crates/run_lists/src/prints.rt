@@ -1,6 +1,7 @@
 // What comes of a list of calls, printed: numbers between commas.
 use fischer::stages::since_of;
 use fischer::stages::stage_of;
+use history::rows::tuple_of;
 use libc::STDOUT_FILENO;
 use model::Process;
 use model::State;
@@ -48,16 +49,9 @@ pub(crate) fn print_summary(n: u64, counts: [u64; 5], tries: [u64; 96]) {
 }
 
 pub(crate) fn print_statistics(n: u64, statistics: Statistics) {
-    let counts = statistics.counts;
-    let row = [
-        counts.accepted,
-        counts.refused,
-        counts.entries,
-        counts.exits,
-        counts.longest,
-    ];
+    let counts = tuple_of(statistics.counts);
     let tries = statistics.tries;
-    print_summary(n, row, tries);
+    print_summary(n, counts, tries);
 }
 
 fn print_process(process: Process) {

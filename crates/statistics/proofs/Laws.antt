@@ -1,13 +1,13 @@
 -- What soundness of a summary tells, what the recorded step comes to by the answer of the step, and that an act which it counts can
 -- be counted. Assumes nothing.
 use Prim.Native.Nat.{ℕ, _+_, _-_, _≤_, _<_}
-use mathlib.Core.Path.{_≡_, sym, ap, _∙_}
+use mathlib.Core.Path.{_≡_, sym, _∙_}
 use mathlib.Core.Logic.{_⊎_, inl, inr, _≢_}
-use mathlib.Core.Bool.{true, false, cond, _&&_}
+use mathlib.Core.Bool.{true, cond, _&&_}
 use mathlib.Core.List.{List}
 use native.Mathlib.Omega.{arith}
 use lib.Dec.{leb, eqb}
-use borrow.Author.Tests.{eq-eqb, ne-eqb, lt-leb}
+use borrow.Author.Tests.{eq-eqb, ne-eqb, eqb-false, lt-leb}
 use lib.ListN.{length, getD, set, drop}
 use Rattle.model.specs.declared.State.{State}
 use Rattle.model.specs.declared.Outcome.{Outcome}
@@ -15,17 +15,17 @@ use Rattle.model.specs.declared.Statistics.{Statistics}
 use Rattle.model.specs.States.{soundOf}
 use Rattle.model.specs.Answers.{answers, stepOf}
 use Rattle.model.specs.Summaries.{statisticsOf, countsSound, triesSound, statisticsSound, full, oneAccepted, oneEntry, oneExit, triedAt}
-use Rattle.model.specs.Summaries.{acceptedCounted, refusedCounted, noted, beside, counting, recordedOf}
+use Rattle.model.specs.Summaries.{acceptedCounted, refusedCounted, beside, recordedOf}
 use Rattle.model.specs.Facts.{Accepted}
 use Rattle.theory.specs.Acceptance.{Waits, Acts}
-use Rattle.statistics.specs.Countings.{faultOf, Room, Turn}
+use Rattle.theory.specs.Summaries.{HasRoom, RecordedTells}
+use Rattle.statistics.specs.Countings.{faultBy, Room}
 use Rattle.model.proofs.Lists.{drop-at, drop-end}
 use Rattle.model.proofs.Soundness.{sound-numbers}
-use Rattle.model.proofs.Tests.{by-test, tests}
+use Rattle.model.proofs.Tests.{by-test}
 use Rattle.theory.proofs.Acceptance.{accepted-iff-allowed}
-use Rattle.theory.proofs.Steps.{unsound-iff-one, unsound-is}
-use Rattle.theory.proofs.RecordedSteps.{noted-accepted, noted-refused}
-use Rattle.theory.proofs.Summaries.{summary-sound-iff-plain}
+use Rattle.theory.proofs.Steps.{unsound-iff-one, step-refuses}
+use Rattle.theory.proofs.Summaries.{summary-sound-iff-plain, recorded-is-plain}
 
 -- Try moments
 
@@ -46,79 +46,82 @@ module _ (clock : ℕ) (l : List ℕ) (i : ℕ) where
 
 -- The refusals 2 and 3
 
--- neither applies
-pub record Countable (clock : ℕ) (x : Statistics) : Type 0 where
-  pub sound : statisticsSound clock x ≡ true
-  pub not-full : full x ≡ false
+abbrev pub faultOf : ℕ → Statistics → ℕ
+faultOf clock x = faultBy (x .counts) (triesSound clock (x .tries))
 
 module _ (clock : ℕ) (x : Statistics) where
-  pub no-fault-countable : faultOf clock x ≡ 0 → Countable clock x
-  unfolding faultOf statisticsSound
-  no-fault-countable h =
+  pub no-fault-room : faultOf clock x ≡ 0 → HasRoom clock x
+  unfolding statisticsSound
+  no-fault-room h =
       by-test (countsSound (x .counts) && triesSound clock (x .tries))
-      (λ e. by-test (full x) (λ f. absurd (omega (arith, simp (e, f) at h))) (λ f. record { sound = e; not-full = f }))
+      (λ e. by-test (full (x .counts))
+      (λ f. absurd (omega (arith, simp (e, f) at h)))
+      (λ f. record { sound = summary-sound-iff-plain clock x .0 e; not-full = eqb-false _ _ f }))
       (λ e. absurd (omega (arith, simp e at h)))
 
-  pub countable-room : Countable clock x → Room (x .counts)
-  countable-room h = omega (arith, summary-sound-iff-plain clock x .0 (h .sound) .counts, simp tests at (h .not-full))
+  pub counts-room : HasRoom clock x → Room (x .counts)
+  counts-room h = omega (arith, h .sound .counts, h .not-full)
 
 -- The recorded step
 
-module _ (s : State) (act p m : ℕ) where
-  pub not-one-sound : stepOf s act p m .answer .code ≢ 1 → soundOf s ≡ true
-  not-one-sound n = by-test (soundOf s) (λ e. e) (λ e. absurd (n (unsound-iff-one s act p m .1 e)))
+pub not-one-sound : (s : State) (act p m : ℕ) → stepOf s act p m .answer .code ≢ 1 → soundOf s ≡ true
+not-one-sound s act p m n = by-test (soundOf s) (λ e. e) (λ e. absurd (n (unsound-iff-one s act p m .1 e)))
 
-  -- an act whose turn it is, and that is no wait, is of a process that there is
-  turn-named : Waits act p ⊎ Acts s act p m → act ≢ 0 → (1 ≤ p) × (p ≤ s .n)
-  turn-named (inl w) n = absurd (n (w .wait))
-  turn-named (inr a) n = (a .some, a .most)
+-- an act whose turn it is, and that is no wait, is of a process that there is
+turn-named : {s : State} {act p m : ℕ} → Waits act p ⊎ Acts s act p m → act ≢ 0 → (1 ≤ p) × (p ≤ s .n)
+turn-named (inl w) n = absurd (n (w .wait))
+turn-named (inr a) n = (a .some, a .most)
+
+-- the process of an accepted act other than a wait is from 1 to 96, and no try moment is after its time
+pub record Countable (x : Statistics) (act p m : ℕ) : Type 0 where
+  pub some : act ≢ 0 → 1 ≤ p
+  pub most : act ≢ 0 → p ≤ 96
+  pub tried : (k : ℕ) → getD (x .tries) k 0 ≤ m
 
 module _ (s : State) (x : Statistics) (act p m : ℕ) where
   -- where 2 or 3 applies, unless 1 does
   pub recorded-fault : faultOf (s .clock) x ≢ 0
       → recordedOf s x act p m ≡ beside x (cond (soundOf s) (answers (faultOf (s .clock) x) 0 0 s) (answers 1 0 0 s))
-  unfolding recordedOf faultOf statisticsSound
+  unfolding recordedOf statisticsSound
   recorded-fault n = by-test (soundOf s)
       (λ e. by-test (countsSound (x .counts) && triesSound (s .clock) (x .tries))
-      (λ f. by-test (full x) (λ g. simp (e, f, g)) (λ g. absurd (n (simp (f, g)))))
+      (λ f. by-test (full (x .counts)) (λ g. simp (e, f, g)) (λ g. absurd (n (simp (f, g)))))
       (λ f. simp (e, f)))
       (λ e. simp e)
 
-  module _ (h : Countable (s .clock) x) where
-    recorded-counted : stepOf s act p m .answer .code ≢ 1 → recordedOf s x act p m ≡ counting x act p m (stepOf s act p m)
-    unfolding recordedOf
-    recorded-counted n = simp (not-one-sound s act p m n, h .sound, h .not-full)
+  module _ (room : HasRoom (s .clock) x) where
+    pub accepted-countable : Accepted (stepOf s act p m) → Countable x act p m
+    accepted-countable a =
+        let sound = not-one-sound s act p m (omega arith) in
+        let allowed = accepted-iff-allowed s sound act p m .0 a in
+        record {
+          some = λ n. turn-named (allowed .turn) n .0;
+          most = λ n. omega (arith, turn-named (allowed .turn) n .1, sound-numbers s sound .count);
+          tried = λ k. omega (arith, room .sound .tries k, allowed .forward);
+        }
 
     -- what is given back, by the answer: a summary y beside the outcome o of the step
     module _ {o : Outcome} (e : o ≡ stepOf s act p m) where
-      pub gives-unsound : o .answer .code ≡ 1 → beside x o ≡ recordedOf s x act p m
-      unfolding recordedOf
-      gives-unsound k =
-          let f = unsound-iff-one s act p m .0 (rw e at k) in
-          ap (beside x) (e ∙ unsound-is s act p m f) ∙ simp f
+      tells : RecordedTells s x act p m (recordedOf s x act p m)
+      tells = recorded-is-plain s x act p m
 
-      gives-noted : o .answer .code ≢ 1 → {y : Statistics} → y ≡ noted x (stepOf s act p m .answer .code) act p m
-          → beside y o ≡ recordedOf s x act p m
-      gives-noted n f = (λ i. beside (f i) (e i)) ∙ sym (recorded-counted (rw e at n))
+      same : o ≡ recordedOf s x act p m .outcome
+      same = e ∙ sym (tells .step room)
+
+      gives : {y : Statistics} → recordedOf s x act p m .statistics ≡ y → beside y o ≡ recordedOf s x act p m
+      gives f = λ i. beside (sym f i) (same i)
+
+      pub gives-unsound : o .answer .code ≡ 1 → beside x o ≡ recordedOf s x act p m
+      gives-unsound k = gives (tells .unchanged (omega (arith, rw same at k)) (omega (arith, rw same at k)) .1)
 
       pub gives-accepted : Accepted o → {y : Statistics} → y ≡ acceptedCounted x act p m → beside y o ≡ recordedOf s x act p m
-      gives-accepted a f = gives-noted (omega arith) (f ∙ sym (noted-accepted s x act p m (rw e at a)))
+      gives-accepted k f = gives (tells .accepted (rw same at k) ∙ sym f)
 
       pub gives-refused : o .answer .code ≢ 0 → o .answer .code ≢ 1 → {y : Statistics} → y ≡ refusedCounted x
           → beside y o ≡ recordedOf s x act p m
-      gives-refused n k f = gives-noted k (f ∙ sym (noted-refused s x act p m (rw e at n)))
-
-    -- no try moment is after the clock, nor the clock after the act
-    pub accepted-turn : Accepted (stepOf s act p m) → Turn x act p m
-    accepted-turn a =
-        let sound = not-one-sound s act p m (omega arith) in
-        let allowed = accepted-iff-allowed s sound act p m .0 a in
-        let past = summary-sound-iff-plain (s .clock) x .0 (h .sound) .tries in
-        record {
-          some = λ n. turn-named s act p m (allowed .turn) n .0;
-          most = λ n. omega (arith, turn-named s act p m (allowed .turn) n .1, sound-numbers s sound .count);
-          tried = λ k. omega (arith, past k, allowed .forward);
-        }
+      gives-refused n k f =
+          let h = step-refuses s act p m (not-one-sound s act p m (rw e at k)) (rw e at n) in
+          gives (tells .refused (rw (tells .step room) (h .some)) .1 ∙ sym f)
 
 -- An accepted act, by its number
 

@@ -24,11 +24,11 @@ ghost use mathlib.Core.Path.{_≡_};
 ghost use mathlib.Core.Bool.{cond};
 ghost use Rattle.model.specs.States.{soundOf};
 ghost use Rattle.model.specs.Answers.{answers};
-ghost use Rattle.model.specs.Summaries.{unused, beside, recordedOf};
+ghost use Rattle.model.specs.Summaries.{newStatistics, beside, recordedOf};
 
 // "A new one is all zeros."
-pub fn unused_statistics() -> Statistics
-    ensures { λ r. ⌜ r ≡ unused ⌝ }
+pub fn new_statistics() -> Statistics
+    ensures { λ r. ⌜ r ≡ newStatistics ⌝ }
 {
     Statistics {
         counts: Counts {

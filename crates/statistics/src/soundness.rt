@@ -38,14 +38,14 @@ pub(crate) fn tries_stand(tries: [u64; 96], clock: u64) -> bool
     i == 96
 }
 
-// The number of the refusal, 2 or 3; 0 where an act can be counted.
-pub(crate) fn fault_by(counts: Counts, tried: bool) -> u64
-    ensures { λ r. ⌜ r ≡ faultBy counts tried ⌝ }
+// The number of the refusal, 2 or 3; 0 where an act can be counted. `past` tells whether no try moment is after the clock.
+pub(crate) fn fault_by(counts: Counts, past: bool) -> u64
+    ensures { λ r. ⌜ r ≡ faultBy counts past ⌝ }
 {
     if !counts_stand(counts) {
         return 2;
     }
-    if !tried {
+    if !past {
         return 2;
     }
     if MOST - counts.accepted == counts.refused {

@@ -14,7 +14,7 @@ use Rattle.model.specs.declared.Location.{Location}
 use Rattle.model.specs.declared.Statistics.{Statistics}
 use Rattle.model.specs.States.{lastTime, trying}
 use Rattle.model.specs.Summaries.{triedAt, acceptedCounted, refusedCounted}
-use Rattle.model.specs.Tallies.{Attempt, isAccepted, isRefused, isEntry, isExit, countOf, lastTry, longestWait}
+use Rattle.model.specs.Tallies.{Attempt, attempt, isAccepted, isRefused, isEntry, isExit, countOf, lastTry, longestWait}
 use Rattle.theory.specs.Summaries.{CountsSound, NotFull}
 use Rattle.theory.proofs.CountLaws.{weight, past-set, Unmarked, skipped}
 use Rattle.theory.proofs.ActKinds.{Plain, Kind}
@@ -42,10 +42,6 @@ pub record Counted (log : List Attempt) (x : Statistics) : Type 0 where
   pub longest : x .counts .longest ≡ longestWait log
 
 -- The log
-
--- an act of process p at the time m, and the number of its answer
-abbrev pub attempt : ℕ → ℕ → ℕ → ℕ → Attempt
-attempt act p m code = record { action = act; process = p; time = m; code = code }
 
 pub refused-unmarked : (p m act code : ℕ) → code ≢ 0 → Unmarked (attempt act p m code)
 refused-unmarked p m act code h = record {

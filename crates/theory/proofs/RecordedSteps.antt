@@ -33,7 +33,7 @@ module _ (s : State) (x : Statistics) (act p m : ℕ) where
   judged =
       by-cond Judged (not (soundOf s)) (λ e. no-table (not-true _ e))
       (λ g₁. by-cond Judged (not (statisticsSound (s .clock) x)) (λ e. no-summary (not-false _ g₁) (not-true _ e))
-      (λ g₂. by-cond Judged (full x) (λ e. filled (not-false _ g₁) (not-false _ g₂) (eqb-true _ _ e))
+      (λ g₂. by-cond Judged (full (x .counts)) (λ e. filled (not-false _ g₁) (not-false _ g₂) (eqb-true _ _ e))
       (λ g₃. counted (record { sound = not-false _ g₁; summary = not-false _ g₂; not-full = eqb-false _ _ g₃ }))))
 
   -- What is counted, by the number of the answer

@@ -2,16 +2,16 @@
 use Prim.Native.Nat.{ℕ, zero, suc, _≤_}
 use mathlib.Core.Path.{_≡_, refl, ap, _∙_}
 use mathlib.Core.Logic.{_≢_}
+use mathlib.Core.Bool.{true, false≢true}
 use native.Mathlib.Omega.{arith}
 use Rattle.model.specs.declared.Location.{Location}
-use Rattle.model.specs.declared.Location.the-variants.{Remainder}
+use Rattle.model.specs.declared.Location.the-variants.{Remainder, Testing, Setting, Checking, Entering, Critical, Resetting, Leaving}
 use Rattle.model.specs.declared.State.{State}
 use Rattle.model.specs.Stages.{testing, entering, critical}
-use Rattle.model.specs.States.{stageOf, sinceOf, limitOf, entryOf}
+use Rattle.model.specs.States.{stageOf, sinceOf, trying, limitOf, entryOf}
 use Rattle.model.specs.Facts.{IsCritical, IsTrying}
 use Rattle.theory.specs.Soundness.{Sound, Fresh}
 use Rattle.theory.specs.Lateness.{AllInTime}
-use Rattle.model.proofs.Tests.{tests}
 use Rattle.model.proofs.Locations.{stage-location}
 use Rattle.theory.proofs.Locations.{InTime, past-iff, in-time}
 use Rattle.theory.proofs.View.{Lock, View, Owns, Timely}
@@ -45,12 +45,22 @@ fresh-view f = record { word = f .word-is; all = λ j. elim j [ zero ↦ refl | 
 
 -- Stages
 
+trying-between : (l : Location) → trying l ≡ true → (testing ≤ stageOf l) × (stageOf l ≤ entering)
+trying-between Remainder e = absurd (false≢true e)
+trying-between (Testing t) e = omega arith
+trying-between (Setting t) e = omega arith
+trying-between (Checking t) e = omega arith
+trying-between (Entering t) e = omega arith
+trying-between Critical e = absurd (false≢true e)
+trying-between (Resetting t) e = absurd (false≢true e)
+trying-between (Leaving t) e = absurd (false≢true e)
+
 module _ {s : State} {i : ℕ} where
   pub critical-owns : IsCritical s i → Owns (viewOf s) i
   critical-owns h = omega (arith, ap stageOf (location-of s i (h .from) ∙ h .at))
 
   pub trying-stage : IsTrying s i → (testing ≤ viewOf s .stage i) × (viewOf s .stage i ≤ entering)
-  trying-stage h = omega (arith, ap stageOf (location-of s i (h .from)), simp tests at (h .at))
+  trying-stage h = omega (arith, ap stageOf (location-of s i (h .from)), trying-between (entryOf s i .location) (h .at))
 
 pub none-critical : {s : State} → ((i : ℕ) → IsCritical s i → ⊥) → (i : ℕ) → viewOf s .stage i ≢ critical
 none-critical h zero e = omega arith

@@ -16,7 +16,7 @@ use Rattle.model.specs.Summaries.{triesSound, countsSound, statisticsSound, cou
 use Rattle.theory.specs.Summaries.{SummarySound, SummarySoundIffPlain, HasRoom, RecordedTells, RecordedIsPlain}
 use Rattle.model.proofs.Tests.{if-eq, and-true-iff, clash, tests}
 use Rattle.theory.proofs.Acceptance.{refused-stays}
-use Rattle.theory.proofs.Steps.{unsound-is, step-refuses}
+use Rattle.theory.proofs.Steps.{unsound-iff-one, unsound-is, step-refuses}
 use Rattle.theory.proofs.RecordedSteps.{Open, Judged, judged, noted-accepted, noted-refused}
 
 -- Soundness
@@ -61,6 +61,7 @@ module _ (s : State) (x : Statistics) (act p m : ℕ) where
   counted-tells sound room =
       let none = step-none sound in
       record {
+        one = unsound-iff-one s act p m;
         two = (λ e. absurd (omega (arith, none (omega arith))), λ h. absurd (h .1 (room .sound)));
         three = (λ e. absurd (omega (arith, none (omega arith))), λ h. absurd (room .not-full (h .2)));
         step = λ _. refl;
@@ -71,6 +72,7 @@ module _ (s : State) (x : Statistics) (act p m : ℕ) where
 
   judged-tells : {r : Recorded} → Judged s x act p m r → Tells r
   judged-tells (Judged.no-table e) = record {
+    one = (λ _. e, λ _. refl);
     two = (λ c. absurd (omega arith), λ h. clash (h .0) e);
     three = (λ c. absurd (omega arith), λ h. clash (h .0) e);
     step = λ _. sym (unsound-is s act p m e);
@@ -79,6 +81,7 @@ module _ (s : State) (x : Statistics) (act p m : ℕ) where
     accepted = λ c. absurd (omega arith);
   }
   judged-tells (Judged.no-summary sound e) = record {
+    one = (λ c. absurd (omega arith), λ f. clash sound f);
     two = (λ c. (sound, unsound-summary e), λ _. refl);
     three = (λ c. absurd (omega arith), λ h. absurd (unsound-summary e (h .1)));
     step = λ room. absurd (unsound-summary e (room .sound));
@@ -89,6 +92,7 @@ module _ (s : State) (x : Statistics) (act p m : ℕ) where
   judged-tells (Judged.filled sound stands e) =
       let plain = summary-sound-iff-plain (s .clock) x .0 stands in
       record {
+        one = (λ c. absurd (omega arith), λ f. clash sound f);
         two = (λ c. absurd (omega arith), λ h. absurd (h .1 plain));
         three = (λ c. (sound, plain, e), λ _. refl);
         step = λ room. absurd (room .not-full e);

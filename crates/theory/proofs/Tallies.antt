@@ -16,8 +16,8 @@ use Rattle.model.specs.Texts.{Event}
 use Rattle.model.specs.States.{trying, soundOf, entryOf}
 use Rattle.model.specs.Answers.{stepOf, freshOf}
 use Rattle.model.specs.Facts.{Accepted, IsTrying}
-use Rattle.model.specs.Summaries.{unused, triedAt, acceptedCounted, refusedCounted, noted}
-use Rattle.model.specs.Tallies.{Attempt, countOf, lastTry, longestWait, criticalCount}
+use Rattle.model.specs.Summaries.{newStatistics, triedAt, acceptedCounted, refusedCounted, noted}
+use Rattle.model.specs.Tallies.{Attempt, attempt, countOf, lastTry, longestWait, criticalCount}
 use Rattle.theory.specs.Acceptance.{Allowed, Changed}
 use Rattle.theory.specs.Tallies.{recordNext, recordAll, logFrom, Tallied, startOf, EveryTally}
 use Rattle.theory.specs.Summaries.{CountsSound, NotFull}
@@ -30,7 +30,7 @@ use Rattle.theory.proofs.ActKinds.{Kind, entry-at, turn-kind, next-coun
 use Rattle.theory.proofs.Steps.{Refuses, step-refuses}
 use Rattle.theory.proofs.RecordedSteps.{Judged, judged, noted-accepted, noted-refused}
 use Rattle.theory.proofs.Summaries.{summary-sound-iff-plain}
-use Rattle.theory.proofs.Countings.{TriesStand, tries-later, Counted, attempt, refused-unmarked}
+use Rattle.theory.proofs.Countings.{TriesStand, tries-later, Counted, refused-unmarked}
 use Rattle.theory.proofs.Countings.{filled-counted, refused-stands, refused-counted}
 use Rattle.theory.proofs.Countings.{accepted-stands, accepted-tries, accepted-counted, accepted-balance, own-tried, other-tried}
 
@@ -148,7 +148,7 @@ along-all log r (e ∷ es) h = along-all _ (recordNext r e) es
     (along-judged h (e .action) (e .process) (e .time)
     (judged (r .outcome .state) (r .statistics) (e .action) (e .process) (e .time)))
 
-along-start : (n a b c : ℕ) → Accepted (freshOf n a b c) → Along [] (freshOf n a b c .state) unused
+along-start : (n a b c : ℕ) → Accepted (freshOf n a b c) → Along [] (freshOf n a b c .state) newStatistics
 unfolding countOf longestWait
 along-start n a b c e =
     let made = fresh-is-plain n a b c in

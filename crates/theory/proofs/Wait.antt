@@ -30,7 +30,7 @@ pub record Taken (L : Lock) (W : ℕ) (x : View) (k : ℕ) : Type 0 where
   pub setters : Setters L W x
 
 -- w is before its check, or at one that is to fail
-pub record Line (L : Lock) (w W : ℕ) (x : View) : Type 0 where
+pub record Waiting (L : Lock) (w W : ℕ) (x : View) : Type 0 where
   pub low : testing ≤ x .stage w
   pub high : x .stage w ≤ checking
   pub checks : x .stage w ≡ checking → x .since w + 3 * L .a + 2 * L .c + L .tail ≤ W
@@ -38,7 +38,7 @@ pub record Line (L : Lock) (w W : ℕ) (x : View) : Type 0 where
 -- the word is free, and w sets it in time if nobody else does
 pub record Free (L : Lock) (w W : ℕ) (x : View) : Type 0 where
   pub word : x .word ≡ 0
-  pub line : Line L w W x
+  pub waiting : Waiting L w W x
   pub tests : x .stage w ≡ testing → x .since w + 3 * L .a + L .c + L .tail ≤ W
   pub sets : x .stage w ≡ setting → x .since w + 2 * L .a + L .c + L .tail ≤ W
 
@@ -46,7 +46,7 @@ pub record Free (L : Lock) (w W : ℕ) (x : View) : Type 0 where
 pub record Resets (L : Lock) (w W : ℕ) (x : View) (k : ℕ) : Type 0 where
   pub at : x .stage k ≡ resetting
   pub left : x .since k + 4 * L .a + L .c + L .tail ≤ W
-  pub line : Line L w W x
+  pub waiting : Waiting L w W x
   pub not-setting : x .stage w ≢ setting
 
 pub data Phase (L : Lock) (w W : ℕ) (x : View) : Type 0 where
@@ -71,7 +71,7 @@ module _ {L : Lock} {x : View} (inv : Inv L x) (past : (j : ℕ) → x .since j 
   start-free : x .word ≡ 0 → Free L w (x .clock + B) x
   start-free e = record {
     word = e;
-    line = record {
+    waiting = record {
       low = low;
       high = not-entering 0 e (omega (arith, from-one inv w (omega arith)));
       checks = room .check-free e;
@@ -87,7 +87,7 @@ module _ {L : Lock} {x : View} (inv : Inv L x) (past : (j : ℕ) → x .since j 
   start-resets k e f = record {
     at = f;
     left = omega (arith, past k);
-    line = record {
+    waiting = record {
       low = low;
       high = not-entering k e (λ z. omega (arith, ap (x .stage) z));
       checks = room .check-owned k (omega arith);
@@ -110,7 +110,7 @@ module _ {L : Lock} {x : View} (inv : Inv L x) (past : (j : ℕ) → x .since j 
 module _ {L : Lock} {w W m : ℕ} {x : View} (t : Timely L x m) where
   free-time : Free L w W x → m + L .a + L .c + L .tail ≤ W
   free-time f = if-eq (x .stage w) checking
-      (λ e. omega (arith, f .line .checks e, t .long w (omega arith)))
+      (λ e. omega (arith, f .waiting .checks e, t .long w (omega arith)))
       (λ n. let h = t .short w (omega arith) in
       if-eq (x .stage w) testing (λ e. omega (arith, f .tests e)) (λ o. omega (arith, f .sets (omega arith))))
 
@@ -182,8 +182,8 @@ module _ {L : Lock} (tail : L .a ≤ L .tail) {x y : View} {act p m : ℕ} (move
   own : w ≡ p → Own
   own e = record { stage = ap (x .stage) e; since = ap (x .since) e; stage′ = ap (y .stage) e; since′ = ap (y .since) e }
 
-  line-stays : w ≢ p → Line L w W x → Line L w W y
-  line-stays n h =
+  waiting-stays : w ≢ p → Waiting L w W x → Waiting L w W y
+  waiting-stays n h =
       let s = move .others w n in
       record { low = omega arith; high = omega arith; checks = λ e. omega (arith, h .checks (omega arith)) }
 
@@ -201,7 +201,7 @@ module _ {L : Lock} (tail : L .a ≤ L .tail) {x y : View} {act p m : ℕ} (move
       let t = comes .arrival (omega arith) (omega arith) in
       let v = kept .timely .short p (omega arith) in
       let f = word-free (omega arith) h in
-      record { word = f; line = omega arith; tests = λ r. omega arith; sets = λ r. omega (arith, h .tests e) }
+      record { word = f; waiting = omega arith; tests = λ r. omega arith; sets = λ r. omega (arith, h .tests e) }
 
   check-free : w ≡ p → x .stage w ≡ checking → Free L w W x → Free L w W y
   check-free z e h =
@@ -210,14 +210,14 @@ module _ {L : Lock} (tail : L .a ≤ L .tail) {x y : View} {act p m : ℕ} (move
       let t = comes .arrival (omega arith) (omega arith) in
       let v = kept .timely .long p (omega arith) in
       let f = word-free (omega arith) h in
-      record { word = f; line = omega arith; tests = λ r. omega (arith, h .line .checks e); sets = λ r. omega arith }
+      record { word = f; waiting = omega arith; tests = λ r. omega (arith, h .waiting .checks e); sets = λ r. omega arith }
 
   stays-free : w ≢ p → x .stage p ≢ setting → Free L w W x → Free L w W y
   stays-free z q h =
       let s = move .others w z in
       record {
         word = word-free q h;
-        line = line-stays z (h .line);
+        waiting = waiting-stays z (h .waiting);
         tests = λ r. omega (arith, h .tests (omega arith));
         sets = λ r. omega (arith, h .sets (omega arith));
       }
@@ -244,7 +244,7 @@ module _ {L : Lock} (tail : L .a ≤ L .tail) {x y : View} {act p m : ℕ} (move
       let v = kept .timely .short p (omega arith) in
       record {
         word = goes .reset (h .at) .1;
-        line = line-stays n (h .line);
+        waiting = waiting-stays n (h .waiting);
         tests = λ r. omega (arith, move .past w);
         sets = λ r. omega arith;
       }
@@ -259,7 +259,7 @@ module _ {L : Lock} (tail : L .a ≤ L .tail) {x y : View} {act p m : ℕ} (move
       let g = if-eq (x .stage p) testing (λ t. goes .test-taken t (omega arith)) (λ t. goes .check-other (omega arith) (omega arith)) in
       omega arith)
       (λ z. let u = move .others w z in
-      record { at = omega arith; left = omega arith; line = line-stays z (h .line); not-setting = omega arith })
+      record { at = omega arith; left = omega arith; waiting = waiting-stays z (h .waiting); not-setting = omega arith })
 
   from-resets : (k : ℕ) → Resets L w W x k → Phase L w W y
   from-resets = split move (λ h. free (reset-free h)) (λ k n s h. resets k (resets-stay k n s h))

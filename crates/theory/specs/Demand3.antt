@@ -22,7 +22,7 @@ pub record SpanStarts (s : State) : Type 0 where
   pub none : (i : ℕ) → IsCritical s i → ⊥
 
 -- "To be let in is to have a crit accepted."
-pub record LetsIn (s : State) (d : Call) : Type 0 where
+pub record Enters (s : State) (d : Call) : Type 0 where
   pub crit : d .action ≡ 5
   pub accepted : Accepted (outcomeOf s d)
 
@@ -30,7 +30,7 @@ pub record LetsIn (s : State) (d : Call) : Type 0 where
 -- the calls is in the span that starts at s, as none but the last lets anybody in
 abbrev pub InSpan : State → List Call → Type 0
 InSpan s [] = Unit {0}
-InSpan s (d ∷ ds) = (ds ≡ []) ⊎ ((LetsIn s d → ⊥) × InSpan (tableOf s d) ds)
+InSpan s (d ∷ ds) = (ds ≡ []) ⊎ ((Enters s d → ⊥) × InSpan (tableOf s d) ds)
 
 -- "2c + 5a"
 abbrev pub owedWait : State → ℕ

@@ -3,7 +3,7 @@
 use Prim.Native.Nat.{ℕ, _+_, _≤_}
 use mathlib.Core.Path.{_≡_}
 use mathlib.Core.Logic.{_≢_, _↔_}
-use mathlib.Core.Bool.{true}
+use mathlib.Core.Bool.{true, false}
 use lib.ListN.{getD}
 use Rattle.model.specs.declared.State.{State}
 use Rattle.model.specs.declared.Counts.{Counts}
@@ -35,8 +35,10 @@ pub record HasRoom (clock : ℕ) (x : Statistics) : Type 0 where
   pub sound : SummarySound clock x
   pub not-full : NotFull x
 
--- what a recorded step gives back; of the first of 1 to 10 that applies
+-- what a recorded step gives back, by its number
 pub record RecordedTells (s : State) (x : Statistics) (act p m : ℕ) (r : Recorded) : Type 0 where
+  -- | 1, -, - | table not sound |
+  pub one : (r .outcome .answer .code ≡ 1) ↔ (soundOf s ≡ false)
   -- | 2, -, - | summary not sound |
   pub two : (r .outcome .answer .code ≡ 2) ↔ ((soundOf s ≡ true) × (SummarySound (s .clock) x → ⊥))
   -- | 3, -, - | accepted + refused = 1,000,000,000,000 |

@@ -7,8 +7,8 @@ use Rattle.model.specs.declared.Recorded.{Recorded}
 use Rattle.model.specs.Texts.{Event}
 use Rattle.model.specs.Answers.{freshOf}
 use Rattle.model.specs.Facts.{Accepted}
-use Rattle.model.specs.Summaries.{unused, beside, recordedOf}
-use Rattle.model.specs.Tallies.{Attempt, tallyOf, criticalCount}
+use Rattle.model.specs.Summaries.{newStatistics, beside, recordedOf}
+use Rattle.model.specs.Tallies.{Attempt, attempt, tallyOf, criticalCount}
 
 -- a recorded step after another, with the table and the summary that it left
 abbrev pub recordNext : Recorded → Event → Recorded
@@ -24,9 +24,8 @@ recordsOf r [] = []
 recordsOf r (e ∷ es) = recordNext r e ∷ recordsOf (recordNext r e) es
 
 -- the log of the list: each act with the number of the answer to it, the last one first
-
 abbrev pub attemptOf : Event → Recorded → Attempt
-attemptOf e r = record { action = e .action; process = e .process; time = e .time; code = r .outcome .answer .code }
+attemptOf e r = attempt (e .action) (e .process) (e .time) (r .outcome .answer .code)
 
 unfoldable pub logFrom : List Attempt → Recorded → List Event → List Attempt
 logFrom log r [] = log
@@ -39,7 +38,7 @@ pub record Tallied (log : List Attempt) (r : Recorded) : Type 0 where
 
 -- a fresh table and a new summary
 abbrev pub startOf : ℕ → ℕ → ℕ → ℕ → Recorded
-startOf n a b c = beside unused (freshOf n a b c)
+startOf n a b c = beside newStatistics (freshOf n a b c)
 
 abbrev pub EveryTally : Type 0
 EveryTally = (n a b c : ℕ) → Accepted (freshOf n a b c) → (es : List Event)

@@ -11,7 +11,7 @@ fn main() {
     let words: Vec<&str> = words.iter().map(String::as_str).collect();
     let said = match words[..] {
         ["generate", count, seed, index] => generated(count, seed, index),
-        ["run"] => run(),
+        ["run"] => Some(run()),
         _ => None,
     };
     let Some(said) = said else {
@@ -26,7 +26,11 @@ fn generated(count: &str, seed: &str, index: &str) -> Option<String> {
     Some(list::text(&list))
 }
 
-fn run() -> Option<String> {
-    let text = read_to_string(stdin()).ok()?;
-    Some(list::outcome(&list::read(&text)?))
+fn run() -> String {
+    let text = read_to_string(stdin()).unwrap_or_default();
+    let Some(list) = list::read(&text) else {
+        eprintln!("lists: standard input is no list of calls");
+        exit(1);
+    };
+    list::outcome(&list)
 }

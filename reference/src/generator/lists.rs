@@ -7,10 +7,7 @@ use crate::answer::{NO_SUMMARY, SUMMARY_FULL};
 use crate::list::*;
 use crate::machine::*;
 use crate::recording::Step;
-use crate::summary::Summary;
-
-/// The greatest sum of accepted and refused acts, and the greatest longest wait.
-const SUMMARY_END: u64 = 1_000_000_000_000;
+use crate::summary::{Summary, SUMMARY_END};
 
 /// A list of so many calls.
 pub fn list(random: &mut Random, count: u64) -> List {
@@ -26,7 +23,7 @@ pub fn list(random: &mut Random, count: u64) -> List {
     let mut calls = Vec::new();
     for place in 0..count {
         let mut walk = Walk { random, table, focus: values.n.min(4), pause: 3 };
-        let mut step = if place == 0 { Walk::wait(start) } else { walk.step(wild) };
+        let mut step = if place == 0 { Step::wait(start) } else { walk.step(wild) };
         if random.chance(3) {
             exceed(random, &mut step);
         }

@@ -111,7 +111,7 @@ pub fn text(random: &mut Random, values: Values, mood: Mood, bytes: usize) -> Ve
     let mut walk = Walk { random, table, focus: mood.focus.min(values.n), pause: mood.pause };
     let mut text = head(values);
     if mood.start > 0 {
-        text += &walk.take(Walk::wait(mood.start));
+        text += &walk.take(Step::wait(mood.start));
     }
     for _ in 0..mood.steps {
         if text.len() >= bytes {
@@ -146,10 +146,6 @@ pub struct Walk<'a> {
 }
 
 impl Walk<'_> {
-    pub fn wait(time: u64) -> Step {
-        Step { time, window: 0, act: WAIT }
-    }
-
     /// A step that is not a likely one that many times in a hundred.
     pub fn step(&mut self, wild: u64) -> Step {
         if self.random.chance(wild) {
@@ -200,7 +196,7 @@ impl Walk<'_> {
     fn likely_step(&mut self) -> Step {
         let time = self.moment();
         if self.random.chance(6) {
-            return Walk::wait(time);
+            return Step::wait(time);
         }
         let window = self.likely_window();
         match self.table.place(window) {
@@ -244,7 +240,7 @@ impl Walk<'_> {
             6 => Step { time: last + 1, window, act: natural },
             7 => Step { time: last + 1, window: self.any_window(), act },
             8 => Step { time: last + self.random.below(5), window, act },
-            9 => Walk::wait(last + 1),
+            9 => Step::wait(last + 1),
             _ => self.far_step(window, act),
         }
     }

@@ -62,11 +62,11 @@ slice-set-from-left-tries c = search needs
 answer-row-requires : tie.Need-answer-row-requires
 answer-row-requires c κs = search needs
 
-mul-told : tie.Need-mul-told
-mul-told c = search needs
+mul-row : tie.Need-mul-row
+mul-row c = search needs
 
-slice-set-from-told : tie.Need-slice-set-from-told
-slice-set-from-told c = search needs
+slice-set-from-row : tie.Need-slice-set-from-row
+slice-set-from-row c = search needs
 
 same-length : tie.Need-same-length
 same-length c = search needs
@@ -103,8 +103,8 @@ make-turn-spec =
     mul-left-tries
     slice-set-from-left-tries
     answer-row-requires
-    mul-told
-    slice-set-from-told
+    mul-row
+    slice-set-from-row
     same-length
     same-length-2
     same-length-3

@@ -1,6 +1,6 @@
 -- `history::record_turn` meets its contract. Assumes nothing.
 use native.Mathlib.Omega.{arith}
-use Rattle.history.proofs.Threading.{record-at}
+use Rattle.history.proofs.RecordedTurns.{record-at}
 use borrow.Author.Needs.{needs}
 use Rattle.history.proofs.record_turn.Statement.{statement}
 use Rattle.history.proofs.record_turn.Tie as tie
@@ -26,11 +26,11 @@ lent-step-requires c κs = search needs
 answer-row-requires : tie.Need-answer-row-requires
 answer-row-requires c κs = search needs
 
-mul-told : tie.Need-mul-told
-mul-told c = search needs
+mul-row : tie.Need-mul-row
+mul-row c = search needs
 
-slice-set-from-told : tie.Need-slice-set-from-told
-slice-set-from-told c = search needs
+slice-set-from-row : tie.Need-slice-set-from-row
+slice-set-from-row c = search needs
 
 same-length : tie.Need-same-length
 same-length c = search needs
@@ -54,7 +54,7 @@ record-turn-spec =
     array-read-lent-step-3
     lent-step-requires
     answer-row-requires
-    mul-told
-    slice-set-from-told
+    mul-row
+    slice-set-from-row
     same-length
     returns)

@@ -4,14 +4,14 @@ use Prim.Native.Nat.{_-_}
 use native.Mathlib.Omega.{arith}
 use Rattle.model.specs.Summaries.{beside}
 use Rattle.theory.specs.Tallies.{startOf}
-use Rattle.history.specs.Threads.{threadGave, threadOf}
-use Rattle.history.proofs.Threading.{length-events, Underway, begins, goes-on, answers-long, ends, thread-tallied}
+use Rattle.history.specs.RecordedRuns.{recordedRunGave, recordedRunOf}
+use Rattle.history.proofs.RecordedTurns.{length-events, Underway, begins, goes-on, answers-long, ends, recorded-run-tallied}
 use Rattle.history.proofs.run_recorded.Statement.{statement}
 use Rattle.history.proofs.run_recorded.Tie as tie
 
 abbrev Inv-loop : tie.InvT-loop
 Inv-loop n a b c acts answers₀ answer last₀ count i₀ answers last i =
-    Underway (startOf n a b c) acts answers₀ count (threadGave last answers) i
+    Underway (startOf n a b c) acts answers₀ count (recordedRunGave last answers) i
 
 abbrev μ-loop : tie.MeasureT-loop
 μ-loop n a b c acts answers₀ answer last₀ count i₀ answers last i = count - i
@@ -19,8 +19,8 @@ abbrev μ-loop : tie.MeasureT-loop
 fresh-requires : tie.Need-fresh-requires Inv-loop μ-loop
 fresh-requires c κs = tt
 
-unused-statistics-requires : tie.Need-unused-statistics-requires Inv-loop μ-loop
-unused-statistics-requires c κs = tt
+new-statistics-requires : tie.Need-new-statistics-requires Inv-loop μ-loop
+new-statistics-requires c κs = tt
 
 least-requires : tie.Need-least-requires Inv-loop μ-loop
 least-requires c κs = tt
@@ -29,7 +29,7 @@ loop-holds : tie.Need-loop-holds Inv-loop μ-loop
 loop-holds c =
     let s = c .before .before .before .before in
     begins (s .args .acts .now) (s .args .answers .now)
-    (λ j. beside (c .before .unused-statistics .ensures j) (c .before .before .before .fresh .ensures j))
+    (λ j. beside (c .before .new-statistics .ensures j) (c .before .before .before .fresh .ensures j))
     (omega (arith, length-events (s .args .acts .now) (s .args .answers .now)))
 
 record-turn-requires : tie.Need-record-turn-requires Inv-loop μ-loop
@@ -51,12 +51,12 @@ same-length : tie.Need-same-length Inv-loop μ-loop
 same-length c = answers-long (c .before .before .before .before .loop .inv)
 
 returns : tie.Need-returns Inv-loop μ-loop
-unfolding threadOf
+unfolding recordedRunOf
 returns c =
     let s = c .before .before .before .before .before .before .before .before .before in
     let e = ends (c .before .before .before .before .before .before .before .before .fresh .ensures)
     (c .before .before .before .before .loop .inv) (omega arith) in
-    (e, thread-tallied (s .args .n) (s .args .a) (s .args .b) (s .args .c) (s .args .acts .now) (s .args .answers .now) e)
+    (e, recorded-run-tallied (s .args .n) (s .args .a) (s .args .b) (s .args .c) (s .args .acts .now) (s .args .answers .now) e)
 
 pub run-recorded-spec : {M : Type 1} → statement M
 run-recorded-spec =
@@ -65,7 +65,7 @@ run-recorded-spec =
     Inv-loop
     μ-loop
     fresh-requires
-    unused-statistics-requires
+    new-statistics-requires
     least-requires
     loop-holds
     record-turn-requires

@@ -7,8 +7,9 @@ use lib.ListN.{set}
 use borrow.Author.Needs.{needs}
 use Rattle.model.specs.declared.Counts.{Counts}
 use Rattle.model.specs.Summaries.{statisticsOf, beside}
-use Rattle.statistics.specs.Countings.{faultBy, faultOf, Room, Turn}
-use Rattle.statistics.proofs.Laws.{Countable, no-fault-countable, countable-room, recorded-fault, accepted-turn}
+use Rattle.theory.specs.Summaries.{HasRoom}
+use Rattle.statistics.specs.Countings.{faultBy, Room}
+use Rattle.statistics.proofs.Laws.{faultOf, no-fault-room, counts-room, Countable, recorded-fault, accepted-countable}
 use Rattle.statistics.proofs.Laws.{gives-unsound, gives-accepted, gives-refused, counted-try, counted-crit, counted-exit, counted-other}
 use Rattle.statistics.proofs.record.Statement.{statement}
 use Rattle.statistics.proofs.record.Tie as tie
@@ -22,7 +23,6 @@ fault-by-requires : tie.Need-fault-by-requires
 fault-by-requires c κs = search needs
 
 fault-is : (c : tie.After-fault-by) → (let a = c .before .before .before .before .args in c .fault-by .result ≡ faultOf (a .state .clock) (a .t2))
-unfolding faultOf
 fault-is c = c .fault-by .ensures ∙ ap (faultBy (c .before .before .before .before .args .t2 .counts)) (c .before .tries-stand .ensures)
 
 refuse-requires : tie.Need-refuse-requires
@@ -35,35 +35,35 @@ returns c =
     ap (beside (a .t2)) (rw e at (c .refuse .ensures))
     ∙ sym (recorded-fault (a .state) (a .t2) (a .action) (a .process) (a .time) (rw e at (c .before .if1 .taken)))
 
-countable : (c : tie.Else1) → (let a = c .before .before .before .before .before .args in Countable (a .state .clock) (a .t2))
-countable c =
+has-room : (c : tie.Else1) → (let a = c .before .before .before .before .before .args in HasRoom (a .state .clock) (a .t2))
+has-room c =
     let a = c .before .before .before .before .before .args in
-    no-fault-countable (a .state .clock) (a .t2) (sym (fault-is (c .before)) ∙ c .if1 .left)
+    no-fault-room (a .state .clock) (a .t2) (sym (fault-is (c .before)) ∙ c .if1 .left)
 
 room : (c : tie.Else1) → Room (c .before .before .before .before .before .args .t2 .counts)
-room c = let a = c .before .before .before .before .before .args in countable-room (a .state .clock) (a .t2) (countable c)
+room c = let a = c .before .before .before .before .before .args in counts-room (a .state .clock) (a .t2) (has-room c)
 
 -- The step
 
 step-requires : tie.Need-step-requires
 step-requires c κs = search needs
 
-turn : (c : tie.Then2) → (let a = c .before .before .before .before .before .before .before .before .before .args in Turn (a .t2) (a .action) (a .process) (a .time))
-turn c =
+countable : (c : tie.Then2) → (let a = c .before .before .before .before .before .before .before .before .before .args in Countable (a .t2) (a .action) (a .process) (a .time))
+countable c =
     let a = c .before .before .before .before .before .before .before .before .before .args in
-    accepted-turn (a .state) (a .t2) (a .action) (a .process) (a .time) (countable (c .before .before .before .before))
+    accepted-countable (a .state) (a .t2) (a .action) (a .process) (a .time) (has-room (c .before .before .before .before))
     (rw (c .before .before .before .step .ensures) at (c .if2 .taken))
 
 -- A try
 
 sub-slot : tie.Need-sub-slot
-sub-slot c = turn (c .before) .some (omega (arith, c .if3 .taken))
+sub-slot c = countable (c .before) .some (omega (arith, c .if3 .taken))
 
 with-accepted-requires : tie.Need-with-accepted-requires
 with-accepted-requires c κs = room (c .before .before .before .before .before)
 
 try-slot : (c : tie.Then3) → c .before .before .before .before .before .before .before .before .before .before .args .process - 1 < 96
-try-slot c = let t = turn (c .before) in omega (arith, t .some (omega (arith, c .if3 .taken)), t .most (omega (arith, c .if3 .taken)))
+try-slot c = let t = countable (c .before) in omega (arith, t .some (omega (arith, c .if3 .taken)), t .most (omega (arith, c .if3 .taken)))
 
 mul-statistics : tie.Need-mul-statistics
 mul-statistics c = omega (arith, try-slot (c .before))
@@ -74,11 +74,11 @@ element-write-statistics c = try-slot (c .before)
 -- A crit
 
 sub-slot-2 : tie.Need-sub-slot-2
-sub-slot-2 c = turn (c .before .before) .some (omega (arith, c .if4 .taken))
+sub-slot-2 c = countable (c .before .before) .some (omega (arith, c .if4 .taken))
 
 crit-slot : (c : tie.Then4) → c .before .before .before .before .before .before .before .before .before .before .before .args .process - 1 < 96
 crit-slot c =
-    let t = turn (c .before .before) in
+    let t = countable (c .before .before) in
     omega (arith, t .some (omega (arith, c .if4 .taken)), t .most (omega (arith, c .if4 .taken)))
 
 mul-tried : tie.Need-mul-tried
@@ -88,7 +88,7 @@ element-copy-out-tried : tie.Need-element-copy-out-tried
 element-copy-out-tried c = omega (arith, crit-slot c)
 
 sub-with-entry : tie.Need-sub-with-entry
-sub-with-entry c = turn (c .before .before .before) .tried _
+sub-with-entry c = countable (c .before .before .before) .tried _
 
 with-entry-requires : tie.Need-with-entry-requires
 with-entry-requires c κs = room (c .before .before .before .before .before .before .before)
@@ -115,7 +115,7 @@ with-refused-requires c κs = room (c .before .before .before .before .before .b
 returns-2 : tie.Need-returns-2
 returns-2 c =
     let a = c .before .before .before .before .before .before .before .before .before .before .before .args in
-    gives-accepted (a .state) (a .t2) (a .action) (a .process) (a .time) (countable (c .before .before .before .before .before .before))
+    gives-accepted (a .state) (a .t2) (a .action) (a .process) (a .time) (has-room (c .before .before .before .before .before .before))
     (c .before .before .before .before .before .step .ensures) (c .before .before .if2 .taken)
     (ap (λ (k : Counts). statisticsOf k (set (a .t2 .tries) (a .process - 1) (a .time))) (c .with-accepted .ensures)
     ∙ sym (counted-try (a .t2) (a .process) (a .time) (c .before .if3 .taken)))
@@ -123,7 +123,7 @@ returns-2 c =
 returns-3 : tie.Need-returns-3
 returns-3 c =
     let a = c .before .before .before .before .before .before .before .before .before .before .before .before .before .args in
-    gives-accepted (a .state) (a .t2) (a .action) (a .process) (a .time) (countable (c .before .before .before .before .before .before .before .before))
+    gives-accepted (a .state) (a .t2) (a .action) (a .process) (a .time) (has-room (c .before .before .before .before .before .before .before .before))
     (c .before .before .before .before .before .before .before .step .ensures) (c .before .before .before .before .if2 .taken)
     (ap (λ (k : Counts). statisticsOf k (set (a .t2 .tries) (a .process - 1) 0)) (c .with-entry .ensures)
     ∙ sym (counted-crit (a .t2) (a .process) (a .time) (c .before .before .if4 .taken)))
@@ -131,7 +131,7 @@ returns-3 c =
 returns-4 : tie.Need-returns-4
 returns-4 c =
     let a = c .before .before .before .before .before .before .before .before .before .before .before .before .before .args in
-    gives-accepted (a .state) (a .t2) (a .action) (a .process) (a .time) (countable (c .before .before .before .before .before .before .before .before))
+    gives-accepted (a .state) (a .t2) (a .action) (a .process) (a .time) (has-room (c .before .before .before .before .before .before .before .before))
     (c .before .before .before .before .before .before .before .step .ensures) (c .before .before .before .before .if2 .taken)
     (ap (λ (k : Counts). statisticsOf k (a .t2 .tries)) (c .with-exit .ensures)
     ∙ sym (counted-exit (a .t2) (a .process) (a .time) (c .before .if5 .taken)))
@@ -139,7 +139,7 @@ returns-4 c =
 returns-5 : tie.Need-returns-5
 returns-5 c =
     let a = c .before .before .before .before .before .before .before .before .before .before .before .before .before .args in
-    gives-accepted (a .state) (a .t2) (a .action) (a .process) (a .time) (countable (c .before .before .before .before .before .before .before .before))
+    gives-accepted (a .state) (a .t2) (a .action) (a .process) (a .time) (has-room (c .before .before .before .before .before .before .before .before))
     (c .before .before .before .before .before .before .before .step .ensures) (c .before .before .before .before .if2 .taken)
     (ap (λ (k : Counts). statisticsOf k (a .t2 .tries)) (c .with-accepted2 .ensures)
     ∙ sym (counted-other (a .t2) (a .process) (a .time) (c .before .before .before .if3 .left) (c .before .before .if4 .left) (c .before .if5 .left)))
@@ -147,14 +147,14 @@ returns-5 c =
 returns-6 : tie.Need-returns-6
 returns-6 c =
     let a = c .before .before .before .before .before .before .before .before .before .before .before .before .args in
-    gives-refused (a .state) (a .t2) (a .action) (a .process) (a .time) (countable (c .before .before .before .before .before .before .before))
+    gives-refused (a .state) (a .t2) (a .action) (a .process) (a .time) (has-room (c .before .before .before .before .before .before .before))
     (c .before .before .before .before .before .before .step .ensures) (c .before .before .before .if2 .left) (c .before .if6 .taken)
     (ap (λ (k : Counts). statisticsOf k (a .t2 .tries)) (c .with-refused .ensures))
 
 returns-7 : tie.Need-returns-7
 returns-7 c =
     let a = c .before .before .before .before .before .before .before .before .before .before .before .args in
-    gives-unsound (a .state) (a .t2) (a .action) (a .process) (a .time) (countable (c .before .before .before .before .before .before))
+    gives-unsound (a .state) (a .t2) (a .action) (a .process) (a .time) (has-room (c .before .before .before .before .before .before))
     (c .before .before .before .before .before .step .ensures) (c .if6 .left)
 
 pub record-spec : {M : Type 1} → statement M

@@ -5,9 +5,10 @@ use mathlib.Core.List.{List, [], _∷_, map}
 use lib.ListN.{length, getD, set, take}
 use Rattle.model.specs.declared.Recorded.{Recorded}
 use Rattle.model.specs.Texts.{Event}
-use Rattle.model.specs.Tallies.{Attempt}
+use Rattle.model.specs.Tallies.{Attempt, attempt}
 use Rattle.theory.specs.Tallies.{recordNext, recordAll, recordsOf, startOf}
-use Rattle.history.specs.Lists.{Tuple, over, answerRow, ending}
+use Rattle.model.specs.Readings.{over}
+use Rattle.history.specs.Lists.{Tuple, answerRow, ending}
 
 -- action, process, time
 abbrev pub eventIn : Tuple → Event
@@ -19,12 +20,7 @@ eventsOf acts answers = take (length answers) (map eventIn acts)
 
 -- the log of acts and of the answers to them, the last one first
 abbrev pub attemptIn : Tuple → Tuple → Attempt
-attemptIn act answer = record {
-  action = getD act 0 0;
-  process = getD act 1 0;
-  time = getD act 2 0;
-  code = getD answer 0 0;
-}
+attemptIn act answer = attempt (getD act 0 0) (getD act 1 0) (getD act 2 0) (getD answer 0 0)
 
 unfoldable pub logOnto : List Attempt → List Tuple → List Tuple → List Attempt
 logOnto log [] rs = log
@@ -36,25 +32,25 @@ logOf acts answers = logOnto [] acts answers
 
 -- All that `run_recorded` gives back: the answer to the fresh table, the table and the summary after the last step, and the answers
 
-pub record Thread : Type 0 where
+pub record RecordedRun : Type 0 where
   pub recorded : Recorded
   pub answers : List Tuple
 
-abbrev pub threadGave : Recorded → List Tuple → Thread
-threadGave r answers = record { recorded = r; answers = answers }
+abbrev pub recordedRunGave : Recorded → List Tuple → RecordedRun
+recordedRunGave r answers = record { recorded = r; answers = answers }
 
 -- the answer of the first, the table and the summary of the second
 abbrev pub started : Recorded → Recorded → Recorded
 started r t = record { outcome = ending (r .outcome) (t .outcome .state); statistics = t .statistics }
 
-abbrev pub threadFrom : Recorded → List Event → List Tuple → Thread
-threadFrom r es answers = threadGave (started r (recordAll r es)) (over (map answerRow (recordsOf r es)) answers)
+abbrev pub recordedRunFrom : Recorded → List Event → List Tuple → RecordedRun
+recordedRunFrom r es answers = recordedRunGave (started r (recordAll r es)) (over (map answerRow (recordsOf r es)) answers)
 
-unfoldable pub threadOf : ℕ → ℕ → ℕ → ℕ → List Tuple → List Tuple → Thread
-threadOf n a b c acts answers = threadFrom (startOf n a b c) (eventsOf acts answers) answers
+unfoldable pub recordedRunOf : ℕ → ℕ → ℕ → ℕ → List Tuple → List Tuple → RecordedRun
+recordedRunOf n a b c acts answers = recordedRunFrom (startOf n a b c) (eventsOf acts answers) answers
 
 -- One turn of the loop: the step in row i
 
-abbrev pub recordAt : Recorded → List Tuple → List Tuple → ℕ → Thread
+abbrev pub recordAt : Recorded → List Tuple → List Tuple → ℕ → RecordedRun
 recordAt r acts answers i =
-    let t = recordNext r (eventIn (getD acts i [])) in threadGave t (set answers i (answerRow t))
+    let t = recordNext r (eventIn (getD acts i [])) in recordedRunGave t (set answers i (answerRow t))

@@ -10,14 +10,15 @@ use lib.Seq.{length-take-le, take-suc, take-all, getD-take}
 use Rattle.model.specs.declared.Outcome.{Outcome}
 use Rattle.model.specs.declared.Recorded.{Recorded}
 use Rattle.model.specs.Texts.{Event}
+use Rattle.model.specs.Readings.{over}
 use Rattle.model.specs.Answers.{freshOf}
 use Rattle.model.specs.Facts.{Accepted}
 use Rattle.model.specs.Summaries.{beside}
 use Rattle.model.specs.Tallies.{Attempt}
 use Rattle.theory.specs.Tallies.{recordNext, recordAll, recordsOf, logFrom, Tallied, startOf}
 use Rattle.theory.proofs.Tallies.{every-tally}
-use Rattle.history.specs.Lists.{Tuple, over, answerRow, ending}
-use Rattle.history.specs.Threads.{eventIn, eventsOf, logOnto, logOf, Thread, threadGave, started, threadFrom, threadOf, recordAt}
+use Rattle.history.specs.Lists.{Tuple, answerRow, ending}
+use Rattle.history.specs.RecordedRuns.{eventIn, eventsOf, logOnto, logOf, RecordedRun, recordedRunGave, started, recordedRunFrom, recordedRunOf, recordAt}
 use Rattle.history.proofs.Turns.{row-at, length-over, over-snoc}
 
 -- Recorded steps
@@ -50,17 +51,17 @@ event-at acts answers i h = getD-take (length answers) (map eventIn acts) i (eve
 -- One turn
 
 pub record-at : (r : Recorded) (acts answers : List Tuple) (i : ℕ) (d : Tuple) → i < length acts → {t : Recorded}
-    → t ≡ recordNext r (eventIn (getD acts i d)) → threadGave t (set answers i (answerRow t)) ≡ recordAt r acts answers i
+    → t ≡ recordNext r (eventIn (getD acts i d)) → recordedRunGave t (set answers i (answerRow t)) ≡ recordAt r acts answers i
 record-at r acts answers i d h e =
-    ap (λ (u : Recorded). threadGave u (set answers i (answerRow u)))
+    ap (λ (u : Recorded). recordedRunGave u (set answers i (answerRow u)))
     (e ∙ ap (λ (row : Tuple). recordNext r (eventIn row)) (row-at acts i d [] h))
 
 -- the answers after a list of events, and the last step with them
 abbrev pub answersAfter : Recorded → List Event → List Tuple → List Tuple
 answersAfter r es answers = over (map answerRow (recordsOf r es)) answers
 
-abbrev pub threadAfter : Recorded → List Event → List Tuple → Thread
-threadAfter r es answers = threadGave (recordAll r es) (answersAfter r es answers)
+abbrev pub recordedRunAfter : Recorded → List Event → List Tuple → RecordedRun
+recordedRunAfter r es answers = recordedRunGave (recordAll r es) (answersAfter r es answers)
 
 module _ (r : Recorded) (es : List Event) (acts answers : List Tuple) (i : ℕ) (made : length es ≡ i) (inside : i < length answers) where
   rows-made : length (map answerRow (recordsOf r es)) ≡ i
@@ -72,25 +73,25 @@ module _ (r : Recorded) (es : List Event) (acts answers : List Tuple) (i : ℕ) 
       (over-snoc (map answerRow (recordsOf r es)) answers i rows-made inside (answerRow t))
 
   after-turn : recordAt (recordAll r es) acts (answersAfter r es answers) i
-      ≡ threadAfter r (es ++ (eventIn (getD acts i []) ∷ [])) answers
+      ≡ recordedRunAfter r (es ++ (eventIn (getD acts i []) ∷ [])) answers
   after-turn =
       let e : Event = eventIn (getD acts i []) in
       let t : Recorded = recordNext (recordAll r es) e in
-      rw (record-snoc r es e, records-snoc r es e) (ap (threadGave t) (row-stored t))
+      rw (record-snoc r es e, records-snoc r es e) (ap (recordedRunGave t) (row-stored t))
 
 -- The loop of `run_recorded`: of n steps i have been made
 
-pub record Underway (r : Recorded) (acts answers : List Tuple) (n : ℕ) (t : Thread) (i : ℕ) : Type 0 where
+pub record Underway (r : Recorded) (acts answers : List Tuple) (n : ℕ) (t : RecordedRun) (i : ℕ) : Type 0 where
   pub all : n ≡ length (eventsOf acts answers)
   pub within : i ≤ n
-  pub after : t ≡ threadAfter r (take i (eventsOf acts answers)) answers
+  pub after : t ≡ recordedRunAfter r (take i (eventsOf acts answers)) answers
 
 pub begins : (acts answers : List Tuple) {r u : Recorded} {n : ℕ} → u ≡ r → n ≡ length (eventsOf acts answers)
-    → Underway r acts answers n (threadGave u answers) 0
+    → Underway r acts answers n (recordedRunGave u answers) 0
 unfolding recordAll recordsOf
-begins acts answers e h = record { all = h; within = omega arith; after = ap (λ (q : Recorded). threadGave q answers) e }
+begins acts answers e h = record { all = h; within = omega arith; after = ap (λ (q : Recorded). recordedRunGave q answers) e }
 
-module _ {r : Recorded} {acts answers : List Tuple} {n : ℕ} {t : Thread} {i : ℕ} (g : Underway r acts answers n t i) where
+module _ {r : Recorded} {acts answers : List Tuple} {n : ℕ} {t : RecordedRun} {i : ℕ} (g : Underway r acts answers n t i) where
   length-made : length (take i (eventsOf acts answers)) ≡ i
   length-made = length-take-le i (eventsOf acts answers) (omega arith)
 
@@ -99,14 +100,14 @@ module _ {r : Recorded} {acts answers : List Tuple} {n : ℕ} {t : Thread} {i : 
       rw (add-one, ← event-at acts answers i (omega (arith, length-events acts answers)))
       (sym (take-suc (eventsOf acts answers) i (eventIn []) (omega arith)))
 
-  pub goes-on : i < n → {u : Thread} → u ≡ recordAt (t .recorded) acts (t .answers) i → Underway r acts answers n u (i + 1)
+  pub goes-on : i < n → {u : RecordedRun} → u ≡ recordAt (t .recorded) acts (t .answers) i → Underway r acts answers n u (i + 1)
   goes-on h e = record {
     all = g .all;
     within = omega arith;
     after = e
-        ∙ ap (λ (v : Thread). recordAt (v .recorded) acts (v .answers) i) (g .after)
+        ∙ ap (λ (v : RecordedRun). recordAt (v .recorded) acts (v .answers) i) (g .after)
         ∙ after-turn r (take i (eventsOf acts answers)) acts answers i length-made (omega (arith, length-events acts answers))
-        ∙ ap (λ (es : List Event). threadAfter r es answers) (one-more h);
+        ∙ ap (λ (es : List Event). recordedRunAfter r es answers) (one-more h);
   }
 
   -- the answers have become neither longer nor shorter
@@ -114,14 +115,14 @@ module _ {r : Recorded} {acts answers : List Tuple} {n : ℕ} {t : Thread} {i : 
   answers-long = rw (g .after) (length-over (map answerRow (recordsOf r (take i (eventsOf acts answers)))) answers
       (rw (length-map, length-records, length-made) (omega (arith, length-events acts answers))))
 
-pub ends : {o : Outcome} {r : Recorded} {acts answers : List Tuple} {n : ℕ} {t : Thread} {i : ℕ} → o ≡ r .outcome
+pub ends : {o : Outcome} {r : Recorded} {acts answers : List Tuple} {n : ℕ} {t : RecordedRun} {i : ℕ} → o ≡ r .outcome
     → Underway r acts answers n t i → n ≤ i
-    → threadGave (beside (t .recorded .statistics) (ending o (t .recorded .outcome .state))) (t .answers)
-    ≡ threadFrom r (eventsOf acts answers) answers
+    → recordedRunGave (beside (t .recorded .statistics) (ending o (t .recorded .outcome .state))) (t .answers)
+    ≡ recordedRunFrom r (eventsOf acts answers) answers
 ends {r = r} {acts = acts} {answers = answers} {t = t} {i = i} e g h =
     let whole : take i (eventsOf acts answers) ≡ eventsOf acts answers = take-all i (eventsOf acts answers) (omega arith) in
-    ap (λ (q : Outcome). threadGave (beside (t .recorded .statistics) (ending q (t .recorded .outcome .state))) (t .answers)) e
-    ∙ ap (λ (u : Thread). threadGave (started r (u .recorded)) (u .answers)) (rw whole at (g .after))
+    ap (λ (q : Outcome). recordedRunGave (beside (t .recorded .statistics) (ending q (t .recorded .outcome .state))) (t .answers)) e
+    ∙ ap (λ (u : RecordedRun). recordedRunGave (started r (u .recorded)) (u .answers)) (rw whole at (g .after))
 
 -- The log
 
@@ -138,8 +139,8 @@ log-onto log r (e ∷ es) (b ∷ bs) = log-onto _ (recordNext r (eventIn e)) es 
 tallied-started : {log : List Attempt} {r : Recorded} (p : Recorded) → Tallied log r → Tallied log (started p r)
 tallied-started p t = record { counts = t .counts; balance = t .balance }
 
-pub thread-tallied : (n a b c : ℕ) (acts answers : List Tuple) {t : Thread} → t ≡ threadOf n a b c acts answers
+pub recorded-run-tallied : (n a b c : ℕ) (acts answers : List Tuple) {t : RecordedRun} → t ≡ recordedRunOf n a b c acts answers
     → Accepted (freshOf n a b c) → Tallied (logOf acts (t .answers)) (t .recorded)
-unfolding threadOf
-thread-tallied n a b c acts answers e accepted = rw (e, log-onto [] (startOf n a b c) acts answers)
+unfolding recordedRunOf
+recorded-run-tallied n a b c acts answers e accepted = rw (e, log-onto [] (startOf n a b c) acts answers)
     (tallied-started (startOf n a b c) (every-tally n a b c accepted (eventsOf acts answers)))
