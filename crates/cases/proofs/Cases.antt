@@ -6,26 +6,17 @@ use mathlib.Core.Bool.{Bool, true, false, _&&_, false≢true}
 use mathlib.Core.List.{List, [], _∷_}
 use lib.Dec.{eqb}
 use borrow.Author.Tests.{eqb-true}
-use Rattle.model.specs.declared.Process.{Process}
 use Rattle.model.specs.declared.State.{State}
 use Rattle.model.specs.declared.Outcome.{Outcome}
-use Rattle.model.specs.States.{stageOf, sinceOf}
-use Rattle.model.proofs.Locations.{location-is}
+use Rattle.model.specs.Encodings.{stateNumbers}
+use Rattle.model.proofs.Encodings.{state-told}
 use Rattle.model.proofs.Tests.{and-true-iff}
-use Rattle.cases.specs.Cases.{outcomeOf, processesIn, outcomeIn, toldBy, expectedOf, Hold}
+use Rattle.cases.specs.Cases.{outcomeOf, outcomeIn, toldBy, expectedOf, Hold}
 
 -- The test
 
--- stage and since of each process
-unfoldable pub numbersIn : List Process → List ℕ
-numbersIn [] = []
-numbersIn (q ∷ qs) = stageOf (q .location) ∷ sinceOf (q .location) ∷ numbersIn qs
-
 unfoldable pub numbersOf : Outcome → List ℕ
-numbersOf o =
-    o .answer .code ∷ o .answer .process ∷ o .answer .time
-    ∷ o .state .n ∷ o .state .a ∷ o .state .b ∷ o .state .c
-    ∷ o .state .clock ∷ o .state .word ∷ numbersIn (o .state .processes)
+numbersOf o = o .answer .code ∷ o .answer .process ∷ o .answer .time ∷ stateNumbers (o .state)
 
 unfoldable pub same : List ℕ → List ℕ → Bool
 same [] [] = true
@@ -42,14 +33,9 @@ passes s (row ∷ rows) = meets s row && passes (outcomeOf s row .state) rows
 
 -- An outcome is read back from its numbers
 
-processes-told : (qs : List Process) → processesIn (numbersIn qs) ≡ qs
-unfolding processesIn numbersIn
-processes-told [] = refl
-processes-told (q ∷ qs) = λ i. record { location = sym (location-is (q .location)) i } ∷ processes-told qs i
-
 outcome-told : (o : Outcome) → outcomeIn (numbersOf o) ≡ o
 unfolding outcomeIn numbersOf
-outcome-told o = rw (processes-told (o .state .processes))
+outcome-told o = rw (state-told (o .state))
 
 -- The law
 

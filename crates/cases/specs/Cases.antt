@@ -6,11 +6,10 @@ use mathlib.Core.Bool.{cond}
 use mathlib.Core.List.{List, [], _∷_, _++_}
 use lib.ListN.{getD, drop, replicate}
 use lib.Dec.{eqb}
-use Rattle.model.specs.declared.Process.{Process}
 use Rattle.model.specs.declared.State.{State}
 use Rattle.model.specs.declared.Outcome.{Outcome}
-use Rattle.model.specs.States.{locationAt}
 use Rattle.model.specs.Answers.{answerOf, freshOf, stepOf}
+use Rattle.model.specs.Encodings.{stateIn}
 
 -- The call: 0 and n, a, b, c for a fresh state; 1 and an action, a process and a time for a step from the state s
 
@@ -21,28 +20,9 @@ outcomeOf s row =
 
 -- What must come of it, read off numbers in the order of a row
 
--- stage and since of each process
-unfoldable pub processesIn : List ℕ → List Process
-processesIn [] = []
-processesIn (stage ∷ []) = []
-processesIn (stage ∷ since ∷ rest) = record { location = locationAt stage since } ∷ processesIn rest
-
--- the answer, the six numbers of the state, and its processes
+-- the answer, and the numbers of the state
 unfoldable pub outcomeIn : List ℕ → Outcome
-outcomeIn xs =
-    record {
-      answer = answerOf (getD xs 0 0) (getD xs 1 0) (getD xs 2 0);
-      state =
-          record {
-            n = getD xs 3 0;
-            a = getD xs 4 0;
-            b = getD xs 5 0;
-            c = getD xs 6 0;
-            clock = getD xs 7 0;
-            word = getD xs 8 0;
-            processes = processesIn (drop 9 xs);
-          };
-    }
+outcomeIn xs = record { answer = answerOf (getD xs 0 0) (getD xs 1 0) (getD xs 2 0); state = stateIn (drop 3 xs) }
 
 -- what a row tells: all that follows the call, and of each of the other 94 processes the remainder, stage 0, and no since
 unfoldable pub toldBy : List ℕ → List ℕ

@@ -14,7 +14,7 @@ use Rattle.model.specs.declared.Recorded.{Recorded}
 use Rattle.model.specs.Readings.{over}
 use Rattle.model.specs.Answers.{freshOf}
 use Rattle.model.specs.Calls.{Call, callOf, tableOf, runOf, resultsOf}
-use Rattle.history.specs.Lists.{Tuple, summaryIn, callIn, Rows, rows, callsIn, callsOf}
+use Rattle.history.specs.Lists.{Tuple, summaryOf, callIn, Rows, rows, callsIn, callsOf}
 use Rattle.history.specs.Lists.{countsRow, triesRow, answerRow, overwritten, Run, runGave, ending, ranFrom, ranOf, MeetsDemand3}
 use Rattle.history.specs.Lists.{callAt, resultAt, stored, Turn, turnGave, turnOf}
 use Rattle.theory.proofs.Demand3.{every-list}
@@ -62,7 +62,7 @@ pub length-calls : (calls : List Tuple) (l : Rows)
 length-calls calls l = simp (length-take, length-calls-in) (omega arith)
 
 call-in-at : (rs cs ts : List Tuple) (i : ℕ) (d : Call) → i < length rs → i < length cs → i < length ts
-    → getD (callsIn rs cs ts) i d ≡ callIn (getD rs i []) (summaryIn (getD cs i []) (getD ts i []))
+    → getD (callsIn rs cs ts) i d ≡ callIn (getD rs i []) (summaryOf (getD cs i []) (getD ts i []))
 unfolding callsIn
 call-in-at [] cs ts i d p q r = absurd (omega arith)
 call-in-at (a ∷ rs) [] ts i d p q r = absurd (omega arith)
@@ -78,11 +78,11 @@ call-at calls l i d h =
 -- One turn
 
 pub result-at : (s : State) (calls : List Tuple) (l : Rows) (i : ℕ) (x y z : Tuple) → Inside i calls l → {lent : Statistics} {r : Recorded}
-    → lent ≡ summaryIn (getD (l .counts) i y) (getD (l .tries) i z) → r ≡ callOf s (callIn (getD calls i x) lent)
+    → lent ≡ summaryOf (getD (l .counts) i y) (getD (l .tries) i z) → r ≡ callOf s (callIn (getD calls i x) lent)
     → r ≡ resultAt s calls l i
 result-at s calls l i x y z h e made = made ∙ rw e
     (λ j. callOf s (callIn (row-at calls i x [] (h .in-calls) j)
-    (summaryIn (row-at (l .counts) i y [] (h .in-counts) j) (row-at (l .tries) i z [] (h .in-tries) j))))
+    (summaryOf (row-at (l .counts) i y [] (h .in-counts) j) (row-at (l .tries) i z [] (h .in-tries) j))))
 
 -- the results of the calls before row i have been written
 module _ (rs : List Recorded) (calls : List Tuple) (l : Rows) (i : ℕ) (made : length rs ≡ i) (inside : Inside i calls l) where
@@ -99,7 +99,7 @@ module _ (rs : List Recorded) (calls : List Tuple) (l : Rows) (i : ℕ) (made : 
   -- the next call is lent the summary that stood in its row at first
   call-next : callAt calls (overwritten rs l) i ≡ callAt calls l i
   call-next = λ j. callIn (getD calls i [])
-      (summaryIn (row-next countsRow (l .counts) (inside .in-counts) j) (row-next triesRow (l .tries) (inside .in-tries) j))
+      (summaryOf (row-next countsRow (l .counts) (inside .in-counts) j) (row-next triesRow (l .tries) (inside .in-tries) j))
 
   rows-stored : (r : Recorded) → stored (overwritten rs l) i r ≡ overwritten (rs ++ (r ∷ [])) l
   rows-stored r = λ j. rows (row-stored countsRow (l .counts) (inside .in-counts) r j)

@@ -8,13 +8,13 @@ use lib.Dec.{eqb}
 use lib.ListN.{length, getD, set, take}
 use Rattle.model.specs.declared.State.{State}
 use Rattle.model.specs.declared.Outcome.{Outcome}
-use Rattle.model.specs.declared.Counts.{Counts}
 use Rattle.model.specs.declared.Statistics.{Statistics}
 use Rattle.model.specs.declared.Recorded.{Recorded}
 use Rattle.model.specs.Readings.{over}
 use Rattle.model.specs.Answers.{freshOf}
 use Rattle.model.specs.Facts.{Accepted}
-use Rattle.model.specs.Summaries.{countsOf, statisticsOf}
+use Rattle.model.specs.Summaries.{statisticsOf}
+use Rattle.model.specs.Encodings.{countsIn, countsNumbers}
 use Rattle.model.specs.Calls.{Call, callOf, runOf, resultsOf}
 use Rattle.theory.specs.Demand3.{Demand3}
 
@@ -24,12 +24,8 @@ abbrev pub Tuple : Type 0
 Tuple = List ℕ
 
 -- a summary is a row of counts, and one of try moments
-abbrev pub summaryIn : Tuple → Tuple → Statistics
-summaryIn row tries =
-    statisticsOf (countsOf (getD row 0 0) (getD row 1 0) (getD row 2 0) (getD row 3 0) (getD row 4 0)) tries
-
-abbrev pub tupleOf : Counts → Tuple
-tupleOf k = k .accepted ∷ k .refused ∷ k .entries ∷ k .exits ∷ k .longest ∷ []
+abbrev pub summaryOf : Tuple → Tuple → Statistics
+summaryOf row tries = statisticsOf (countsIn row) tries
 
 -- kind, action, process, time: kind 0 is a step without a summary
 abbrev pub callIn : Tuple → Statistics → Call
@@ -56,14 +52,14 @@ unfoldable pub callsIn : List Tuple → List Tuple → List Tuple → List Call
 callsIn [] cs ts = []
 callsIn (r ∷ rs) [] ts = []
 callsIn (r ∷ rs) (c ∷ cs) [] = []
-callsIn (r ∷ rs) (c ∷ cs) (t ∷ ts) = callIn r (summaryIn c t) ∷ callsIn rs cs ts
+callsIn (r ∷ rs) (c ∷ cs) (t ∷ ts) = callIn r (summaryOf c t) ∷ callsIn rs cs ts
 
 abbrev pub callsOf : List Tuple → Rows → List Call
 callsOf calls l = take (length (l .answers)) (callsIn calls (l .counts) (l .tries))
 
 -- the rows of a call after it
 abbrev pub countsRow : Recorded → Tuple
-countsRow r = tupleOf (r .statistics .counts)
+countsRow r = countsNumbers (r .statistics .counts)
 
 abbrev pub triesRow : Recorded → Tuple
 triesRow r = r .statistics .tries
@@ -110,7 +106,7 @@ MeetsDemand3 n a b c calls l l′ t =
 -- One turn of the loop: the call in row i
 
 abbrev pub callAt : List Tuple → Rows → ℕ → Call
-callAt calls l i = callIn (getD calls i []) (summaryIn (getD (l .counts) i []) (getD (l .tries) i []))
+callAt calls l i = callIn (getD calls i []) (summaryOf (getD (l .counts) i []) (getD (l .tries) i []))
 
 abbrev pub resultAt : State → List Tuple → Rows → ℕ → Recorded
 resultAt s calls l i = callOf s (callAt calls l i)

@@ -4,10 +4,11 @@ use model::Counts;
 use model::Statistics;
 ghost use mathlib.Core.Path.{_≡_};
 ghost use mathlib.Core.List.{[], _∷_};
-ghost use Rattle.history.specs.Lists.{summaryIn, tupleOf};
+ghost use Rattle.model.specs.Encodings.{countsNumbers};
+ghost use Rattle.history.specs.Lists.{summaryOf};
 
 pub fn summary_in(counts: [u64; 5], tries: [u64; 96]) -> Statistics
-    ensures { λ r. ⌜ r ≡ summaryIn counts tries ⌝ }
+    ensures { λ r. ⌜ r ≡ summaryOf counts tries ⌝ }
 {
     Statistics {
         counts: Counts {
@@ -22,7 +23,7 @@ pub fn summary_in(counts: [u64; 5], tries: [u64; 96]) -> Statistics
 }
 
 pub fn tuple_of(counts: Counts) -> [u64; 5]
-    ensures { λ r. ⌜ r ≡ tupleOf counts ⌝ }
+    ensures { λ r. ⌜ r ≡ countsNumbers counts ⌝ }
 {
     [
         counts.accepted,

@@ -3,3 +3,4 @@ pub mod Tests
 pub mod Locations
 pub mod Soundness
 pub mod Given
+pub mod Encodings

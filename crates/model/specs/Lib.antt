@@ -10,3 +10,4 @@ pub mod Reports
 pub mod Summaries
 pub mod Calls
 pub mod Tallies
+pub mod Encodings

@@ -40,7 +40,8 @@ pub struct Transition {
     pub word: u64,
 }
 
-// An answer of the box: its number, a window and a moment.
+// An answer of the box: its number, a window and a moment. Its fields lie as in C, as those of a `Reading` do, for `funnelfawn`.
+#[repr(C)]
 pub struct Answer {
     pub code: u64,
     pub process: u64,
@@ -72,6 +73,7 @@ pub enum Head {
 }
 
 // What a reading answers; n, a, b, c are 0 where it is refused.
+#[repr(C)]
 pub struct Reading {
     pub answer: Answer,
     pub n: u64,

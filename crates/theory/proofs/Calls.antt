@@ -1,19 +1,23 @@
--- What a call gives back: what an accepted step does, or a refusal with the table as it was. `callOf` is taken apart here and nowhere
--- else. Assumes nothing.
+-- What a call gives back: what an accepted step does, or a refusal with the table as it was. `callOf` is taken apart here for all of
+-- the theory. Assumes nothing.
 use Prim.Native.Nat.{ℕ}
-use mathlib.Core.Path.{_≡_, refl}
+use mathlib.Core.Path.{_≡_, refl, ap}
 use mathlib.Core.Logic.{_≢_}
+use mathlib.Core.Bool.{false}
 use mathlib.Core.List.{List, [], _∷_, _++_}
 use native.Mathlib.Omega.{arith}
 use Rattle.model.specs.declared.State.{State}
 use Rattle.model.specs.declared.Outcome.{Outcome}
 use Rattle.model.specs.declared.Recorded.{Recorded}
+use Rattle.model.specs.States.{soundOf}
 use Rattle.model.specs.Answers.{answers, stepOf}
 use Rattle.model.specs.Facts.{Accepted}
+use Rattle.model.specs.Summaries.{beside}
 use Rattle.model.specs.Calls.{Call, callOf, outcomeOf, tableOf, runOf}
 use Rattle.model.proofs.Tests.{if-eq, by-cond}
+use Rattle.theory.proofs.Steps.{unsound-is}
 use Rattle.theory.proofs.Acceptance.{refused-stays}
-use Rattle.theory.proofs.RecordedSteps.{Judged, judged}
+use Rattle.theory.proofs.RecordedSteps.{Judged, judged, unsound-recorded}
 
 -- One call
 
@@ -43,6 +47,14 @@ module _ (s : State) (d : Call) where
   pub called : Called s d (outcomeOf s d)
   unfolding callOf
   called = by-cond Gives (d .recorded) (λ _. judged-called (judged s (d .lent) (d .action) (d .process) (d .time))) (λ _. step-called)
+
+  -- either kind answers 1 where the table is not sound
+  pub unsound-call : soundOf s ≡ false → callOf s d ≡ beside (d .lent) (answers 1 0 0 s)
+  unfolding callOf
+  unsound-call e =
+      by-cond (λ (r : Recorded). r ≡ beside (d .lent) (answers 1 0 0 s)) (d .recorded)
+      (λ _. unsound-recorded s (d .lent) (d .action) (d .process) (d .time) e)
+      (λ _. ap (beside (d .lent)) (unsound-is s (d .action) (d .process) (d .time) e))
 
 -- A list of calls
 

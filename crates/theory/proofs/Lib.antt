@@ -18,6 +18,7 @@ pub mod Wait
 pub mod StateView
 pub mod Moves
 pub mod Calls
+pub mod Sizes
 pub mod Reached
 pub mod Progress
 pub mod Spans
@@ -27,3 +28,5 @@ pub mod CountLaws
 pub mod ActKinds
 pub mod Countings
 pub mod Tallies
+-- Tables and summaries as numbers
+pub mod Encodings

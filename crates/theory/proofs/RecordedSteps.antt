@@ -36,6 +36,15 @@ module _ (s : State) (x : Statistics) (act p m : ℕ) where
       (λ g₂. by-cond Judged (full (x .counts)) (λ e. filled (not-false _ g₁) (not-false _ g₂) (eqb-true _ _ e))
       (λ g₃. counted (record { sound = not-false _ g₁; summary = not-false _ g₂; not-full = eqb-false _ _ g₃ }))))
 
+  pub unsound-recorded : soundOf s ≡ false → recordedOf s x act p m ≡ beside x (answers 1 0 0 s)
+  unfolding recordedOf
+  unsound-recorded e = simp e
+
+  pub summary-refused : soundOf s ≡ true → statisticsSound (s .clock) x ≡ false
+      → recordedOf s x act p m ≡ beside x (answers 2 0 0 s)
+  unfolding recordedOf
+  summary-refused e f = simp (e, f)
+
   -- What is counted, by the number of the answer
 
   pub noted-accepted : {code : ℕ} → code ≡ 0 → noted x code act p m ≡ acceptedCounted x act p m

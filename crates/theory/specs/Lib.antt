@@ -5,3 +5,4 @@ pub mod Lowest
 pub mod Summaries
 pub mod Demand3
 pub mod Tallies
+pub mod Encodings

@@ -4,13 +4,14 @@ use mathlib.Core.Path.{refl}
 use Rattle.model.specs.States.{limitOf, entriesSound, soundOf, entryOf}
 use Rattle.model.specs.Actions.{transitionOf, effect}
 use Rattle.model.specs.Answers.{soonest, lateOf, criticalFrom, criticalOf, stepOf, freshOf}
+use Rattle.model.specs.Encodings.{processNumbers, stateNumbers}
 use Rattle.cases.specs.Cases.{outcomeOf, toldBy}
-use Rattle.cases.proofs.Cases.{numbersIn, numbersOf, same, meets, passes, hold}
+use Rattle.cases.proofs.Cases.{numbersOf, same, meets, passes, hold}
 use Rattle.cases.proofs.table.Statement.{statement}
 use Rattle.cases.proofs.table.Tie as tie
 
 returns : tie.Need-returns
-unfolding passes meets same numbersOf numbersIn outcomeOf toldBy freshOf stepOf soundOf entriesSound
+unfolding passes meets same numbersOf stateNumbers processNumbers outcomeOf toldBy freshOf stepOf soundOf entriesSound
     lateOf soonest entryOf transitionOf effect criticalOf criticalFrom limitOf
 returns c = hold _ _ refl
 

@@ -1,0 +1,32 @@
+-- A table and a summary come back from their numbers, and numbers from what they tell. Assumes nothing.
+use Prim.Native.Nat.{ℕ, _≤_}
+use mathlib.Core.Path.{_≡_}
+use mathlib.Core.Bool.{true}
+use mathlib.Core.List.{List, _++_}
+use lib.ListN.{length}
+use Rattle.model.specs.declared.State.{State}
+use Rattle.model.specs.declared.Statistics.{Statistics}
+use Rattle.model.specs.Readings.{over}
+use Rattle.model.specs.Encodings.{stateNumbers, isTable, tableIn, summaryLength, statisticsNumbers, summaryIn}
+
+-- Tables, of 96 entries as each of the code is
+
+-- the numbers of a table, whatever stands after them, are those of a table, and tell that one
+abbrev pub TableComesBack : Type 0
+TableComesBack = (s : State) → length (s .processes) ≡ 96 → (rest : List ℕ)
+    → (isTable (stateNumbers s ++ rest) ≡ true) × (tableIn (stateNumbers s ++ rest) ≡ s)
+
+-- the table that numbers tell has 96 entries, and numbers that tell one are its numbers
+abbrev pub TableIsWhole : Type 0
+TableIsWhole = (l : List ℕ) → isTable l ≡ true → length (tableIn l .processes) ≡ 96
+
+abbrev pub NumbersComeBack : Type 0
+NumbersComeBack = (l : List ℕ) → isTable l ≡ true → over (stateNumbers (tableIn l)) l ≡ l
+
+-- Summaries, of 96 try moments
+
+abbrev pub SummaryComesBack : Type 0
+SummaryComesBack = (x : Statistics) → length (x .tries) ≡ 96 → (rest : List ℕ) → summaryIn (statisticsNumbers x ++ rest) ≡ x
+
+abbrev pub SummaryNumbersComeBack : Type 0
+SummaryNumbersComeBack = (l : List ℕ) → summaryLength ≤ length l → over (statisticsNumbers (summaryIn l)) l ≡ l
