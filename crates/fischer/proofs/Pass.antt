@@ -43,7 +43,7 @@ pub data Surveyed (s : State) (acting m : ℕ) (f : Survey) : Type 0 where
   faulty : soundOf s ≡ false → f .faults ≢ 0 → Surveyed s acting m f
   whole : Whole s acting m f → Surveyed s acting m f
 
-sound-parts : (s : State) → soundOf s ≡ numbersStand (numbersOf s) && entriesSound s 1 (s .processes)
+pub sound-parts : (s : State) → soundOf s ≡ numbersStand (numbersOf s) && entriesSound s 1 (s .processes)
 unfolding soundOf numbersStand
 sound-parts s = refl
 

@@ -2,6 +2,7 @@
 -- model. Assumes nothing.
 use Prim.Native.Nat.{ℕ, _-_}
 use mathlib.Core.Bool.{Bool, cond, not, _&&_}
+use mathlib.Core.List.{[]}
 use lib.Dec.{leb, ltb, eqb}
 use Rattle.model.specs.declared.Location.{Location}
 use Rattle.model.specs.declared.Location.the-variants.{Remainder, Testing, Setting, Checking, Entering, Critical, Resetting, Leaving}
@@ -14,6 +15,10 @@ use Rattle.model.specs.States.{countStands, limitsStand, clockStands, wordStand
 -- a state without its entries
 abbrev pub numbersOf : State → Numbers
 numbersOf s = record { n = s .n; a = s .a; b = s .b; c = s .c; clock = s .clock; word = s .word }
+
+-- a state of these numbers that has no entry
+abbrev pub bare : Numbers → State
+bare x = record { n = x .n; a = x .a; b = x .b; c = x .c; clock = x .clock; word = x .word; processes = [] }
 
 unfoldable pub numbersStand : Numbers → Bool
 numbersStand x = countStands (x .n) && limitsStand (x .a) (x .b) (x .c) && clockStands (x .clock) && wordStands (x .n) (x .word)

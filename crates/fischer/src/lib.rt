@@ -4,7 +4,7 @@ pub mod actions;
 pub mod answers;
 pub mod limits;
 pub mod stages;
-mod survey;
+pub mod survey;
 
 use crate::actions::WAIT;
 use crate::actions::checked;

@@ -8,7 +8,7 @@ ghost use Rattle.fischer.specs.Survey.{numbersStand};
 pub(crate) const LAST: u64 = 1000000000000;
 
 // A state without its entries.
-pub(crate) struct Numbers {
+pub struct Numbers {
     pub n: u64,
     pub a: u64,
     pub b: u64,
@@ -43,7 +43,7 @@ pub fn limits_stand(a: u64, b: u64, c: u64) -> bool
     c <= 10000000
 }
 
-pub(crate) fn numbers_stand(numbers: Numbers) -> bool
+pub fn numbers_stand(numbers: Numbers) -> bool
     ensures { λ r. ⌜ r ≡ numbersStand numbers ⌝ }
 {
     if !count_stands(numbers.n) {

@@ -1,7 +1,7 @@
-// The locations as numbers: the stage of each, and the time since which a process is there.
+// The locations as numbers: the stage of each and the time since which a process is there, and back.
 use model::Location;
 ghost use mathlib.Core.Path.{_≡_};
-ghost use Rattle.model.specs.States.{stageOf, sinceOf};
+ghost use Rattle.model.specs.States.{stageOf, sinceOf, locationAt};
 
 pub const REMAINDER: u64 = 0;
 
@@ -47,5 +47,21 @@ pub fn since_of(location: Location) -> u64
         Location::Critical => 0,
         Location::Resetting(t) => t,
         Location::Leaving(t) => t,
+    }
+}
+
+// The location of a stage and an arrival. A stage past leaving is taken for leaving: who may be given one looks at that first.
+pub fn location_at(stage: u64, since: u64) -> Location
+    ensures { λ r. ⌜ r ≡ locationAt stage since ⌝ }
+{
+    match stage {
+        0 => Location::Remainder,
+        1 => Location::Testing(since),
+        2 => Location::Setting(since),
+        3 => Location::Checking(since),
+        4 => Location::Entering(since),
+        5 => Location::Critical,
+        6 => Location::Resetting(since),
+        7..=18446744073709551615 => Location::Leaving(since),
     }
 }

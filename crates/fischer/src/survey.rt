@@ -5,7 +5,8 @@ use crate::stages::REMAINDER;
 use crate::stages::stage_of;
 use model::Location;
 ghost use mathlib.Core.Path.{_≡_};
-ghost use Rattle.fischer.specs.Survey.{nothing, faulted, criticalNoted, timedNoted, noted};
+ghost use Rattle.model.specs.States.{entrySound};
+ghost use Rattle.fischer.specs.Survey.{bare, nothing, faulted, criticalNoted, timedNoted, noted};
 
 // The fields are numbers only: a bool leaves padding, which each turn of the pass would copy.
 pub(crate) struct Survey {
@@ -107,4 +108,12 @@ pub(crate) fn note(
         | Location::Resetting(since)
         | Location::Leaving(since) => note_timed(found, numbers.clock, process, since, numbers.a),
     }
+}
+
+// Whether the entry of a process is sound beside the numbers of its state.
+pub fn entry_stands(numbers: Numbers, process: u64, location: Location) -> bool
+    ensures { λ r. ⌜ r ≡ entrySound (bare numbers) process (record { location = location }) ⌝ }
+{
+    let found = note(empty(), numbers, 0, process, location);
+    found.faults == 0
 }

@@ -1,5 +1,5 @@
 // The work of the benchmarks: the state that a case starts from, the act of each of its steps, and the loop that makes them.
-// `bench/twin.rs` has the same cases in Rust.
+// `bench/cases.rs` has the same cases in Rust.
 use libc::STDOUT_FILENO;
 use model::Location;
 use model::Process;
