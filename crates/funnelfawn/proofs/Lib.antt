@@ -1,0 +1,10 @@
+pub mod Lists
+pub mod Loading
+pub mod Saving
+pub mod Storing
+pub mod Lending
+pub mod LentSteps
+pub mod Refusals
+pub mod Writes
+pub mod LentLists
+pub mod LentTallies

@@ -1,0 +1,18 @@
+-- Laws of storing in a list from the front. Assumes nothing.
+use Prim.Native.Nat.{ℕ, _+_, _<_}
+use mathlib.Core.Path.{_≡_, _∙_}
+use mathlib.Core.List.{List, _∷_, _++_}
+use native.Mathlib.Omega.{arith}
+use native.Mathlib.Numerals.{add-one}
+use lib.ListN.{length, take, set, length-set}
+use lib.Seq.{take-suc-set, append-snoc}
+
+-- one element more is stored
+pub fill-at : {A : Type 0} (l : List A) (i : ℕ) (x : A) (rest : List A) → i < length l
+    → take (i + 1) (set l i x) ++ rest ≡ take i l ++ x ∷ rest
+fill-at l i x rest h = rw (add-one, take-suc-set l i x h) (append-snoc (take i l) x rest)
+
+-- a pair more is stored
+pub fill-pair : {A : Type 0} (l : List A) (i : ℕ) (x y : A) (rest : List A) → i + 1 < length l
+    → take (i + 1 + 1) (set (set l i x) (i + 1) y) ++ rest ≡ take i l ++ x ∷ y ∷ rest
+fill-pair l i x y rest h = fill-at (set l i x) (i + 1) y rest (simp length-set h) ∙ fill-at l i x (y ∷ rest) (omega arith)

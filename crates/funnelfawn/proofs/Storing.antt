@@ -1,0 +1,162 @@
+-- What an act stores is what it changes: the clock, the word and the entry of its process in the numbers of a table, the counts and
+-- the try moment of its process in those of a summary. Assumes nothing.
+use Prim.Native.Nat.{ℕ, zero, suc, _+_, _*_, _-_, _≤_}
+use mathlib.Core.Path.{_≡_, refl, _∙_}
+use mathlib.Core.Logic.{_⊎_, inl, inr, ⊎-elim, _≢_}
+use mathlib.Core.Bool.{_||_}
+use mathlib.Core.List.{List, [], _∷_, _++_}
+use native.Mathlib.Omega.{arith}
+use lib.Dec.{eqb, ltb}
+use lib.ListN.{length, set, length-set}
+use lib.Seq.{getD-set-same, set-getD}
+use borrow.Author.Tests.{ne-eqb, le-ltb}
+use Rattle.model.specs.declared.Process.{Process}
+use Rattle.model.specs.declared.State.{State}
+use Rattle.model.specs.declared.Transition.{Transition}
+use Rattle.model.specs.declared.Outcome.{Outcome}
+use Rattle.model.specs.declared.Counts.{Counts}
+use Rattle.model.specs.declared.Statistics.{Statistics}
+use Rattle.model.specs.declared.Recorded.{Recorded}
+use Rattle.model.specs.States.{stageOf, sinceOf}
+use Rattle.model.specs.Actions.{transitionOf, moved, effect}
+use Rattle.model.specs.Answers.{answers, stepOf}
+use Rattle.model.specs.Facts.{Accepted}
+use Rattle.model.specs.Summaries.{statisticsOf, oneRefused, countsAfter, triedAt, acceptedCounted}
+use Rattle.model.specs.Encodings.{headerLength, stride, processNumbers, stateNumbers}
+use Rattle.model.specs.Encodings.{countsLength, countsNumbers, statisticsNumbers}
+use Rattle.theory.specs.Acceptance.{Waits, Acts}
+use Rattle.funnelfawn.specs.Loading.{placedAt, stored, counted}
+use Rattle.model.proofs.Tests.{by-test, by-cond, if-eq}
+use Rattle.model.proofs.Soundness.{sound-numbers}
+use Rattle.theory.proofs.Entries.{moved-own}
+use Rattle.theory.proofs.Rows.{from-ready}
+use Rattle.theory.proofs.Steps.{stepped, accepted-is}
+use Rattle.theory.proofs.Acceptance.{accepted-iff-allowed, refused-stays}
+use Rattle.theory.proofs.RecordedSteps.{Judged, noted-accepted, noted-refused}
+
+-- The turn of an accepted act
+
+-- a process from 1 to 96 does more than wait
+record Moves (act p : ℕ) : Type 0 where
+  no-wait : act ≢ 0
+  some : 1 ≤ p
+  most : p ≤ 96
+
+accepted-turn : (s : State) (act p m : ℕ) → Accepted (stepOf s act p m) → Waits act p ⊎ Moves act p
+accepted-turn s act p m a =
+    let sound = accepted-is (stepped s act p m) a .0 .admissible .sound in
+    ⊎-elim inl
+    (λ (t : Acts s act p m). inr (omega (arith, from-ready (t .from) .some, sound-numbers s sound .count)))
+    (accepted-iff-allowed s sound act p m .0 a .turn)
+
+-- A table
+
+-- an entry among the processes is its pair among their numbers
+entries-set : (qs : List Process) (i : ℕ) (q : Process)
+    → processNumbers (set qs i q)
+    ≡ set (set (processNumbers qs) (stride * i) (stageOf (q .location))) (stride * i + 1) (sinceOf (q .location))
+unfolding processNumbers
+entries-set [] i q = refl
+entries-set (r ∷ qs) zero q = refl
+entries-set (r ∷ qs) (suc i) q =
+    let e : stride * suc i ≡ suc (suc (stride * i)) = omega arith in
+    let f : stride * suc i + 1 ≡ suc (suc (stride * i + 1)) = omega arith in
+    rw (f, e, entries-set qs i q)
+
+-- an entry stored past the header is stored among the entries
+placed-past : (n a b c t w : ℕ) (qs : List Process) (i : ℕ) (q : Process)
+    → placedAt (n ∷ a ∷ b ∷ c ∷ t ∷ w ∷ processNumbers qs) i q ≡ n ∷ a ∷ b ∷ c ∷ t ∷ w ∷ processNumbers (set qs i q)
+placed-past n a b c t w qs i q =
+    let e : headerLength + stride * i ≡ suc (suc (suc (suc (suc (suc (stride * i)))))) = omega arith in
+    let f : headerLength + stride * i + 1 ≡ suc (suc (suc (suc (suc (suc (stride * i + 1)))))) = omega arith in
+    rw (f, e, entries-set qs i q)
+
+stored-moved : (s : State) (p m : ℕ) (t : Transition) → 1 ≤ p → p ≤ 96 → length (s .processes) ≡ 96
+    → stored (stateNumbers s) (moved s p m t) p ≡ stateNumbers (moved s p m t)
+unfolding stored stateNumbers
+stored-moved s p m t some most size =
+    simp (ne-eqb p 0 (omega arith), le-ltb 96 p most, moved-own s p m t some (omega arith))
+    (placed-past (s .n) (s .a) (s .b) (s .c) m (t .word) (s .processes) (p - 1) (record { location = t .to }))
+
+-- storing keeps the length
+pub stored-length : (l : List ℕ) (s : State) (p : ℕ) → length (stored l s p) ≡ length l
+unfolding stored
+stored-length l s p = by-test (eqb p 0 || ltb 96 p) (λ e. rw e (simp length-set)) (λ e. rw e (simp length-set))
+
+-- what is stored of an outcome in the numbers of the table s, for process p
+pub record Stores (s : State) (p : ℕ) (o : Outcome) : Type 0 where
+  pub accepted : Accepted o → stored (stateNumbers s) (o .state) p ≡ stateNumbers (o .state)
+  pub refused : o .answer .code ≢ 0 → o .state ≡ s
+
+module _ (s : State) (size : length (s .processes) ≡ 96) (act p m : ℕ) where
+  effect-stored : Waits act p ⊎ Moves act p
+      → stored (stateNumbers s) (effect s act p m) p ≡ stateNumbers (effect s act p m)
+  unfolding stored effect stateNumbers
+  effect-stored (inl w) = rw (w .wait, w .nobody)
+  effect-stored (inr v) = rw (ne-eqb act 0 (v .no-wait)) (stored-moved s p m (transitionOf s act p m) (v .some) (v .most) size)
+
+  pub step-stores : Stores s p (stepOf s act p m)
+  step-stores = record {
+    accepted = λ a. rw (accepted-is (stepped s act p m) a .1) (effect-stored (accepted-turn s act p m a));
+    refused = refused-stays s act p m;
+  }
+
+  refusal-stores : {code : ℕ} → code ≢ 0 → Stores s p (answers code 0 0 s)
+  refusal-stores n = record { accepted = λ a. absurd (n a); refused = λ _. refl }
+
+  pub recorded-stores : (x : Statistics) {r : Recorded} → Judged s x act p m r → Stores s p (r .outcome)
+  recorded-stores x (Judged.no-table e) = refusal-stores (omega arith)
+  recorded-stores x (Judged.no-summary e f) = refusal-stores (omega arith)
+  recorded-stores x (Judged.filled e f g) = refusal-stores (omega arith)
+  recorded-stores x (Judged.counted o) = step-stores
+
+-- A summary
+
+-- a number stored past the counts is stored among the try moments
+tried-past : (k : Counts) (ts : List ℕ) (i v : ℕ)
+    → set (countsNumbers k ++ ts) (countsLength + i) v ≡ countsNumbers k ++ set ts i v
+tried-past k ts i v = let e : countsLength + i ≡ suc (suc (suc (suc (suc i)))) = omega arith in rw e
+
+pub counted-length : (l : List ℕ) (x : Statistics) (p : ℕ) → length (counted l x p) ≡ length l
+unfolding counted
+counted-length l x p = by-test (eqb p 0 || ltb 96 p) (λ e. rw e (simp length-set)) (λ e. rw e (simp length-set))
+
+-- what is stored of the summary y in the numbers of x, for process p
+abbrev pub CountedStored : Statistics → ℕ → Statistics → Type 0
+CountedStored x p y = counted (statisticsNumbers x) y p ≡ statisticsNumbers y
+
+module _ (x : Statistics) (p : ℕ) where
+  -- where the try moments are as they were
+  counted-kept : (k : Counts) → CountedStored x p (statisticsOf k (x .tries))
+  unfolding counted statisticsNumbers
+  counted-kept k =
+      by-test (eqb p 0) (λ e. simp e)
+      (λ e. by-test (ltb 96 p) (λ f. simp (e, f))
+      (λ f. simp (e, f) (tried-past k (x .tries) (p - 1) (triedAt x p) ∙ rw (set-getD (x .tries) (p - 1) 0))))
+
+  module _ (size : length (x .tries) ≡ 96) where
+    -- where that of p is another
+    counted-set : 1 ≤ p → p ≤ 96 → (k : Counts) (v : ℕ) → CountedStored x p (statisticsOf k (set (x .tries) (p - 1) v))
+    unfolding counted statisticsNumbers
+    counted-set some most k v =
+        simp (ne-eqb p 0 (omega arith), le-ltb 96 p most, getD-set-same (x .tries) (p - 1) v 0 (omega arith))
+        (tried-past k (x .tries) (p - 1) v)
+
+    accepted-counted : (act m : ℕ) → Waits act p ⊎ Moves act p → CountedStored x p (acceptedCounted x act p m)
+    unfolding acceptedCounted
+    accepted-counted act m (inl w) = rw (w .wait) (counted-kept _)
+    accepted-counted act m (inr v) =
+        let k = countsAfter (x .counts) act m (triedAt x p) in
+        let P : List ℕ → Type 0 = λ ts. CountedStored x p (statisticsOf k ts) in
+        by-cond P (eqb act 1) (λ e. counted-set (v .some) (v .most) k m)
+        (λ e. by-cond P (eqb act 5) (λ f. counted-set (v .some) (v .most) k 0)
+        (λ f. counted-kept k))
+
+    pub recorded-counted : (s : State) (act m : ℕ) {r : Recorded} → Judged s x act p m r
+        → CountedStored x p (r .statistics)
+    recorded-counted s act m (Judged.no-table e) = counted-kept (x .counts)
+    recorded-counted s act m (Judged.no-summary e f) = counted-kept (x .counts)
+    recorded-counted s act m (Judged.filled e f g) = counted-kept (x .counts)
+    recorded-counted s act m (Judged.counted o) = if-eq (stepOf s act p m .answer .code) 0
+        (λ e. rw (noted-accepted s x act p m e) (accepted-counted act m (accepted-turn s act p m e)))
+        (λ n. rw (noted-refused s x act p m n) (counted-kept (oneRefused (x .counts))))

@@ -1,0 +1,56 @@
+-- `funnelfawn::funnelfawn_fresh` meets its contract: 11 and 12 before 16, and the table over the first numbers. Assumes nothing.
+use mathlib.Core.Path.{sym}
+use borrow.Author.Needs.{needs}
+use lib.Seq.{length-take-le}
+use Rattle.funnelfawn.proofs.Lending.{fresh-refused, fresh-short, fresh-saved}
+use Rattle.funnelfawn.proofs.funnelfawn_fresh.Statement.{statement}
+use Rattle.funnelfawn.proofs.funnelfawn_fresh.Tie as tie
+
+fresh-requires : tie.Need-fresh-requires
+fresh-requires c κs = search needs
+
+returns : tie.Need-returns
+returns c =
+    let a = c .before .before .before .before .before .args in
+    fresh-refused (a .n) (a .a) (a .b) (a .c) (a .table .now) (c .before .before .before .fresh .ensures) (c .if1 .taken)
+
+answer-with-requires : tie.Need-answer-with-requires
+answer-with-requires c κs = search needs
+
+returns-2 : tie.Need-returns-2
+returns-2 c =
+    let a = c .before .before .before .before .before .before .before .args in
+    fresh-short (a .n) (a .a) (a .b) (a .c) (a .table .now) (c .before .before .before .before .before .fresh .ensures)
+    (c .before .before .if1 .left) (c .before .if2 .taken) (c .answer-with .ensures)
+
+slice-relend-prefix-save : tie.Need-slice-relend-prefix-save
+slice-relend-prefix-save c = search needs
+
+slice-aggregate-save : tie.Need-slice-aggregate-save
+slice-aggregate-save c = sym (search (needs, length-take-le))
+
+save-requires : tie.Need-save-requires
+save-requires c κs = search (needs, length-take-le)
+
+same-length : tie.Need-same-length
+same-length c = search needs
+
+returns-3 : tie.Need-returns-3
+returns-3 c =
+    let a = c .before .before .before .before .before .before .before .before .before .before .args in
+    fresh-saved (a .n) (a .a) (a .b) (a .c) (a .table .now) (c .before .before .before .before .before .before .before .before .fresh .ensures)
+    (c .before .before .before .before .before .if1 .left) (c .before .before .before .before .if2 .left) (c .before .before .save .ensures)
+
+pub funnelfawn-fresh-spec : {M : Type 1} → statement M
+funnelfawn-fresh-spec =
+    tie.close
+    (tie.spec
+    fresh-requires
+    returns
+    answer-with-requires
+    returns-2
+    slice-relend-prefix-save
+    slice-aggregate-save
+    save-requires
+    same-length
+    returns-3)

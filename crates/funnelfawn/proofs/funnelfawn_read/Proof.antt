@@ -1,0 +1,22 @@
+-- `funnelfawn::funnelfawn_read` meets its contract: it is that of `trace::read`. Assumes nothing.
+use borrow.Author.Needs.{needs}
+use Rattle.funnelfawn.proofs.funnelfawn_read.Statement.{statement}
+use Rattle.funnelfawn.proofs.funnelfawn_read.Tie as tie
+
+read-requires : tie.Need-read-requires
+read-requires c κs = search needs
+
+same-length : tie.Need-same-length
+same-length c = search needs
+
+same-length-2 : tie.Need-same-length-2
+same-length-2 c = search needs
+
+same-length-3 : tie.Need-same-length-3
+same-length-3 c = search needs
+
+returns : tie.Need-returns
+returns c = c .before .before .before .before .before .before .read .ensures
+
+pub funnelfawn-read-spec : {M : Type 1} → statement M
+funnelfawn-read-spec = tie.close (tie.spec read-requires same-length same-length-2 same-length-3 returns)

@@ -1,0 +1,139 @@
+// The box for callers in C: each function takes numbers and lists of numbers, any at all, and gives back what its definition says, the
+// lent numbers included. include/funnelfawn.h says the same in C.
+mod summaries;
+mod tables;
+
+use crate::summaries::SUMMARY;
+use crate::tables::TABLE;
+use fischer::answers::answer_with;
+use fischer::fresh;
+use fischer::step;
+use model::Answer;
+use model::Reading;
+use report::report;
+use statistics::record;
+ghost use mathlib.Core.Path.{_≡_};
+ghost use Rattle.model.specs.Readings.{lists, readGave, readOf};
+ghost use Rattle.model.specs.Writings.{eventsOf, writeGave, writeOf};
+ghost use Rattle.model.specs.Reports.{reportOf};
+ghost use Rattle.funnelfawn.specs.Interface.{lentGave, lentFresh, lentStep, recordGave, lentRecord, summaryGave, lentSummary};
+
+// A fresh table, in the lent numbers.
+#[no_mangle]
+pub extern "C" fn funnelfawn_fresh(n: u64, a: u64, b: u64, c: u64, table: &mut [u64]) -> Answer
+    ensures { λ r. ⌜ lentGave r (now (table .exit)) ≡ lentFresh n a b c (now (table .entry)) ⌝ }
+{
+    let outcome = fresh(n, a, b, c);
+    let answer = outcome.answer;
+    if answer.code != 0 {
+        return answer;
+    }
+    if table.len() < TABLE {
+        return answer_with(16, 0, 0);
+    }
+    tables::save(&mut table[..TABLE], outcome.state);
+    answer
+}
+
+// One act, in the lent table.
+#[no_mangle]
+pub extern "C" fn funnelfawn_step(table: &mut [u64], action: u64, process: u64, time: u64) -> Answer
+    ensures { λ r. ⌜ lentGave r (now (table .exit)) ≡ lentStep (now (table .entry)) action process time ⌝ }
+{
+    if table.len() < TABLE {
+        return answer_with(1, 0, 0);
+    }
+    let loaded = tables::load(&table[..TABLE]);
+    if loaded.faults != 0 {
+        return answer_with(1, 0, 0);
+    }
+    let outcome = step(loaded.state, action, process, time);
+    let answer = outcome.answer;
+    if answer.code == 0 {
+        tables::store(&mut table[..TABLE], outcome.state, process);
+    }
+    answer
+}
+
+// A new summary, in the lent numbers.
+#[no_mangle]
+pub extern "C" fn funnelfawn_new_summary(summary: &mut [u64]) -> Answer
+    ensures { λ r. ⌜ summaryGave r (now (summary .exit)) ≡ lentSummary (now (summary .entry)) ⌝ }
+{
+    if summary.len() < SUMMARY {
+        return answer_with(16, 0, 0);
+    }
+    summaries::clear(&mut summary[..SUMMARY]);
+    answer_with(0, 0, 0)
+}
+
+// One act, in the lent table, counted in the lent summary.
+#[no_mangle]
+pub extern "C" fn funnelfawn_record(
+    table: &mut [u64],
+    summary: &mut [u64],
+    action: u64,
+    process: u64,
+    time: u64,
+) -> Answer
+    ensures { λ r. ⌜ recordGave r (now (table .exit)) (now (summary .exit)) ≡ lentRecord (now (table .entry)) (now (summary .entry)) action process time ⌝ }
+{
+    if table.len() < TABLE {
+        return answer_with(1, 0, 0);
+    }
+    let loaded = tables::load(&table[..TABLE]);
+    if loaded.faults != 0 {
+        return answer_with(1, 0, 0);
+    }
+    if summary.len() < SUMMARY {
+        return answer_with(2, 0, 0);
+    }
+    let lent = summaries::load(&summary[..SUMMARY]);
+    let recorded = record(loaded.state, lent, action, process, time);
+    let outcome = recorded.outcome;
+    let answer = outcome.answer;
+    if answer.code == 0 {
+        tables::store(&mut table[..TABLE], outcome.state, process);
+    }
+    // a refusal is counted too; 2 and 3 give the summary back as it was
+    summaries::store(&mut summary[..SUMMARY], recorded.statistics, process);
+    answer
+}
+
+// Reads a recording: its steps go to the three lists.
+#[no_mangle]
+pub extern "C" fn funnelfawn_read(
+    text: &[u8],
+    times: &mut [u64],
+    processes: &mut [u64],
+    actions: &mut [u64],
+) -> Reading
+    ensures { λ r. ⌜ readGave r (lists (now (times .exit)) (now (processes .exit)) (now (actions .exit))) ≡ readOf (now (text .entry)) (lists (now (times .entry)) (now (processes .entry)) (now (actions .entry))) ⌝ }
+{
+    trace::read(text, times, processes, actions)
+}
+
+// Writes a recording of the steps in the three lists.
+#[no_mangle]
+pub extern "C" fn funnelfawn_write(
+    n: u64,
+    a: u64,
+    b: u64,
+    c: u64,
+    times: &[u64],
+    processes: &[u64],
+    actions: &[u64],
+    out: &mut [u8],
+) -> Answer
+    ensures { λ r. ⌜ writeGave r (now (out .exit)) ≡ writeOf n a b c (eventsOf (lists (now (times .entry)) (now (processes .entry)) (now (actions .entry)))) (now (out .entry)) ⌝ }
+{
+    trace::write(n, a, b, c, times, processes, actions, out)
+}
+
+// Writes what `replay` prints for a recording.
+#[no_mangle]
+pub extern "C" fn funnelfawn_replay(text: &[u8], out: &mut [u8]) -> Answer
+    ensures { λ r. ⌜ writeGave r (now (out .exit)) ≡ reportOf (now (text .entry)) (now (out .entry)) ⌝ }
+{
+    report(text, out)
+}

@@ -1,0 +1,203 @@
+// A table of windows in lent numbers: n, a, b, c, clock, word, and then of each window its place and its arrival. A table is read
+// whole, for `step` takes it by value; of an accepted act only what may have changed is written.
+use fischer::limits::Numbers;
+use fischer::limits::numbers_stand;
+use fischer::stages::LEAVING;
+use fischer::stages::REMAINDER;
+use fischer::stages::location_at;
+use fischer::stages::since_of;
+use fischer::stages::stage_of;
+use fischer::survey::entry_stands;
+use model::Location;
+use model::Process;
+use model::State;
+ghost use mathlib.Core.Path.{_≡_};
+ghost use mathlib.Core.Bool.{_&&_};
+ghost use Prim.Native.Nat.{_+_, _*_, _<_, _≤_};
+ghost use lib.ListN.{length, drop, set};
+ghost use lib.Dec.{eqb};
+ghost use Rattle.model.specs.Stages.{remainder};
+ghost use Rattle.model.specs.States.{entrySound, locationAt};
+ghost use Rattle.model.specs.Encodings.{headerLength, stride, tableLength, isEntry, stateIn, stateNumbers};
+ghost use Rattle.fischer.specs.Survey.{bare, numbersOf};
+ghost use Rattle.funnelfawn.specs.Loading.{areIdle, Loads, placedAt, stored};
+
+// the numbers before the entries
+const HEADER: usize = 6;
+
+// the numbers of an entry
+const STRIDE: usize = 2;
+
+pub(crate) const TABLE: usize = HEADER + STRIDE * 96;
+
+// where the clock stands, and the word after it
+const CLOCK: usize = 4;
+
+const WORD: usize = CLOCK + 1;
+
+// A stage and an arrival that tell a location.
+fn is_entry(stage: u64, since: u64) -> bool
+    ensures { λ r. ⌜ r ≡ isEntry stage since ⌝ }
+{
+    if LEAVING < stage {
+        return false;
+    }
+    since_of(location_at(stage, since)) == since
+}
+
+// A stage and an arrival that tell a sound entry. Most processes are in the remainder: that is looked at first. The order of the other
+// two is the faster one.
+fn stands(numbers: Numbers, process: u64, stage: u64, since: u64) -> bool
+    ensures { λ r. ⌜ r ≡ (isEntry stage since && entrySound (bare numbers) process (record { location = locationAt stage since })) ⌝ }
+{
+    if stage == REMAINDER {
+        return since == 0;
+    }
+    if !entry_stands(numbers, process, location_at(stage, since)) {
+        return false;
+    }
+    is_entry(stage, since)
+}
+
+fn is_idle(stage: u64, since: u64) -> bool
+    ensures { λ r. ⌜ r ≡ (eqb stage remainder && eqb since 0) ⌝ }
+{
+    if stage != REMAINDER {
+        return false;
+    }
+    since == 0
+}
+
+// The entries from a place on are in the remainder.
+fn are_idle(table: &[u64], from: usize) -> bool
+    requires { ⌜ length (now table) ≡ tableLength ⌝ }
+    requires { ⌜ from ≤ 96 ⌝ }
+    ensures { λ r. ⌜ r ≡ areIdle (drop (headerLength + stride * from) (now (table .entry))) ⌝ }
+{
+    let mut i = from;
+    while i < 96 {
+        let stage = table[HEADER + STRIDE * i];
+        let since = table[HEADER + STRIDE * i + 1];
+        if !is_idle(stage, since) {
+            break;
+        }
+        i += 1;
+    }
+    i == 96
+}
+
+fn numbers_in(table: &[u64]) -> Numbers
+    requires { ⌜ length (now table) ≡ tableLength ⌝ }
+    ensures { λ r. ⌜ r ≡ numbersOf (stateIn (now (table .entry))) ⌝ }
+{
+    Numbers {
+        n: table[0],
+        a: table[1],
+        b: table[2],
+        c: table[3],
+        clock: table[CLOCK],
+        word: table[WORD],
+    }
+}
+
+// What was read: 0 where the numbers tell a sound table, else 1; and the table, as far as it was read.
+pub(crate) struct Loaded {
+    pub faults: u64,
+    pub state: State,
+}
+
+// Reads a table, up to what is not sound in it. Above n there is nothing to read: there all have to be in the remainder, where they are
+// from the start. It leaves in one place: a state that is returned in two is copied byte by byte.
+pub(crate) fn load(table: &[u64]) -> Loaded
+    requires { ⌜ length (now table) ≡ tableLength ⌝ }
+    ensures { λ r. ⌜ Loads (now (table .entry)) r ⌝ }
+{
+    let numbers = numbers_in(table);
+    let mut processes = [Process {
+        location: Location::Remainder,
+    }; 96];
+    let mut faults: u64 = 1;
+    if numbers_stand(numbers) {
+        let n = numbers.n as usize;
+        let mut i: usize = 0;
+        while i < n {
+            let stage = table[HEADER + STRIDE * i];
+            let since = table[HEADER + STRIDE * i + 1];
+            if !stands(numbers, (i as u64) + 1, stage, since) {
+                break;
+            }
+            let location = location_at(stage, since);
+            processes[i] = Process { location: location };
+            i += 1;
+        }
+        if i == n {
+            if are_idle(table, n) {
+                faults = 0;
+            }
+        }
+    }
+    Loaded {
+        faults: faults,
+        state: State {
+            n: numbers.n,
+            a: numbers.a,
+            b: numbers.b,
+            c: numbers.c,
+            clock: numbers.clock,
+            word: numbers.word,
+            processes: processes,
+        },
+    }
+}
+
+fn put_pair(table: &mut [u64], at: usize, x: u64, y: u64)
+    requires { ⌜ at + 1 < length (now table) ⌝ }
+    ensures { λ _. ⌜ now (table .exit) ≡ set (set (now (table .entry)) at x) (at + 1) y ⌝ }
+{
+    table[at] = x;
+    table[at + 1] = y;
+}
+
+fn put_entry(table: &mut [u64], i: usize, entry: Process)
+    requires { ⌜ length (now table) ≡ tableLength ⌝ }
+    requires { ⌜ i < 96 ⌝ }
+    ensures { λ _. ⌜ now (table .exit) ≡ placedAt (now (table .entry)) i entry ⌝ }
+{
+    let location = entry.location;
+    let stage = stage_of(location);
+    let since = since_of(location);
+    put_pair(table, HEADER + STRIDE * i, stage, since);
+}
+
+// Writes a whole table.
+pub(crate) fn save(table: &mut [u64], state: State)
+    requires { ⌜ length (now table) ≡ tableLength ⌝ }
+    ensures { λ _. ⌜ now (table .exit) ≡ stateNumbers state ⌝ }
+{
+    put_pair(table, 0, state.n, state.a);
+    put_pair(table, 2, state.b, state.c);
+    put_pair(table, CLOCK, state.clock, state.word);
+    let mut i: usize = 0;
+    while i < 96 {
+        let entry = state.processes[i];
+        put_entry(table, i, entry);
+        i += 1;
+    }
+}
+
+// Writes what an act of a process may have changed: the clock, the word and the entry of the process.
+pub(crate) fn store(table: &mut [u64], state: State, process: u64)
+    requires { ⌜ length (now table) ≡ tableLength ⌝ }
+    ensures { λ _. ⌜ now (table .exit) ≡ stored (now (table .entry)) state process ⌝ }
+{
+    put_pair(table, CLOCK, state.clock, state.word);
+    if process == 0 {
+        return;
+    }
+    if 96 < process {
+        return;
+    }
+    let i = (process - 1) as usize;
+    let entry = state.processes[i];
+    put_entry(table, i, entry);
+}
