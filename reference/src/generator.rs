@@ -3,9 +3,9 @@
 
 mod damage;
 mod length;
-mod lists;
-mod random;
-mod walk;
+pub mod lists;
+pub mod random;
+pub mod walk;
 
 use crate::list::List;
 use random::Random;

@@ -140,7 +140,7 @@ fn line(name: &str, numbers: &[u64]) -> String {
 }
 
 /// The places in the paper's order.
-fn number_of(place: Place) -> u64 {
+pub fn number_of(place: Place) -> u64 {
     match place {
         Place::Remainder => 0,
         Place::Testing(_) => 1,

@@ -63,7 +63,7 @@ fn lent(random: &mut Random, clock: u64, left: &Summary, wild: u64) -> (bool, Su
 }
 
 /// A sound one with any counts.
-fn foreign(random: &mut Random, clock: u64) -> Summary {
+pub fn foreign(random: &mut Random, clock: u64) -> Summary {
     let most = random.pick(&[0, 3, 1_000, SUMMARY_END / 2]);
     let accepted = random.between(0, most);
     let entries = random.between(0, accepted);
@@ -82,7 +82,7 @@ fn foreign(random: &mut Random, clock: u64) -> Summary {
 }
 
 /// One that is full, that one more act makes full, or that is not sound in one way.
-fn unsound_or_full(random: &mut Random, clock: u64) -> Summary {
+pub fn unsound_or_full(random: &mut Random, clock: u64) -> Summary {
     let mut summary = foreign(random, clock);
     match random.below(9) {
         0 | 1 => summary.refused = SUMMARY_END - summary.accepted,

@@ -1,0 +1,57 @@
+//! Acts for a sound table: mostly those that a walk at it would take, now and then with a number that is wild.
+
+use reference::generator::random::Random;
+use reference::generator::walk::Walk;
+use reference::list::number_of;
+use reference::machine::{Table, CLOCK_END, LIMIT_END};
+
+/// Act, window and moment.
+pub fn act(random: &mut Random, table: &Table) -> [u64; 3] {
+    let mut call = if random.chance(15) { last_window(table) } else { likely(random, table) };
+    if random.chance(6) {
+        let place = random.index(call.len());
+        call[place] = any_number(random, call[place]);
+    }
+    call
+}
+
+fn likely(random: &mut Random, table: &Table) -> [u64; 3] {
+    let (focus, wild) = (table.values.n.min(random.pick(&[4, 96])), random.pick(&[2, 2, 30]));
+    let step = Walk { random, table: *table, focus, pause: 3 }.step(wild);
+    [step.act, step.window, step.time]
+}
+
+/// The act that leaves the place of window n, the last with an entry of its own. The acts are numbered one above the places they leave.
+fn last_window(table: &Table) -> [u64; 3] {
+    let n = table.values.n;
+    let moment = table.earliest(n).unwrap_or(0).max(table.clock);
+    [number_of(table.place(n)) + 1, n, moment]
+}
+
+/// The edges of the paper's rules, and those of smaller numbers than 64 bits hold.
+const EDGES: [u64; 14] = [
+    0,
+    1,
+    8,
+    9,
+    96,
+    97,
+    LIMIT_END,
+    LIMIT_END + 1,
+    CLOCK_END,
+    CLOCK_END + 1,
+    1 << 32,
+    1 << 63,
+    u64::MAX - 1,
+    u64::MAX,
+];
+
+/// An edge, a number that differs from the given one by 1 or in one bit, or any at all.
+pub fn any_number(random: &mut Random, given: u64) -> u64 {
+    match random.below(5) {
+        0 | 1 => random.pick(&EDGES),
+        2 => given.wrapping_add(random.pick(&[1, u64::MAX])),
+        3 => given ^ (1 << random.below(64)),
+        _ => random.below(u64::MAX),
+    }
+}

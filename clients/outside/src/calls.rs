@@ -1,0 +1,93 @@
+//! Calls of the library through `funnelfawn::raw`: each is made on lists as they are lent and held to what is expected of it.
+
+use crate::lent::Lent;
+use funnelfawn::raw;
+use reference::answer::Answer;
+use reference::machine::Values;
+
+/// Behind every list that is lent.
+const GUARD: u64 = 0xF0F0_F0F0_F0F0_F0F0;
+const GUARD_BYTE: u8 = b'~';
+
+/// What a call gave back is what it should be, or what differs first.
+pub type Verdict = Result<(), String>;
+
+/// The answer of a call beside the wanted one, and lists that it left beside what they should hold.
+fn held<const LISTS: usize>(
+    got: raw::Answer,
+    wanted: Answer,
+    lists: [(&str, &Lent<u64>, &[u64]); LISTS],
+) -> Verdict {
+    same_answer(got, wanted)?;
+    let first = lists.into_iter().find_map(|(name, lent, wanted)| lent.difference(name, wanted));
+    first.map_or(Ok(()), Err)
+}
+
+fn same_answer(got: raw::Answer, wanted: Answer) -> Verdict {
+    let got = [got.number, got.window, got.moment];
+    let wanted = [wanted.number, wanted.window, wanted.moment];
+    if got != wanted {
+        return Err(format!("the answer is {got:?}, not {wanted:?}"));
+    }
+    Ok(())
+}
+
+pub fn fresh(values: Values, table: &[u64], wanted: (Answer, &[u64])) -> Verdict {
+    let mut lent = Lent::new(table, GUARD);
+    let Values { n, a, b, c } = values;
+    let got = raw::fresh(n, a, b, c, lent.list());
+    held(got, wanted.0, [("table", &lent, wanted.1)])
+}
+
+pub fn step(table: &[u64], [act, window, moment]: [u64; 3], wanted: (Answer, &[u64])) -> Verdict {
+    let mut lent = Lent::new(table, GUARD);
+    let got = raw::step(lent.list(), act, window, moment);
+    held(got, wanted.0, [("table", &lent, wanted.1)])
+}
+
+pub fn new_summary(summary: &[u64], wanted: (Answer, &[u64])) -> Verdict {
+    let mut lent = Lent::new(summary, GUARD);
+    let got = raw::new_summary(lent.list());
+    held(got, wanted.0, [("summary", &lent, wanted.1)])
+}
+
+pub fn record(
+    table: &[u64],
+    summary: &[u64],
+    [act, window, moment]: [u64; 3],
+    wanted: (Answer, &[u64], &[u64]),
+) -> Verdict {
+    let (mut table, mut summary) = (Lent::new(table, GUARD), Lent::new(summary, GUARD));
+    let got = raw::record(table.list(), summary.list(), act, window, moment);
+    held(got, wanted.0, [("table", &table, wanted.1), ("summary", &summary, wanted.2)])
+}
+
+/// The three lists are times, windows, acts.
+pub fn read(text: &[u8], lists: &[Vec<u64>; 3], wanted: (Answer, Values, &[Vec<u64>; 3])) -> Verdict {
+    let [mut times, mut windows, mut acts] = lists.each_ref().map(|list| Lent::new(list, GUARD));
+    let got = raw::read(text, times.list(), windows.list(), acts.list());
+    let (answer, values, after) = wanted;
+    let lists =
+        [("times", &times, &after[0][..]), ("windows", &windows, &after[1]), ("acts", &acts, &after[2])];
+    held(got.answer, answer, lists)?;
+    let got = Values { n: got.n, a: got.a, b: got.b, c: got.c };
+    if got != values {
+        return Err(format!("the values are {got:?}, not {values:?}"));
+    }
+    Ok(())
+}
+
+pub fn write(values: Values, lists: &[Vec<u64>; 3], out: &[u8], wanted: (Answer, &[u8])) -> Verdict {
+    let mut lent = Lent::new(out, GUARD_BYTE);
+    let Values { n, a, b, c } = values;
+    let got = raw::write([n, a, b, c], &lists[0], &lists[1], &lists[2], lent.list());
+    same_answer(got, wanted.0)?;
+    lent.difference("output", wanted.1).map_or(Ok(()), Err)
+}
+
+pub fn replay(text: &[u8], out: &[u8], wanted: (Answer, &[u8])) -> Verdict {
+    let mut lent = Lent::new(out, GUARD_BYTE);
+    let got = raw::replay(text, lent.list());
+    same_answer(got, wanted.0)?;
+    lent.difference("output", wanted.1).map_or(Ok(()), Err)
+}

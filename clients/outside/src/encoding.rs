@@ -1,0 +1,69 @@
+//! Tables and summaries of the reference as the numbers of include/funnelfawn.h, and back.
+
+use funnelfawn::raw::{HEADER, STRIDE, SUMMARY, TABLE, TRIES};
+use reference::list::number_of;
+use reference::machine::{Place, Table, Values, WINDOWS};
+use reference::summary::Summary;
+
+/// The table that a list starts with, if it is long enough and its numbers tell one, sound or not.
+pub fn table_in(numbers: &[u64]) -> Option<Table> {
+    let &[n, a, b, c, clock, word, ref entries @ ..] = numbers.get(..TABLE)? else { return None };
+    let mut places = [Place::Remainder; WINDOWS];
+    for (place, entry) in places.iter_mut().zip(entries.chunks(STRIDE)) {
+        *place = place_in(entry[0], entry[1])?;
+    }
+    Some(Table { values: Values { n, a, b, c }, clock, word, places })
+}
+
+/// "Remainder and selling carry none": beside them stands 0.
+fn place_in(number: u64, arrival: u64) -> Option<Place> {
+    let place = match number {
+        0 => Place::Remainder,
+        1 => Place::Testing(arrival),
+        2 => Place::Setting(arrival),
+        3 => Place::Checking(arrival),
+        4 => Place::Entering(arrival),
+        5 => Place::Selling,
+        6 => Place::Resetting(arrival),
+        7 => Place::Leaving(arrival),
+        _ => return None,
+    };
+    (place.arrival().unwrap_or(0) == arrival).then_some(place)
+}
+
+/// Over the start of a list that is long enough.
+pub fn store_table(table: &Table, numbers: &mut [u64]) {
+    let Values { n, a, b, c } = table.values;
+    numbers[..HEADER].copy_from_slice(&[n, a, b, c, table.clock, table.word]);
+    for (entry, &place) in numbers[HEADER..TABLE].chunks_mut(STRIDE).zip(&table.places) {
+        entry.copy_from_slice(&[number_of(place), place.arrival().unwrap_or(0)]);
+    }
+}
+
+pub fn table_numbers(table: &Table) -> Vec<u64> {
+    let mut numbers = vec![0; TABLE];
+    store_table(table, &mut numbers);
+    numbers
+}
+
+/// The summary that a list starts with, if it is long enough.
+pub fn summary_in(numbers: &[u64]) -> Option<Summary> {
+    let &[accepted, refused, entries, exits, longest_wait, ref tries @ ..] = numbers.get(..SUMMARY)? else {
+        return None;
+    };
+    let try_moments = tries.try_into().ok()?;
+    Some(Summary { accepted, refused, entries, exits, longest_wait, try_moments })
+}
+
+/// Over the start of a list that is long enough.
+pub fn store_summary(summary: &Summary, numbers: &mut [u64]) {
+    let Summary { accepted, refused, entries, exits, longest_wait, try_moments } = summary;
+    numbers[..TRIES].copy_from_slice(&[*accepted, *refused, *entries, *exits, *longest_wait]);
+    numbers[TRIES..SUMMARY].copy_from_slice(try_moments);
+}
+
+pub fn summary_numbers(summary: &Summary) -> Vec<u64> {
+    let mut numbers = vec![0; SUMMARY];
+    store_summary(summary, &mut numbers);
+    numbers
+}

@@ -1,0 +1,12 @@
+//! The library for C, seen from outside and held to the reference: what the programs `vectors` and `differential` share.
+//! A list is lent as numbers, so what a call leaves is compared number by number, and past the list's end too.
+
+pub mod acts;
+pub mod calls;
+pub mod encoding;
+pub mod expected;
+pub mod lent;
+pub mod lists;
+pub mod stored;
+pub mod tables;
+pub mod texts;

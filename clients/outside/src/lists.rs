@@ -1,0 +1,122 @@
+//! Lists of numbers as they are lent: those of a table or a summary, whole, damaged, cut short, and with more behind them.
+
+use crate::acts::any_number;
+use crate::encoding::{summary_numbers, table_numbers};
+use funnelfawn::raw::{HEADER, STRIDE, TABLE};
+use reference::generator::lists::{foreign, unsound_or_full};
+use reference::generator::random::Random;
+use reference::machine::{Table, Values, CLOCK_END, LIMIT_END};
+use reference::summary::Summary;
+
+/// A list of numbers to be lent, and whether they start with those that they were made from.
+pub struct Made {
+    pub numbers: Vec<u64>,
+    pub own: bool,
+}
+
+/// The numbers of a table, of which some are damaged or missing that many times in a hundred; some have more numbers behind them.
+pub fn lent_table(random: &mut Random, table: &Table, percent: u64) -> Made {
+    let mut numbers = table_numbers(table);
+    let own = !random.chance(percent);
+    if !own {
+        damage_table(random, table, &mut numbers);
+    }
+    lengthen(random, &mut numbers);
+    Made { numbers, own }
+}
+
+fn damage_table(random: &mut Random, table: &Table, numbers: &mut Vec<u64>) {
+    let within = random.between(1, table.values.n);
+    match random.below(8) {
+        0 => change(random, &mut numbers[..HEADER]),
+        1 => change(random, &mut numbers[..TABLE]),
+        2 => edge(random, table, &mut numbers[..HEADER]),
+        3 => entry(numbers, within)[0] = random.pick(&[8, 9, 255, 256, 261, 1 << 32, u64::MAX]),
+        4 => entry(numbers, within).copy_from_slice(&untimed(random, table)),
+        5 => entry(numbers, within).copy_from_slice(&overdue(random, table)),
+        6 => above(random, table, numbers),
+        _ => cut(random, numbers),
+    }
+}
+
+fn entry(numbers: &mut [u64], window: u64) -> &mut [u64] {
+    let start = HEADER + STRIDE * (window as usize - 1);
+    &mut numbers[start..start + STRIDE]
+}
+
+/// One number changed to anything.
+fn change(random: &mut Random, numbers: &mut [u64]) {
+    let place = random.index(numbers.len());
+    numbers[place] = any_number(random, numbers[place]);
+}
+
+/// One number of the table's first six just outside its rule.
+fn edge(random: &mut Random, table: &Table, numbers: &mut [u64]) {
+    let Values { n, a, b, c } = table.values;
+    let edges = [
+        (0, 0),
+        (0, 97),
+        (1, 0),
+        (1, b),
+        (2, a),
+        (2, c + 1),
+        (3, b - 1),
+        (3, LIMIT_END + 1),
+        (4, CLOCK_END + 1),
+        (5, n + 1),
+    ];
+    let (place, number) = random.pick(&edges);
+    numbers[place] = number;
+}
+
+/// An arrival beside a place that carries none.
+fn untimed(random: &mut Random, table: &Table) -> [u64; STRIDE] {
+    [random.pick(&[0, 5]), random.pick(&[1, table.clock.max(1), u64::MAX])]
+}
+
+/// A timed place whose arrival is to come, or whose latest moment has passed.
+fn overdue(random: &mut Random, table: &Table) -> [u64; STRIDE] {
+    let place = random.pick(&[1, 2, 3, 4, 6, 7]);
+    let limit = if place == 3 { table.values.c } else { table.values.a };
+    let to_come = table.clock + 1;
+    let passed = table.clock.checked_sub(limit + 1).unwrap_or(to_come);
+    [place, random.pick(&[passed, to_come, u64::MAX])]
+}
+
+/// An entry that would be sound, were it not above n. Of 96 windows the last one becomes one too many.
+fn above(random: &mut Random, table: &Table, numbers: &mut [u64]) {
+    numbers[0] = table.values.n.min(95);
+    let window = random.between(numbers[0] + 1, 96);
+    let place = random.between(1, 7);
+    entry(numbers, window).copy_from_slice(&[place, if place == 5 { 0 } else { table.clock }]);
+}
+
+fn cut(random: &mut Random, numbers: &mut Vec<u64>) {
+    let length = numbers.len();
+    let shorter = random.index(length);
+    numbers.truncate(random.pick(&[0, 5, 6, 7, length - 2, length - 1, shorter]));
+}
+
+/// A few numbers more, behind those that a list needs or in the stead of those that were cut.
+fn lengthen(random: &mut Random, numbers: &mut Vec<u64>) {
+    if random.chance(25) {
+        numbers.extend((0..random.between(1, 5)).map(|_| random.below(u64::MAX)));
+    }
+}
+
+/// The numbers of the walk's own summary, mostly, or of another make: sound, full or about to be, not sound, damaged, cut short.
+pub fn lent_summary(random: &mut Random, clock: u64, own: &Summary) -> Made {
+    let kind = random.below(20);
+    let mut numbers = summary_numbers(&match kind {
+        0 | 1 => foreign(random, clock),
+        2 | 3 => unsound_or_full(random, clock),
+        _ => own.clone(),
+    });
+    match kind {
+        4 => change(random, &mut numbers),
+        5 => cut(random, &mut numbers),
+        _ => {}
+    }
+    lengthen(random, &mut numbers);
+    Made { numbers, own: kind > 5 }
+}

@@ -1,0 +1,92 @@
+//! The stored calls of reference/vectors, one a line, made and held to what stands beside them. The files leave out what is the same in
+//! all of them: windows 9 to 96 are in remainder, with the try moment 0.
+
+use crate::calls::{self, Verdict};
+use funnelfawn::raw::{SUMMARY, TABLE};
+use reference::answer::{answer, Answer};
+use reference::machine::Values;
+
+/// What fills the lists of a reading, and the elements that are lent past a table, a summary and the steps of a writing.
+const FILLED: u64 = 7777;
+const PAST: [u64; 3] = [FILLED; 3];
+
+/// `table | act window moment | answer | table after`
+pub fn step(line: &str) -> Verdict {
+    let [table, call, answer, after] = fields(line)?;
+    calls::step(&padded(table, TABLE)?, fixed(call)?, (answer_in(answer)?, &padded(after, TABLE)?))
+}
+
+/// `table | summary | act window moment | answer | table after | summary after`
+pub fn recorded(line: &str) -> Verdict {
+    let [table, summary, call, answer, table_after, summary_after] = fields(line)?;
+    let wanted = (answer_in(answer)?, &padded(table_after, TABLE)?[..], &padded(summary_after, SUMMARY)?[..]);
+    calls::record(&padded(table, TABLE)?, &padded(summary, SUMMARY)?, fixed(call)?, wanted)
+}
+
+/// `text in hex | lengths of times, windows, acts | answer | n a b c | the three lists after`
+pub fn reader(line: &str) -> Verdict {
+    let [text, lengths, answer, values, after] = fields(line)?;
+    let lengths: [u64; 3] = fixed(lengths)?;
+    let lists = lengths.map(|length| vec![FILLED; length as usize]);
+    let mut left = numbers(&after.replace(['[', ']', ','], " "))?.into_iter();
+    let after = lengths.map(|length| left.by_ref().take(length as usize).collect::<Vec<u64>>());
+    if left.next().is_some() {
+        return Err("more numbers than the lists have places".into());
+    }
+    calls::read(&bytes(text)?, &lists, (answer_in(answer)?, values_in(values)?, &after))
+}
+
+/// `n a b c | time window act ... | length of the output | answer | output after`
+pub fn writer(line: &str) -> Verdict {
+    let [values, steps, length, answer, after] = fields(line)?;
+    let steps = numbers(steps)?;
+    let column = |number: usize| steps.iter().skip(number).step_by(3).copied().collect::<Vec<u64>>();
+    // the shortest of the three lists sets the number of steps
+    let lists = [column(0), [column(1), vec![FILLED]].concat(), [column(2), PAST.to_vec()].concat()];
+    let [length]: [u64; 1] = fixed(length)?;
+    let out = vec![b'#'; length as usize];
+    let after = after.trim_matches('"').replace("\\n", "\n");
+    calls::write(values_in(values)?, &lists, &out, (answer_in(answer)?, after.as_bytes()))
+}
+
+// The parts of a line
+
+fn fields<const COUNT: usize>(line: &str) -> Result<[&str; COUNT], String> {
+    let fields: Vec<&str> = line.split('|').map(str::trim).collect();
+    fields.try_into().map_err(|_| format!("not {COUNT} fields"))
+}
+
+fn numbers(field: &str) -> Result<Vec<u64>, String> {
+    let number = |word: &str| word.parse().map_err(|_| format!("`{word}` is no number"));
+    field.split_whitespace().map(number).collect()
+}
+
+fn fixed<const COUNT: usize>(field: &str) -> Result<[u64; COUNT], String> {
+    numbers(field)?.try_into().map_err(|_| format!("not {COUNT} numbers: {field}"))
+}
+
+/// The numbers of a whole table or summary, and a few past it.
+fn padded(field: &str, length: usize) -> Result<Vec<u64>, String> {
+    let mut all = numbers(field)?;
+    all.resize(length, 0);
+    all.extend(PAST);
+    Ok(all)
+}
+
+fn answer_in(field: &str) -> Result<Answer, String> {
+    let [number, window, moment] = fixed(field)?;
+    Ok(answer(number, window, moment))
+}
+
+fn values_in(field: &str) -> Result<Values, String> {
+    let [n, a, b, c] = fixed(field)?;
+    Ok(Values { n, a, b, c })
+}
+
+fn bytes(hex: &str) -> Result<Vec<u8>, String> {
+    let byte = |pair: &[u8]| {
+        let pair = std::str::from_utf8(pair).unwrap_or_default();
+        u8::from_str_radix(pair, 16).map_err(|_| format!("`{pair}` is no byte"))
+    };
+    hex.as_bytes().chunks(2).map(byte).collect()
+}

@@ -1,0 +1,68 @@
+//! Sound tables for a walk to start from, those that no walk reaches too.
+
+use reference::generator::random::Random;
+use reference::machine::*;
+
+/// A fresh table, or one with any places, two and more sellers among them, at any clock, its end too.
+pub fn start(random: &mut Random) -> Table {
+    let (_, table) = fresh(values(random));
+    if random.chance(50) {
+        table
+    } else {
+        busy(random, table)
+    }
+}
+
+fn values(random: &mut Random) -> Values {
+    let n = random.pick(&[1, 2, 3, 8, 24, 95, 96]);
+    let limits = [
+        (1, 2, 2),
+        (5, 6, 6),
+        (5, 8, 12),
+        (2, 6, 30),
+        (1, 9_999_999, LIMIT_END),
+        (9_999_999, LIMIT_END, LIMIT_END),
+    ];
+    let (a, b, c) = random.pick(&limits);
+    Values { n, a, b, c }
+}
+
+fn busy(random: &mut Random, mut table: Table) -> Table {
+    table.clock = match random.below(4) {
+        0 => random.below(40),
+        1 => random.below(CLOCK_END),
+        2 => CLOCK_END - random.below(40),
+        _ => CLOCK_END,
+    };
+    table.word = random.between(0, table.values.n);
+    let percent = random.pick(&[20, 60, 100]);
+    for window in 0..table.values.n as usize {
+        if random.chance(percent) {
+            table.places[window] = place(random, &table);
+        }
+    }
+    table
+}
+
+/// A place with an arrival that is sound, at an edge now and then.
+fn place(random: &mut Random, table: &Table) -> Place {
+    let mut arrival = |limit| {
+        let first = table.clock.saturating_sub(limit);
+        match random.below(40) {
+            0 => first,
+            1..=10 => table.clock,
+            _ => random.between(first, table.clock),
+        }
+    };
+    let (timed, checked) = (arrival(table.values.a), arrival(table.values.c));
+    let places = [
+        Place::Testing(timed),
+        Place::Setting(timed),
+        Place::Checking(checked),
+        Place::Entering(timed),
+        Place::Selling,
+        Place::Resetting(timed),
+        Place::Leaving(timed),
+    ];
+    random.pick(&places)
+}

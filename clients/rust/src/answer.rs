@@ -1,0 +1,115 @@
+//! What an answer says: document 01, "Answers of the box". Number 0 is an acceptance, 1 to 16 are refusals.
+
+use crate::raw::Answer;
+use std::fmt::{Display, Formatter, Result as Written};
+
+/// The answer to an accepted act.
+#[derive(Clone, Copy, Debug, PartialEq, Eq)]
+pub struct Accepted {
+    /// the lowest-numbered window that is selling afterwards
+    pub selling: Option<u64>,
+    pub clock: u64,
+}
+
+/// Why nothing was done: the rows of the paper's table, in its order, with what the answer carries.
+#[derive(Clone, Copy, Debug, PartialEq, Eq)]
+pub enum Refusal {
+    NoTable,
+    NoSummary,
+    SummaryFull,
+    Backward { clock: u64 },
+    EndOfClock,
+    NoAct,
+    NoWindow,
+    Late { window: u64, latest: u64 },
+    OutOfPlace { window: u64 },
+    Early { window: u64, earliest: u64 },
+    WindowCount,
+    Limits,
+    Names { line: u64 },
+    Line { line: u64 },
+    Length,
+    ShortOutput,
+}
+
+impl Answer {
+    /// The answer itself if its number is 0, else what its number says.
+    pub fn result(self) -> Result<Answer, Refusal> {
+        let Answer { number, window, moment } = self;
+        Err(match number {
+            0 => return Ok(self),
+            1 => Refusal::NoTable,
+            2 => Refusal::NoSummary,
+            3 => Refusal::SummaryFull,
+            4 => Refusal::Backward { clock: moment },
+            5 => Refusal::EndOfClock,
+            6 => Refusal::NoAct,
+            7 => Refusal::NoWindow,
+            8 => Refusal::Late { window, latest: moment },
+            9 => Refusal::OutOfPlace { window },
+            10 => Refusal::Early { window, earliest: moment },
+            11 => Refusal::WindowCount,
+            12 => Refusal::Limits,
+            13 => Refusal::Names { line: moment },
+            14 => Refusal::Line { line: moment },
+            15 => Refusal::Length,
+            16 => Refusal::ShortOutput,
+            _ => panic!("the library gives no answer with the number {number}"),
+        })
+    }
+
+    /// The answer to an act.
+    pub(crate) fn accepted(self) -> Result<Accepted, Refusal> {
+        let Answer { window, moment, .. } = self.result()?;
+        Ok(Accepted { selling: (window != 0).then_some(window), clock: moment })
+    }
+}
+
+impl Refusal {
+    /// The number of the paper's table.
+    pub fn number(&self) -> u64 {
+        match self {
+            Refusal::NoTable => 1,
+            Refusal::NoSummary => 2,
+            Refusal::SummaryFull => 3,
+            Refusal::Backward { .. } => 4,
+            Refusal::EndOfClock => 5,
+            Refusal::NoAct => 6,
+            Refusal::NoWindow => 7,
+            Refusal::Late { .. } => 8,
+            Refusal::OutOfPlace { .. } => 9,
+            Refusal::Early { .. } => 10,
+            Refusal::WindowCount => 11,
+            Refusal::Limits => 12,
+            Refusal::Names { .. } => 13,
+            Refusal::Line { .. } => 14,
+            Refusal::Length => 15,
+            Refusal::ShortOutput => 16,
+        }
+    }
+}
+
+impl Display for Refusal {
+    fn fmt(&self, to: &mut Formatter) -> Written {
+        match self {
+            Refusal::NoTable => write!(to, "the table is not sound"),
+            Refusal::NoSummary => write!(to, "the summary is not sound"),
+            Refusal::SummaryFull => write!(to, "the summary is full"),
+            Refusal::Backward { clock } => write!(to, "the moment is before the clock, which is at {clock}"),
+            Refusal::EndOfClock => write!(to, "the moment is past the clock's end"),
+            Refusal::NoAct => write!(to, "there is no such act"),
+            Refusal::NoWindow => write!(to, "there is no such window, or a wait names one"),
+            Refusal::Late { window, latest } => write!(to, "window {window} has to act by {latest}"),
+            Refusal::OutOfPlace { window } => write!(to, "window {window} is not where the act starts from"),
+            Refusal::Early { window, earliest } => write!(to, "window {window} may check from {earliest} on"),
+            Refusal::WindowCount => write!(to, "the number of windows is outside 1 to 96"),
+            Refusal::Limits => write!(to, "a, b, c break 1 ≤ a < b ≤ c ≤ 10,000,000"),
+            Refusal::Names { line } => write!(to, "line {line} is not the names line that it should be"),
+            Refusal::Line { line } => write!(to, "line {line} differs from its form"),
+            Refusal::Length => write!(to, "the text is longer than 65,536 bytes"),
+            Refusal::ShortOutput => write!(to, "a lent output is too short"),
+        }
+    }
+}
+
+impl std::error::Error for Refusal {}

@@ -1,0 +1,55 @@
+//! The functions of include/funnelfawn.h, in its order.
+
+use crate::raw::{Answer, Reading};
+
+extern "C" {
+    pub fn funnelfawn_fresh(n: u64, a: u64, b: u64, c: u64, table: *mut u64, table_length: usize) -> Answer;
+
+    pub fn funnelfawn_step(
+        table: *mut u64,
+        table_length: usize,
+        act: u64,
+        window: u64,
+        moment: u64,
+    ) -> Answer;
+
+    pub fn funnelfawn_new_summary(summary: *mut u64, summary_length: usize) -> Answer;
+
+    pub fn funnelfawn_record(
+        table: *mut u64,
+        table_length: usize,
+        summary: *mut u64,
+        summary_length: usize,
+        act: u64,
+        window: u64,
+        moment: u64,
+    ) -> Answer;
+
+    pub fn funnelfawn_read(
+        text: *const u8,
+        text_length: usize,
+        moments: *mut u64,
+        moments_length: usize,
+        windows: *mut u64,
+        windows_length: usize,
+        acts: *mut u64,
+        acts_length: usize,
+    ) -> Reading;
+
+    pub fn funnelfawn_write(
+        n: u64,
+        a: u64,
+        b: u64,
+        c: u64,
+        moments: *const u64,
+        moments_length: usize,
+        windows: *const u64,
+        windows_length: usize,
+        acts: *const u64,
+        acts_length: usize,
+        out: *mut u8,
+        out_length: usize,
+    ) -> Answer;
+
+    pub fn funnelfawn_replay(text: *const u8, text_length: usize, out: *mut u8, out_length: usize) -> Answer;
+}

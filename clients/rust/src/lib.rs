@@ -1,0 +1,39 @@
+//! Funnelfawn for Rust: Fischer's timed lock over a table of up to 96 sales windows. Each call is that of the proved library for C, and
+//! nothing is decided here; the README of the repository has the meaning of the answers, document 01 (docs/01-scope.md) the rules.
+//!
+//! ```
+//! use funnelfawn::{Accepted, Act, Refusal, Summary, Table};
+//!
+//! let mut table = Table::fresh(2, 5, 8, 12)?;
+//! let mut summary = Summary::new();
+//! table.record(&mut summary, Act::Try, 1, 0)?;
+//! table.record(&mut summary, Act::Test, 1, 3)?;
+//! table.record(&mut summary, Act::Set, 1, 8)?;
+//!
+//! let early = table.record(&mut summary, Act::Check, 1, 15);
+//! assert_eq!(early, Err(Refusal::Early { window: 1, earliest: 16 }));
+//!
+//! table.record(&mut summary, Act::Check, 1, 16)?;
+//! let sold = table.record(&mut summary, Act::Crit, 1, 20)?;
+//! assert_eq!(sold, Accepted { selling: Some(1), clock: 20 });
+//! assert_eq!((summary.accepted(), summary.refused(), summary.longest_wait()), (5, 1, 20));
+//! # Ok::<(), Refusal>(())
+//! ```
+//!
+//! The only unsafe code is in [`raw`], which lends slices to the library; all the rest stands on it.
+#![deny(unsafe_code)]
+
+mod act;
+mod answer;
+mod ffi;
+#[allow(unsafe_code)]
+pub mod raw;
+mod recording;
+mod summary;
+mod table;
+
+pub use act::Act;
+pub use answer::{Accepted, Refusal};
+pub use recording::{read, replay, Recording, Step};
+pub use summary::Summary;
+pub use table::{Place, Table};

@@ -1,0 +1,111 @@
+//! The functions of the library for C, one by one, on slices of any length. include/funnelfawn.h says what each gives back.
+//!
+//! They are safe: what the header asks of a caller (aligned pointers to as many elements as are told, lists that do not overlap, nobody
+//! else at them during the call) is what a slice is, and the library is proved to keep within it.
+
+use crate::ffi::*;
+
+/// The entries of every table, whatever its n.
+pub const WINDOWS: usize = 96;
+/// The numbers of a table before its entries: n, a, b, c, the clock, the word.
+pub const HEADER: usize = 6;
+/// The numbers of an entry: place, arrival.
+pub const STRIDE: usize = 2;
+/// The numbers of a table.
+pub const TABLE: usize = HEADER + STRIDE * WINDOWS;
+/// The numbers of a summary before its try moments: accepted, refused, entries, exits, the longest wait.
+pub const TRIES: usize = 5;
+/// The numbers of a summary.
+pub const SUMMARY: usize = TRIES + WINDOWS;
+/// The bytes of the longest recording.
+pub const MOST_TEXT: usize = 65_536;
+/// The steps that a recording holds at most.
+pub const MOST_STEPS: usize = 8_187;
+/// The bytes that always suffice for what `replay` prints.
+pub const MOST_REPORT: usize = 687_734;
+
+/// An answer: "a number, a window and a moment".
+#[repr(C)]
+#[derive(Clone, Copy, Debug, PartialEq, Eq)]
+pub struct Answer {
+    pub number: u64,
+    pub window: u64,
+    pub moment: u64,
+}
+
+/// A reading's answer, and the values of line 2, which are 0 where it is refused.
+#[repr(C)]
+#[derive(Clone, Copy, Debug, PartialEq, Eq)]
+pub struct Reading {
+    pub answer: Answer,
+    pub n: u64,
+    pub a: u64,
+    pub b: u64,
+    pub c: u64,
+}
+
+pub fn fresh(n: u64, a: u64, b: u64, c: u64, table: &mut [u64]) -> Answer {
+    unsafe { funnelfawn_fresh(n, a, b, c, table.as_mut_ptr(), table.len()) }
+}
+
+pub fn step(table: &mut [u64], act: u64, window: u64, moment: u64) -> Answer {
+    unsafe { funnelfawn_step(table.as_mut_ptr(), table.len(), act, window, moment) }
+}
+
+pub fn new_summary(summary: &mut [u64]) -> Answer {
+    unsafe { funnelfawn_new_summary(summary.as_mut_ptr(), summary.len()) }
+}
+
+pub fn record(table: &mut [u64], summary: &mut [u64], act: u64, window: u64, moment: u64) -> Answer {
+    let (table, table_length) = (table.as_mut_ptr(), table.len());
+    let (summary, summary_length) = (summary.as_mut_ptr(), summary.len());
+    unsafe { funnelfawn_record(table, table_length, summary, summary_length, act, window, moment) }
+}
+
+pub fn read(text: &[u8], moments: &mut [u64], windows: &mut [u64], acts: &mut [u64]) -> Reading {
+    let (moments, moments_length) = (moments.as_mut_ptr(), moments.len());
+    let (windows, windows_length) = (windows.as_mut_ptr(), windows.len());
+    let (acts, acts_length) = (acts.as_mut_ptr(), acts.len());
+    let (text, text_length) = (text.as_ptr(), text.len());
+    unsafe {
+        funnelfawn_read(
+            text,
+            text_length,
+            moments,
+            moments_length,
+            windows,
+            windows_length,
+            acts,
+            acts_length,
+        )
+    }
+}
+
+/// The values are n, a, b, c.
+pub fn write(values: [u64; 4], moments: &[u64], windows: &[u64], acts: &[u64], out: &mut [u8]) -> Answer {
+    let [n, a, b, c] = values;
+    let (moments, moments_length) = (moments.as_ptr(), moments.len());
+    let (windows, windows_length) = (windows.as_ptr(), windows.len());
+    let (acts, acts_length) = (acts.as_ptr(), acts.len());
+    let (out, out_length) = (out.as_mut_ptr(), out.len());
+    unsafe {
+        funnelfawn_write(
+            n,
+            a,
+            b,
+            c,
+            moments,
+            moments_length,
+            windows,
+            windows_length,
+            acts,
+            acts_length,
+            out,
+            out_length,
+        )
+    }
+}
+
+pub fn replay(text: &[u8], out: &mut [u8]) -> Answer {
+    unsafe { funnelfawn_replay(text.as_ptr(), text.len(), out.as_mut_ptr(), out.len()) }
+}

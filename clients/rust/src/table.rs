@@ -1,0 +1,124 @@
+//! The table of windows and its steps: document 01, "The table of windows" and "The acts".
+
+use crate::answer::{Accepted, Refusal};
+use crate::raw;
+use crate::summary::Summary;
+
+/// The places in the paper's order.
+#[derive(Clone, Copy, Debug, PartialEq, Eq, Hash)]
+pub enum Place {
+    Remainder,
+    Testing,
+    Setting,
+    Checking,
+    Entering,
+    Selling,
+    Resetting,
+    Leaving,
+}
+
+impl Place {
+    /// Each at the place of its number.
+    pub const ALL: [Place; 8] = [
+        Place::Remainder,
+        Place::Testing,
+        Place::Setting,
+        Place::Checking,
+        Place::Entering,
+        Place::Selling,
+        Place::Resetting,
+        Place::Leaving,
+    ];
+
+    /// "Only the six timed places carry the moment at which the window came there."
+    pub fn timed(self) -> bool {
+        !matches!(self, Place::Remainder | Place::Selling)
+    }
+}
+
+impl From<Place> for u64 {
+    fn from(place: Place) -> u64 {
+        place as u64
+    }
+}
+
+impl TryFrom<u64> for Place {
+    type Error = Refusal;
+
+    /// Numbers with another place tell no table.
+    fn try_from(number: u64) -> Result<Place, Refusal> {
+        Place::ALL.into_iter().find(|&place| u64::from(place) == number).ok_or(Refusal::NoTable)
+    }
+}
+
+/// A table of windows, as the numbers that the library keeps of it. It cannot be cloned: the lock holds for one copy, handed on.
+#[derive(Debug, PartialEq, Eq)]
+pub struct Table {
+    numbers: [u64; raw::TABLE],
+}
+
+impl Table {
+    /// A table of n windows with the limits a, b, c: all in remainder, at clock 0, with word 0.
+    pub fn fresh(n: u64, a: u64, b: u64, c: u64) -> Result<Table, Refusal> {
+        let mut table = Table { numbers: [0; raw::TABLE] };
+        raw::fresh(n, a, b, c, &mut table.numbers).result()?;
+        Ok(table)
+    }
+
+    /// One act of a window, 0 for a wait, at a moment, which becomes the clock. A refusal leaves the table as it was.
+    pub fn step(&mut self, act: impl Into<u64>, window: u64, moment: u64) -> Result<Accepted, Refusal> {
+        raw::step(&mut self.numbers, act.into(), window, moment).accepted()
+    }
+
+    /// The same, counted. Of the refusals [`NoTable`](Refusal::NoTable), [`NoSummary`](Refusal::NoSummary) and
+    /// [`SummaryFull`](Refusal::SummaryFull) leave the summary as it was, the others raise its count of refused acts.
+    pub fn record(
+        &mut self,
+        summary: &mut Summary,
+        act: impl Into<u64>,
+        window: u64,
+        moment: u64,
+    ) -> Result<Accepted, Refusal> {
+        raw::record(&mut self.numbers, &mut summary.numbers, act.into(), window, moment).accepted()
+    }
+
+    /// The number of windows, n.
+    pub fn windows(&self) -> u64 {
+        self.numbers[0]
+    }
+
+    /// The limits a, b, c.
+    pub fn limits(&self) -> [u64; 3] {
+        [self.numbers[1], self.numbers[2], self.numbers[3]]
+    }
+
+    pub fn clock(&self) -> u64 {
+        self.numbers[4]
+    }
+
+    /// The shared word: "0 for free, or a window number".
+    pub fn word(&self) -> u64 {
+        self.numbers[5]
+    }
+
+    /// The place of a window of 1 to n, and its arrival if the place is timed.
+    pub fn place(&self, window: u64) -> Option<(Place, Option<u64>)> {
+        if window > self.windows() {
+            return None;
+        }
+        let index = usize::try_from(window.checked_sub(1)?).ok()?;
+        let entry = self.numbers[raw::HEADER..].chunks(raw::STRIDE).nth(index)?;
+        let place = Place::try_from(entry[0]).ok()?;
+        Some((place, place.timed().then_some(entry[1])))
+    }
+
+    /// The numbers in the order of include/funnelfawn.h, to be stored.
+    pub fn numbers(&self) -> &[u64; raw::TABLE] {
+        &self.numbers
+    }
+
+    /// A table of stored numbers. Any will do, as each call judges them anew and may answer [`NoTable`](Refusal::NoTable).
+    pub fn from_numbers(numbers: [u64; raw::TABLE]) -> Table {
+        Table { numbers }
+    }
+}

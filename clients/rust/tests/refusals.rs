@@ -1,0 +1,131 @@
+//! Each refusal, 1 to 16, with what it carries, and what it leaves of the table and the summary.
+
+use funnelfawn::{raw, read, Act, Place, Recording, Refusal, Step, Summary, Table};
+
+const END: u64 = 1_000_000_000_000;
+
+/// Window 1 came to checking at 0, and the clock is at 7: its earliest moment is 8 and its latest 12.
+fn checking() -> Table {
+    let mut table = Table::fresh(2, 5, 8, 12).unwrap();
+    for (act, window, moment) in [(Act::Try, 1, 0), (Act::Test, 1, 0), (Act::Set, 1, 0), (Act::Wait, 0, 7)] {
+        table.step(act, window, moment).unwrap();
+    }
+    table
+}
+
+/// The refusal of an act on that table, which has to come from both kinds of step and leave the table alone.
+fn refused(act: impl Into<u64>, window: u64, moment: u64) -> Refusal {
+    let act = act.into();
+    let (mut table, mut summary) = (checking(), Summary::new());
+    let refusal = table.step(act, window, moment).unwrap_err();
+    assert_eq!(table.record(&mut summary, act, window, moment), Err(refusal));
+    assert_eq!(table, checking());
+    assert_eq!((summary.accepted(), summary.refused()), (0, 1));
+    refusal
+}
+
+#[test]
+fn acts() {
+    assert_eq!(refused(Act::Check, 1, 6), Refusal::Backward { clock: 7 });
+    assert_eq!(refused(Act::Check, 1, END + 1), Refusal::EndOfClock);
+    assert_eq!(refused(9u64, 1, 7), Refusal::NoAct);
+    assert_eq!(refused(Act::Try, 3, 7), Refusal::NoWindow);
+    assert_eq!(refused(Act::Wait, 1, 7), Refusal::NoWindow);
+    assert_eq!(refused(Act::Try, 2, 13), Refusal::Late { window: 1, latest: 12 });
+    assert_eq!(refused(Act::Crit, 1, 7), Refusal::OutOfPlace { window: 1 });
+    assert_eq!(refused(Act::Check, 1, 7), Refusal::Early { window: 1, earliest: 8 });
+}
+
+#[test]
+fn no_table() {
+    let mut numbers = *checking().numbers();
+    // "the shared word (0 for free, or a window number 1 to n)"
+    numbers[5] = 3;
+    let (mut table, mut summary) = (Table::from_numbers(numbers), Summary::new());
+    assert_eq!(table.step(Act::Wait, 0, 7), Err(Refusal::NoTable));
+    assert_eq!(table.record(&mut summary, Act::Wait, 0, 7), Err(Refusal::NoTable));
+    assert_eq!((*table.numbers(), summary), (numbers, Summary::new()));
+}
+
+/// The refusal of a wait with that summary, which stays as it was.
+fn refused_with(numbers: [u64; raw::SUMMARY]) -> Refusal {
+    let (mut table, mut summary) = (checking(), Summary::from_numbers(numbers));
+    let refusal = table.record(&mut summary, Act::Wait, 0, 7).unwrap_err();
+    assert_eq!((table, *summary.numbers()), (checking(), numbers));
+    refusal
+}
+
+#[test]
+fn no_summary_and_summary_full() {
+    let mut numbers = *Summary::new().numbers();
+    numbers[1] = END;
+    assert_eq!(refused_with(numbers), Refusal::SummaryFull);
+    numbers[0] = 1;
+    assert_eq!(refused_with(numbers), Refusal::NoSummary);
+}
+
+#[test]
+fn fresh_tables() {
+    assert_eq!(Table::fresh(0, 5, 8, 12), Err(Refusal::WindowCount));
+    assert_eq!(Table::fresh(97, 5, 5, 12), Err(Refusal::WindowCount));
+    assert_eq!(Table::fresh(96, 5, 5, 6), Err(Refusal::Limits));
+    assert!(Table::fresh(96, 5, 6, 6).is_ok());
+}
+
+#[test]
+fn recordings() {
+    assert_eq!(read(b""), Err(Refusal::Names { line: 1 }));
+    assert_eq!(read(b"windows,a,b,c\n97,5,8,12\n"), Err(Refusal::WindowCount));
+    assert_eq!(read(b"windows,a,b,c\n2,5,5,12\n"), Err(Refusal::Limits));
+    assert_eq!(read(b"windows,a,b,c\n2,5,8,12\n"), Err(Refusal::Names { line: 3 }));
+    let five = b"windows,a,b,c\n2,5,8,12\ntime,window,act\n0,1,try\n00,1,test\n";
+    assert_eq!(read(five), Err(Refusal::Line { line: 5 }));
+    assert_eq!(read(&[b'#'; 65_537]), Err(Refusal::Length));
+}
+
+#[test]
+fn writings() {
+    let step = Step { moment: 9_999_999_999_999, window: 99_999_999, act: 8 };
+    let good = Recording { n: 2, a: 5, b: 8, c: 12, steps: vec![step; 3] };
+    assert!(good.write().is_ok());
+    assert_eq!(Recording { n: 0, ..good.clone() }.write(), Err(Refusal::WindowCount));
+    assert_eq!(Recording { a: 8, ..good.clone() }.write(), Err(Refusal::Limits));
+    let with = |odd| Recording { steps: vec![step, odd, odd], ..good.clone() }.write();
+    let fifth = Err(Refusal::Line { line: 5 });
+    assert_eq!(with(Step { moment: 10_000_000_000_000, ..step }), fifth);
+    assert_eq!(with(Step { window: 100_000_000, ..step }), fifth);
+    assert_eq!(with(Step { act: 9, ..step }), fifth);
+    assert_eq!(Recording { steps: vec![step; 8_187], ..good }.write(), Err(Refusal::Length));
+}
+
+#[test]
+fn short_output() {
+    let short = raw::fresh(2, 5, 8, 12, &mut [0; raw::TABLE - 1]);
+    assert_eq!(short.result(), Err(Refusal::ShortOutput));
+}
+
+#[test]
+fn numbers_and_words() {
+    for number in 1..=16 {
+        let answer = raw::Answer { number, window: 71, moment: 82 };
+        let refusal = answer.result().unwrap_err();
+        assert_eq!(refusal.number(), number);
+        let words = refusal.to_string();
+        assert_eq!(words.contains("71"), matches!(number, 8..=10), "{words}");
+        assert_eq!(words.contains("82"), matches!(number, 4 | 8 | 10 | 13 | 14), "{words}");
+    }
+    let error: Box<dyn std::error::Error> = Refusal::Late { window: 1, latest: 21 }.into();
+    assert_eq!(error.to_string(), "window 1 has to act by 21");
+}
+
+#[test]
+fn acts_and_places_by_number() {
+    for number in 0..=8 {
+        assert_eq!(Act::try_from(number).map(u64::from), Ok(number));
+    }
+    assert_eq!(Act::try_from(9), Err(Refusal::NoAct));
+    for number in 0..=7 {
+        assert_eq!(Place::try_from(number).map(u64::from), Ok(number));
+    }
+    assert_eq!(Place::try_from(8), Err(Refusal::NoTable));
+}

@@ -1,0 +1,185 @@
+/* Funnelfawn for C and C++: Fischer's timed lock over a table of up to 96 sales windows.
+ *
+ * Link with libfunnelfawn.a (x86-64 Linux) and the C library, of which only memcpy and memset are used. No function keeps state,
+ * allocates, prints or blocks; each takes any numbers at all and returns. funnelfawn_replay needs about 210 KB of stack, the others less
+ * than 16 KB. docs/01-scope.md is the specification that the library is proved against.
+ *
+ * What is lent
+ *   A list is a pointer and the count of its elements (not of bytes). The caller owns it; the library keeps no pointer past the call.
+ *   The caller sees to these three things, which no test within a call can find out: the pointer is aligned for its element and leads
+ *   to that many elements (with a count of 0 nothing is read through it, and it may be null); lists that are lent to one call do not
+ *   overlap; and nobody else touches them during the call. So one table is for one thread at a time; two tables have nothing in common.
+ *   Elements past those that a call speaks of stay as they are. A refusal leaves all that was lent as it was, save that 4 to 10 raise
+ *   the count of refused acts of a lent summary.
+ *
+ * All times are whole microseconds, from 0 to 1,000,000,000,000. */
+#ifndef FUNNELFAWN_H
+#define FUNNELFAWN_H
+
+#include <stddef.h>
+#include <stdint.h>
+
+#ifdef __cplusplus
+#define FUNNELFAWN_RESTRICT
+extern "C" {
+#else
+#define FUNNELFAWN_RESTRICT restrict
+#endif
+
+/* Tables
+ *
+ * A table of windows is lent as FUNNELFAWN_TABLE_LENGTH numbers: n, a, b, c, the clock, the shared word (0, or a window), and then for
+ * each of the 96 windows its place and its arrival, the moment at which it came there. Window w, from 1, has its place at
+ * FUNNELFAWN_HEADER_LENGTH + FUNNELFAWN_STRIDE * (w - 1), and its arrival after it. Timed places are all but remainder and selling; these
+ * two have no arrival, and 0 stands for it.
+ *
+ * The latest moment of a window is its arrival + c in checking and + a in the other timed places; the earliest moment of a check is its
+ * arrival + b. A table is sound when n is 1 to 96, 1 <= a < b <= c <= 10,000,000, the clock is in range, the word is at most n, windows
+ * above n are in remainder, and for each window in a timed place arrival <= clock <= latest moment. A place above 7, or an arrival other
+ * than 0 in remainder or selling, tells no table, and is refused as one that is not sound.
+ *
+ * Each call judges the numbers anew, so damage that makes a table unsound is found. An older copy of a table is not found, nor one with
+ * two sellers: the lock holds for a table that came from funnelfawn_fresh and was handed on as each call left it, in one copy. */
+enum {
+    FUNNELFAWN_WINDOWS = 96,
+    FUNNELFAWN_HEADER_LENGTH = 6,
+    FUNNELFAWN_STRIDE = 2,
+    FUNNELFAWN_TABLE_LENGTH = FUNNELFAWN_HEADER_LENGTH + FUNNELFAWN_STRIDE * FUNNELFAWN_WINDOWS
+};
+
+enum {
+    FUNNELFAWN_AT_N,
+    FUNNELFAWN_AT_A,
+    FUNNELFAWN_AT_B,
+    FUNNELFAWN_AT_C,
+    FUNNELFAWN_AT_CLOCK,
+    FUNNELFAWN_AT_WORD
+};
+
+enum funnelfawn_place {
+    FUNNELFAWN_PLACE_REMAINDER,
+    FUNNELFAWN_PLACE_TESTING,
+    FUNNELFAWN_PLACE_SETTING,
+    FUNNELFAWN_PLACE_CHECKING,
+    FUNNELFAWN_PLACE_ENTERING,
+    FUNNELFAWN_PLACE_SELLING,
+    FUNNELFAWN_PLACE_RESETTING,
+    FUNNELFAWN_PLACE_LEAVING
+};
+
+/* Summaries
+ *
+ * A summary is lent as FUNNELFAWN_SUMMARY_LENGTH numbers: the five below, and from FUNNELFAWN_AT_TRIES on the try moment of each window,
+ * that of window w at FUNNELFAWN_AT_TRIES + w - 1. Accepted and refused acts are counted (of the refusals 4 to 10), and as entries and
+ * exits the accepted crits and exits. An accepted try stores its moment; a crit compares its moment less the stored one with the longest
+ * wait, keeps the greater, and stores 0. A summary is sound when accepted + refused <= 1,000,000,000,000, entries + exits <= accepted,
+ * the longest wait is at most 1,000,000,000,000 and each try moment is at most the table's clock. */
+enum {
+    FUNNELFAWN_AT_ACCEPTED,
+    FUNNELFAWN_AT_REFUSED,
+    FUNNELFAWN_AT_ENTRIES,
+    FUNNELFAWN_AT_EXITS,
+    FUNNELFAWN_AT_LONGEST_WAIT,
+    FUNNELFAWN_AT_TRIES,
+    FUNNELFAWN_SUMMARY_LENGTH = FUNNELFAWN_AT_TRIES + FUNNELFAWN_WINDOWS
+};
+
+/* Acts: the place that each leaves, and what it does. Every move into a timed place takes the act's moment as arrival. */
+enum funnelfawn_act {
+    FUNNELFAWN_ACT_WAIT,  /* any (the window is 0): the clock only */
+    FUNNELFAWN_ACT_TRY,   /* remainder: to testing */
+    FUNNELFAWN_ACT_TEST,  /* testing: with the word 0 to setting, else testing again */
+    FUNNELFAWN_ACT_SET,   /* setting: the word becomes the window; to checking */
+    FUNNELFAWN_ACT_CHECK, /* checking: if the word is the window, to entering, else to testing */
+    FUNNELFAWN_ACT_CRIT,  /* entering: to selling */
+    FUNNELFAWN_ACT_EXIT,  /* selling: to resetting */
+    FUNNELFAWN_ACT_RESET, /* resetting: the word becomes 0; to leaving */
+    FUNNELFAWN_ACT_REM    /* leaving: to remainder */
+};
+
+/* Answers: a number, a window and a moment. Where window and moment are said below, in this order, they are in the answer; else 0. */
+struct funnelfawn_answer {
+    uint64_t number;
+    uint64_t window;
+    uint64_t moment;
+};
+
+enum funnelfawn_number {
+    FUNNELFAWN_OK = 0,                    /* accepted, or done: each function says what stands beside it */
+    FUNNELFAWN_REFUSED_NO_TABLE = 1,      /* the numbers are those of no sound table, or too few */
+    FUNNELFAWN_REFUSED_NO_SUMMARY = 2,    /* the summary is not sound, or has too few numbers */
+    FUNNELFAWN_REFUSED_SUMMARY_FULL = 3,  /* accepted + refused is 1,000,000,000,000 */
+    FUNNELFAWN_REFUSED_BACKWARD = 4,      /* the moment is before the clock: 0, the clock */
+    FUNNELFAWN_REFUSED_END_OF_CLOCK = 5,  /* the moment is above 1,000,000,000,000 */
+    FUNNELFAWN_REFUSED_NO_ACT = 6,        /* there is no such act */
+    FUNNELFAWN_REFUSED_NO_WINDOW = 7,     /* a wait with a window other than 0, or another act with window 0 or above n */
+    FUNNELFAWN_REFUSED_LATE = 8,          /* the latest moment of some window, any at all, is before the moment: the smallest such
+                                             latest moment, with the lowest window that has it: the window, that moment */
+    FUNNELFAWN_REFUSED_OUT_OF_PLACE = 9,  /* the window is not in the act's place: the window, 0 */
+    FUNNELFAWN_REFUSED_EARLY = 10,        /* a check before its earliest moment: the window, that moment */
+    FUNNELFAWN_REFUSED_WINDOW_COUNT = 11, /* n is outside 1 to 96 */
+    FUNNELFAWN_REFUSED_LIMITS = 12,       /* a, b, c break 1 <= a < b <= c <= 10,000,000 */
+    FUNNELFAWN_REFUSED_NAMES = 13,        /* a names line differs or is missing: 0, its line */
+    FUNNELFAWN_REFUSED_LINE = 14,         /* a line of values or a step differs from its form, or line 2 is missing; writing: a step has
+                                             no form: 0, its line */
+    FUNNELFAWN_REFUSED_LENGTH = 15,       /* the text is longer than 65,536 bytes */
+    FUNNELFAWN_REFUSED_SHORT_OUTPUT = 16  /* a list that is only an output is too short */
+};
+
+/* A fresh table of n windows with the limits a, b, c: all in remainder, clock 0, word 0.
+ *   0, 0, 0 with the table's numbers in `table`; or 11, 12, or, last, 16. */
+struct funnelfawn_answer funnelfawn_fresh(uint64_t n, uint64_t a, uint64_t b, uint64_t c, uint64_t *table, size_t table_length);
+
+/* One act of a window at a moment, which becomes the clock.
+ *   0, the lowest window that is selling afterwards (0 if none; from a fresh table on there is at most one), and the clock, with the
+ *   table brought up to date: its clock, its word and the two numbers of the acting window are written, and no other;
+ *   or the first of 1, 4, 5, .., 10 that applies. */
+struct funnelfawn_answer funnelfawn_step(uint64_t *table, size_t table_length, uint64_t act, uint64_t window, uint64_t moment);
+
+/* A new summary: all zeros. 0, 0, 0; or 16. */
+struct funnelfawn_answer funnelfawn_new_summary(uint64_t *summary, size_t summary_length);
+
+/* The same act, counted: as funnelfawn_step, and the summary is brought up to date, its five numbers and the try moment of the acting
+ * window; or the first of 1 to 10 that applies. 1, 2 and 3 leave the summary as it was, 4 to 10 raise its count of refused acts. */
+struct funnelfawn_answer funnelfawn_record(uint64_t *FUNNELFAWN_RESTRICT table, size_t table_length,
+                                           uint64_t *FUNNELFAWN_RESTRICT summary, size_t summary_length, uint64_t act, uint64_t window,
+                                           uint64_t moment);
+
+/* Recordings: text of at most FUNNELFAWN_MOST_TEXT bytes, of at most FUNNELFAWN_MOST_STEPS steps, and its steps in three lists. */
+enum { FUNNELFAWN_MOST_TEXT = 65536, FUNNELFAWN_MOST_STEPS = 8187 };
+
+/* n, a, b, c are 0 where a reading is refused. */
+struct funnelfawn_reading {
+    struct funnelfawn_answer answer;
+    uint64_t n;
+    uint64_t a;
+    uint64_t b;
+    uint64_t c;
+};
+
+/* Reads a recording. 0, 0, the count of steps, with the steps in the three lists and n, a, b, c in the reading; or 15, or 13, 14, 11 or 12
+ * for the first fault of the text, or, last, 16 where the shortest list has no room for all steps. */
+struct funnelfawn_reading funnelfawn_read(const uint8_t *FUNNELFAWN_RESTRICT text, size_t text_length,
+                                          uint64_t *FUNNELFAWN_RESTRICT moments, size_t moments_length,
+                                          uint64_t *FUNNELFAWN_RESTRICT windows, size_t windows_length,
+                                          uint64_t *FUNNELFAWN_RESTRICT acts, size_t acts_length);
+
+/* Writes a recording of as many steps as the shortest of the three lists holds. 0, 0, the count of bytes, with the text in `out`; or
+ * 11, 12, 14 with the line of the first step that has no form (a moment of more than 13 digits, a window of more than 8, no such act), 15,
+ * or, last, 16. An `out` of FUNNELFAWN_MOST_TEXT bytes always suffices. */
+struct funnelfawn_answer funnelfawn_write(uint64_t n, uint64_t a, uint64_t b, uint64_t c, const uint64_t *moments, size_t moments_length,
+                                          const uint64_t *windows, size_t windows_length, const uint64_t *acts, size_t acts_length,
+                                          uint8_t *FUNNELFAWN_RESTRICT out, size_t out_length);
+
+/* What the program `replay` prints for a recording, faulty or not. 0, 0, the count of bytes, with the text in `out`; or 16, which never
+ * comes where `out` has FUNNELFAWN_MOST_REPORT bytes. */
+enum { FUNNELFAWN_MOST_REPORT = 687734 };
+
+struct funnelfawn_answer funnelfawn_replay(const uint8_t *FUNNELFAWN_RESTRICT text, size_t text_length,
+                                           uint8_t *FUNNELFAWN_RESTRICT out, size_t out_length);
+
+#ifdef __cplusplus
+}
+#endif
+
+#endif
