@@ -1,6 +1,8 @@
 //! The step machine in plain Rust, by value and with the same checks, to measure the proved one beside.
 //! It is written as a programmer would without a proof: a pass for soundness, one for lateness, one for the critical process.
 
+mod cases;
+
 #[derive(Clone, Copy, PartialEq)]
 pub enum Location {
     Remainder,
@@ -162,12 +164,14 @@ pub fn step(state: State, action: u64, process: u64, time: u64) -> Outcome {
         }
         let to = match action {
             1 => Testing(time),
-            2 => if state.word == 0 { Setting(time) } else { Testing(time) },
+            2 if state.word == 0 => Setting(time),
+            2 => Testing(time),
             3 => {
                 state.word = process;
                 Checking(time)
             }
-            4 => if state.word == process { Entering(time) } else { Testing(time) },
+            4 if state.word == process => Entering(time),
+            4 => Testing(time),
             5 => Critical,
             6 => Resetting(time),
             7 => {
@@ -183,55 +187,29 @@ pub fn step(state: State, action: u64, process: u64, time: u64) -> Outcome {
     answered(state, 0, process, time)
 }
 
-// The cases of crates/workload
-
-const OUT_OF_PLACE: u64 = 4;
-const LATE: u64 = 5;
-const UNSOUND_COUNT: u64 = 6;
-const UNSOUND_FIRST: u64 = 7;
-const UNSOUND_LAST: u64 = 8;
-
-fn count_of(case: u64) -> u64 {
-    match case {
-        1 => 2,
-        2 => 24,
-        _ => 96,
-    }
-}
-
+/// Set into `main`, it may cost each turn of the loop a copy of the state.
+#[inline(never)]
 fn state_of(case: u64) -> State {
     let idle = Process { location: Remainder };
-    let mut state = State { n: count_of(case), a: 5, b: 8, c: 12, clock: 0, word: 0, processes: [idle; 96] };
-    match case {
-        LATE => state.processes[0] = Process { location: Testing(0) },
-        UNSOUND_COUNT => state.n = 97,
-        UNSOUND_FIRST => state.processes[0] = Process { location: Testing(9) },
-        UNSOUND_LAST => state.processes[95] = Process { location: Testing(9) },
-        _ => {}
+    let [a, b, c] = cases::LIMITS;
+    let mut state = State { n: cases::count_of(case), a, b, c, clock: 0, word: 0, processes: [idle; 96] };
+    if case == cases::UNSOUND_COUNT {
+        state.n = 97;
+    }
+    if let Some((window, arrival)) = cases::testing_of(case) {
+        state.processes[window as usize - 1] = Process { location: Testing(arrival) };
     }
     state
 }
 
-fn act_of(case: u64, i: u64) -> (u64, u64, u64) {
-    let (round, place) = (i / 8, i % 8);
-    match case {
-        OUT_OF_PLACE => (8, 1, 0),
-        LATE.. => (0, 0, 1000),
-        _ => (place + 1, round % count_of(case) + 1, round * 20 + place + place / 3 * 8 - place / 6 * 8),
-    }
-}
-
 fn main() {
-    let case: u64 = std::env::args().nth(1).map_or(0, |word| word.parse().unwrap());
-    let steps = if case == 0 { 0 } else { 2000 };
+    let case = cases::chosen();
     let mut state = state_of(case);
-    let mut sum = 0u64;
-    for i in 0..steps {
-        let (action, process, time) = act_of(case, i);
+    let sum = cases::run(case, |[action, process, time]| {
         let outcome = step(state, action, process, time);
-        let answer = outcome.answer;
-        sum = sum.wrapping_add(answer.code).wrapping_add(answer.process).wrapping_add(answer.time);
         state = outcome.state;
-    }
+        let answer = outcome.answer;
+        [answer.code, answer.process, answer.time]
+    });
     println!("{} {}", sum, state.clock);
 }

@@ -1,0 +1,36 @@
+# Builds what bench/run measures, into target and reference/target. Sourced by it; `$work` is a folder for notes.
+
+# where rustup puts them, if the shell was not told
+command -v cargo >/dev/null || PATH=$PATH:$HOME/.cargo/bin
+
+for tool in cargo rustc valgrind; do
+    command -v $tool >/dev/null || fail "there is no $tool"
+done
+
+# quietly COMMAND..: says something only if the command fails
+quietly() { "$@" >"$work/said" 2>&1 || { cat "$work/said" >&2; fail "$* fails"; }; }
+
+# compile NAME SOURCE [OPTION]..: target/bench/NAME of bench/SOURCE.rs
+compile() {
+    name=$1 source=$2
+    shift 2
+    quietly rustc -O --edition 2021 "$@" -o "target/bench/$name" "bench/$source.rs"
+}
+
+# the proved programs and the library
+quietly "${RT:-rt}" check bench bench_apart replay
+quietly "${RT:-rt}" staticlib funnelfawn
+for made in bin/bench bin/bench_apart bin/replay staticlib/libfunnelfawn.a; do
+    [ -f "target/$made" ] || fail "there is no target/$made"
+done
+
+# what they are held against
+quietly cargo build --release --offline --quiet --manifest-path reference/Cargo.toml --target-dir reference/target
+mkdir -p target/bench
+compile twin twin
+compile twin_apart twin --cfg apart
+compile reference reference --extern reference=reference/target/release/libreference.rlib
+
+compile library library -L native=target/staticlib -l static=funnelfawn
+compile library_recorded library -L native=target/staticlib -l static=funnelfawn --cfg recorded
+compile timer timer

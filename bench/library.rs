@@ -1,0 +1,53 @@
+//! The cases run through the C library; with `--cfg recorded` through its recorded step. The calls are declared as the Rust package does.
+
+mod cases;
+#[allow(dead_code)]
+#[path = "../clients/rust/src/ffi.rs"]
+mod ffi;
+#[allow(dead_code)]
+#[path = "../clients/rust/src/raw.rs"]
+mod raw;
+
+use raw::{Answer, HEADER, STRIDE, TABLE};
+
+const N: usize = 0;
+const CLOCK: usize = 4;
+const TESTING: u64 = 1;
+
+fn table_of(case: u64) -> [u64; TABLE] {
+    let mut table = [0; TABLE];
+    let [a, b, c] = cases::LIMITS;
+    let made = raw::fresh(cases::count_of(case), a, b, c, &mut table);
+    assert_eq!(made.number, 0);
+    if case == cases::UNSOUND_COUNT {
+        table[N] = 97;
+    }
+    if let Some((window, arrival)) = cases::testing_of(case) {
+        let entry = HEADER + STRIDE * (window as usize - 1);
+        table[entry..entry + STRIDE].copy_from_slice(&[TESTING, arrival]);
+    }
+    table
+}
+
+fn numbers(answer: Answer) -> [u64; 3] {
+    [answer.number, answer.window, answer.moment]
+}
+
+#[cfg(not(recorded))]
+fn main() {
+    let case = cases::chosen();
+    let mut table = table_of(case);
+    let sum = cases::run(case, |[act, window, moment]| numbers(raw::step(&mut table, act, window, moment)));
+    println!("{} {}", sum, table[CLOCK]);
+}
+
+/// Prints the four counts and the longest wait too: they show that the acts were counted.
+#[cfg(recorded)]
+fn main() {
+    let case = cases::chosen();
+    let (mut table, mut summary) = (table_of(case), [0u64; raw::SUMMARY]);
+    let sum = cases::run(case, |[act, window, moment]| {
+        numbers(raw::record(&mut table, &mut summary, act, window, moment))
+    });
+    println!("{} {} {:?}", sum, table[CLOCK], &summary[..raw::TRIES]);
+}

@@ -1,0 +1,39 @@
+# The two recordings on which bench/run measures `replay`. Sourced by it.
+
+# the shortest steps there are, 8,187 of them: a try that is accepted, and tries that are out of place
+tries() {
+    awk 'BEGIN { printf "windows,a,b,c\n96,5,8,12\ntime,window,act\n"; for (i = 0; i < 8187; i++) print "0,1,try" }'
+}
+
+# one window after the other enters and leaves: every step is accepted
+sales() {
+    awk 'BEGIN {
+        printf "windows,a,b,c\n96,5,8,12\ntime,window,act\n"
+        split("try test set check crit exit reset rem", act, " ")
+        size = 40
+        for (t = 0; ; t += 8) {
+            text = ""
+            for (k = 1; k <= 8; k++) text = text (k < 4 ? t : t + 8) "," t / 8 % 96 + 1 "," act[k] "\n"
+            size += length(text)
+            if (size > 65536) exit
+            printf "%s", text
+        }
+    }'
+}
+
+# replay_rows: the whole program
+replay_rows() {
+    ours=target/bin/replay beside=reference/target/release/replay
+    echo 'replay, the whole program; the reference'
+    for name in tries sales; do
+        text=target/bench/$name
+        $name >"$text"
+        "$ours" <"$text" >"$text.proved"
+        "$beside" <"$text" >"$text.beside"
+        cmp "$text.proved" "$text.beside" || fail "the recording $text: $ours and $beside differ"
+        count=$(instructions "$text" "$ours")
+        count_beside=$(instructions "$text" "$beside")
+        times=$(target/bench/timer 100 "$text" "$ours" -- "$beside")
+        row replay $name "$name: $(wc -c <"$text") bytes, $(($(wc -l <"$text") - 3)) steps" 1 "$count" "$count_beside" $times
+    done
+}
