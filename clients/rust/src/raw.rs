@@ -57,51 +57,38 @@ pub fn new_summary(summary: &mut [u64]) -> Answer {
 }
 
 pub fn record(table: &mut [u64], summary: &mut [u64], act: u64, window: u64, moment: u64) -> Answer {
-    let (table, table_length) = (table.as_mut_ptr(), table.len());
-    let (summary, summary_length) = (summary.as_mut_ptr(), summary.len());
-    unsafe { funnelfawn_record(table, table_length, summary, summary_length, act, window, moment) }
+    unsafe {
+        funnelfawn_record(
+            table.as_mut_ptr(),
+            table.len(),
+            summary.as_mut_ptr(),
+            summary.len(),
+            act,
+            window,
+            moment,
+        )
+    }
 }
 
+#[rustfmt::skip]
 pub fn read(text: &[u8], moments: &mut [u64], windows: &mut [u64], acts: &mut [u64]) -> Reading {
-    let (moments, moments_length) = (moments.as_mut_ptr(), moments.len());
-    let (windows, windows_length) = (windows.as_mut_ptr(), windows.len());
-    let (acts, acts_length) = (acts.as_mut_ptr(), acts.len());
-    let (text, text_length) = (text.as_ptr(), text.len());
     unsafe {
         funnelfawn_read(
-            text,
-            text_length,
-            moments,
-            moments_length,
-            windows,
-            windows_length,
-            acts,
-            acts_length,
+            text.as_ptr(), text.len(),
+            moments.as_mut_ptr(), moments.len(), windows.as_mut_ptr(), windows.len(), acts.as_mut_ptr(), acts.len(),
         )
     }
 }
 
 /// The values are n, a, b, c.
+#[rustfmt::skip]
 pub fn write(values: [u64; 4], moments: &[u64], windows: &[u64], acts: &[u64], out: &mut [u8]) -> Answer {
     let [n, a, b, c] = values;
-    let (moments, moments_length) = (moments.as_ptr(), moments.len());
-    let (windows, windows_length) = (windows.as_ptr(), windows.len());
-    let (acts, acts_length) = (acts.as_ptr(), acts.len());
-    let (out, out_length) = (out.as_mut_ptr(), out.len());
     unsafe {
         funnelfawn_write(
-            n,
-            a,
-            b,
-            c,
-            moments,
-            moments_length,
-            windows,
-            windows_length,
-            acts,
-            acts_length,
-            out,
-            out_length,
+            n, a, b, c,
+            moments.as_ptr(), moments.len(), windows.as_ptr(), windows.len(), acts.as_ptr(), acts.len(),
+            out.as_mut_ptr(), out.len(),
         )
     }
 }

@@ -5,7 +5,7 @@ use mathlib.Core.Path.{_≡_, refl, sym, ap, _∙_}
 use mathlib.Core.List.{List, [], _∷_, _++_, map, map-append, append-assoc}
 use native.Mathlib.Numerals.{add-one}
 use native.Mathlib.Omega.{arith}
-use lib.ListN.{length, getD, set, take, drop, length-append, length-take, length-drop, length-map}
+use lib.ListN.{length, getD, set, take, drop, length-append, length-take, length-map}
 use lib.Seq.{length-take-le, take-suc, take-all, drop-cons, getD-take, set-at, getD-at}
 use Rattle.model.specs.declared.State.{State}
 use Rattle.model.specs.declared.Outcome.{Outcome}
@@ -14,6 +14,7 @@ use Rattle.model.specs.declared.Recorded.{Recorded}
 use Rattle.model.specs.Readings.{over}
 use Rattle.model.specs.Answers.{freshOf}
 use Rattle.model.specs.Calls.{Call, callOf, tableOf, runOf, resultsOf}
+use Rattle.model.proofs.Lists.{length-over}
 use Rattle.history.specs.Lists.{Tuple, summaryOf, callIn, Rows, rows, callsIn, callsOf}
 use Rattle.history.specs.Lists.{countsRow, triesRow, answerRow, overwritten, Run, runGave, ending, ranFrom, ranOf, MeetsDemand3}
 use Rattle.history.specs.Lists.{callAt, resultAt, stored, Turn, turnGave, turnOf}
@@ -27,9 +28,6 @@ pub row-at : (l : List Tuple) (i : ℕ) (x y : Tuple) → i < length l → getD 
 row-at [] i x y h = absurd (omega arith)
 row-at (r ∷ l) zero x y h = refl
 row-at (r ∷ l) (suc i) x y h = row-at l i x y (omega arith)
-
-pub length-over : (xs l : List Tuple) → length xs ≤ length l → length (over xs l) ≡ length l
-length-over xs l h = simp (length-append, length-drop) (omega arith)
 
 module _ (xs l : List Tuple) (i : ℕ) (written : length xs ≡ i) (inside : i < length l) where
   -- the row after those written is as it was
