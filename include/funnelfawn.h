@@ -2,17 +2,18 @@
  *
  * Link with libfunnelfawn.a (x86-64 Linux) and the C library, of which only memcpy and memset are used. No function keeps state,
  * allocates, prints or blocks; each takes any numbers at all and returns. funnelfawn_replay needs about 210 KB of stack, the others less
- * than 16 KB. docs/01-scope.md is the specification that the library is proved against.
+ * than 16 KB. The library is proved against docs/SPECIFICATION.md; numbers such as [9.50] are its clauses, and its section 1 has the words
+ * that it uses for the windows, places, moments and acts of this header.
  *
  * What is lent
  *   A list is a pointer and the count of its elements (not of bytes). The caller owns it; the library keeps no pointer past the call.
- *   The caller sees to these three things, which no test within a call can find out: the pointer is aligned for its element and leads
- *   to that many elements (with a count of 0 nothing is read through it, and it may be null); lists that are lent to one call do not
+ *   The caller sees to these three things, which no test within a call can find out [9.160]: the pointer is aligned for its element and
+ *   leads to that many elements (with a count of 0 nothing is read through it, and it may be null); lists that are lent to one call do not
  *   overlap; and nobody else touches them during the call. So one table is for one thread at a time; two tables have nothing in common.
- *   Elements past those that a call speaks of stay as they are. A refusal leaves all that was lent as it was, save that 4 to 10 raise
- *   the count of refused acts of a lent summary.
+ *   Elements past those that a call speaks of stay as they are. A call that is refused leaves all that was lent as it was, but for the
+ *   count of refused acts in a lent summary, which 4 to 10 raise by one [9.120].
  *
- * All times are whole microseconds, from 0 to 1,000,000,000,000. */
+ * Time is counted in whole microseconds, from 0 to 1,000,000,000,000. */
 #ifndef FUNNELFAWN_H
 #define FUNNELFAWN_H
 
@@ -26,7 +27,7 @@ extern "C" {
 #define FUNNELFAWN_RESTRICT restrict
 #endif
 
-/* Tables
+/* Tables: [9.10], and section 2 of the specification
  *
  * A table of windows is lent as FUNNELFAWN_TABLE_LENGTH numbers: n, a, b, c, the clock, the shared word (0, or a window), and then for
  * each of the 96 windows its place and its arrival, the moment at which it came there. Window w, from 1, has its place at
@@ -34,12 +35,12 @@ extern "C" {
  * two have no arrival, and 0 stands for it.
  *
  * The latest moment of a window is its arrival + c in checking and + a in the other timed places; the earliest moment of a check is its
- * arrival + b. A table is sound when n is 1 to 96, 1 <= a < b <= c <= 10,000,000, the clock is in range, the word is at most n, windows
- * above n are in remainder, and for each window in a timed place arrival <= clock <= latest moment. A place above 7, or an arrival other
- * than 0 in remainder or selling, tells no table, and is refused as one that is not sound.
+ * arrival + b. A table is sound when n is 1 to 96, 1 <= a < b <= c <= 10,000,000, the clock is in range, the word is at most n, all
+ * windows past n are in remainder, and every window in a timed place has its arrival <= the clock <= its latest moment [2.120]. A place
+ * above 7, or an arrival other than 0 in remainder or selling, tells no table, and is refused as one that is not sound [9.20].
  *
  * Each call judges the numbers anew, so damage that makes a table unsound is found. An older copy of a table is not found, nor one with
- * two sellers: the lock holds for a table that came from funnelfawn_fresh and was handed on as each call left it, in one copy. */
+ * two sellers: the lock holds for a table that came from funnelfawn_fresh and was handed on as each call left it, in one copy [9.170]. */
 enum {
     FUNNELFAWN_WINDOWS = 96,
     FUNNELFAWN_HEADER_LENGTH = 6,
@@ -67,13 +68,14 @@ enum funnelfawn_place {
     FUNNELFAWN_PLACE_LEAVING
 };
 
-/* Summaries
+/* Summaries: [9.30], and section 5 of the specification
  *
  * A summary is lent as FUNNELFAWN_SUMMARY_LENGTH numbers: the five below, and from FUNNELFAWN_AT_TRIES on the try moment of each window,
  * that of window w at FUNNELFAWN_AT_TRIES + w - 1. Accepted and refused acts are counted (of the refusals 4 to 10), and as entries and
- * exits the accepted crits and exits. An accepted try stores its moment; a crit compares its moment less the stored one with the longest
- * wait, keeps the greater, and stores 0. A summary is sound when accepted + refused <= 1,000,000,000,000, entries + exits <= accepted,
- * the longest wait is at most 1,000,000,000,000 and each try moment is at most the table's clock. */
+ * exits the accepted crits and exits. An accepted try makes its moment the try moment of its window. An accepted crit ends a wait, its
+ * own moment less that try moment: if it is longer than the longest wait it takes its place, and the try moment becomes 0. A summary is
+ * sound when neither accepted + refused nor the longest wait exceeds 1,000,000,000,000, entries + exits <= accepted, and no try moment
+ * lies after the table's clock [5.40]. */
 enum {
     FUNNELFAWN_AT_ACCEPTED,
     FUNNELFAWN_AT_REFUSED,
@@ -84,20 +86,22 @@ enum {
     FUNNELFAWN_SUMMARY_LENGTH = FUNNELFAWN_AT_TRIES + FUNNELFAWN_WINDOWS
 };
 
-/* Acts: the place that each leaves, and what it does. Every move into a timed place takes the act's moment as arrival. */
+/* Acts, [3.0] to [3.8]: the place that each leaves, and what it does. A window arrives in a timed place at the act's moment, anew also
+ * where it stays in testing. */
 enum funnelfawn_act {
-    FUNNELFAWN_ACT_WAIT,  /* any (the window is 0): the clock only */
+    FUNNELFAWN_ACT_WAIT,  /* none (the window is 0): nothing but the clock changes */
     FUNNELFAWN_ACT_TRY,   /* remainder: to testing */
-    FUNNELFAWN_ACT_TEST,  /* testing: with the word 0 to setting, else testing again */
+    FUNNELFAWN_ACT_TEST,  /* testing: to setting if the word is 0, else to testing anew */
     FUNNELFAWN_ACT_SET,   /* setting: the word becomes the window; to checking */
-    FUNNELFAWN_ACT_CHECK, /* checking: if the word is the window, to entering, else to testing */
+    FUNNELFAWN_ACT_CHECK, /* checking: to entering if the word is the window, else to testing */
     FUNNELFAWN_ACT_CRIT,  /* entering: to selling */
     FUNNELFAWN_ACT_EXIT,  /* selling: to resetting */
     FUNNELFAWN_ACT_RESET, /* resetting: the word becomes 0; to leaving */
     FUNNELFAWN_ACT_REM    /* leaving: to remainder */
 };
 
-/* Answers: a number, a window and a moment. Where window and moment are said below, in this order, they are in the answer; else 0. */
+/* Answers, [4.0] to [4.16]: a number, with a window and a moment. Where these two are said below, in this order, they are in the answer;
+ * else 0. */
 struct funnelfawn_answer {
     uint64_t number;
     uint64_t window;
@@ -112,40 +116,42 @@ enum funnelfawn_number {
     FUNNELFAWN_REFUSED_BACKWARD = 4,      /* the moment is before the clock: 0, the clock */
     FUNNELFAWN_REFUSED_END_OF_CLOCK = 5,  /* the moment is above 1,000,000,000,000 */
     FUNNELFAWN_REFUSED_NO_ACT = 6,        /* there is no such act */
-    FUNNELFAWN_REFUSED_NO_WINDOW = 7,     /* a wait with a window other than 0, or another act with window 0 or above n */
+    FUNNELFAWN_REFUSED_NO_WINDOW = 7,     /* a wait whose window is not 0, or another act whose window is none of 1 to n */
     FUNNELFAWN_REFUSED_LATE = 8,          /* the latest moment of some window, any at all, is before the moment: the smallest such
                                              latest moment, with the lowest window that has it: the window, that moment */
-    FUNNELFAWN_REFUSED_OUT_OF_PLACE = 9,  /* the window is not in the act's place: the window, 0 */
-    FUNNELFAWN_REFUSED_EARLY = 10,        /* a check before its earliest moment: the window, that moment */
+    FUNNELFAWN_REFUSED_OUT_OF_PLACE = 9,  /* the window is not in the place that the act leaves: the window, 0 */
+    FUNNELFAWN_REFUSED_EARLY = 10,        /* a check comes before the window's earliest moment: the window, that moment */
     FUNNELFAWN_REFUSED_WINDOW_COUNT = 11, /* n is outside 1 to 96 */
     FUNNELFAWN_REFUSED_LIMITS = 12,       /* a, b, c break 1 <= a < b <= c <= 10,000,000 */
-    FUNNELFAWN_REFUSED_NAMES = 13,        /* a names line differs or is missing: 0, its line */
-    FUNNELFAWN_REFUSED_LINE = 14,         /* a line of values or a step differs from its form, or line 2 is missing; writing: a step has
-                                             no form: 0, its line */
+    FUNNELFAWN_REFUSED_NAMES = 13,        /* line 1 or line 3 is not the line of names due there, or is absent: 0, its line */
+    FUNNELFAWN_REFUSED_LINE = 14,         /* line 2 lacks its form or is absent, or a step lacks its form; writing: a step has no form:
+                                             0, its line */
     FUNNELFAWN_REFUSED_LENGTH = 15,       /* the text is longer than 65,536 bytes */
     FUNNELFAWN_REFUSED_SHORT_OUTPUT = 16  /* a list that is only an output is too short */
 };
 
-/* A fresh table of n windows with the limits a, b, c: all in remainder, clock 0, word 0.
+/* [9.50] A fresh table of n windows with the limits a, b, c: all in remainder, clock 0, word 0.
  *   0, 0, 0 with the table's numbers in `table`; or 11, 12, or, last, 16. */
 struct funnelfawn_answer funnelfawn_fresh(uint64_t n, uint64_t a, uint64_t b, uint64_t c, uint64_t *table, size_t table_length);
 
-/* One act of a window at a moment, which becomes the clock.
- *   0, the lowest window that is selling afterwards (0 if none; from a fresh table on there is at most one), and the clock, with the
- *   table brought up to date: its clock, its word and the two numbers of the acting window are written, and no other;
- *   or the first of 1, 4, 5, .., 10 that applies. */
+/* [9.60] One act of a window at a moment, the clock from then on.
+ *   0, the lowest of the windows that are selling after it (0 if none is; from a fresh table on there is at most one), and the clock, with
+ *   the table brought up to date: its clock, its word and the two numbers of the acting window are written, and no other [9.130];
+ *   or the lowest of 1, 4, 5, .., 10 whose condition holds. */
 struct funnelfawn_answer funnelfawn_step(uint64_t *table, size_t table_length, uint64_t act, uint64_t window, uint64_t moment);
 
-/* A new summary: all zeros. 0, 0, 0; or 16. */
+/* [9.70] A new summary: all zeros. 0, 0, 0; or 16. */
 struct funnelfawn_answer funnelfawn_new_summary(uint64_t *summary, size_t summary_length);
 
-/* The same act, counted: as funnelfawn_step, and the summary is brought up to date, its five numbers and the try moment of the acting
- * window; or the first of 1 to 10 that applies. 1, 2 and 3 leave the summary as it was, 4 to 10 raise its count of refused acts. */
+/* [9.80] The same act, counted: as funnelfawn_step, and the summary is brought up to date, its five numbers and the try moment of the
+ * acting window; or the lowest of 1 to 10 whose condition holds. 1, 2 and 3 leave the summary as it was, 4 to 10 raise its count of
+ * refused acts. */
 struct funnelfawn_answer funnelfawn_record(uint64_t *FUNNELFAWN_RESTRICT table, size_t table_length,
                                            uint64_t *FUNNELFAWN_RESTRICT summary, size_t summary_length, uint64_t act, uint64_t window,
                                            uint64_t moment);
 
-/* Recordings: text of at most FUNNELFAWN_MOST_TEXT bytes, of at most FUNNELFAWN_MOST_STEPS steps, and its steps in three lists. */
+/* Recordings, section 6 of the specification: text of at most FUNNELFAWN_MOST_TEXT bytes, of at most FUNNELFAWN_MOST_STEPS steps, and its
+ * steps in three lists. */
 enum { FUNNELFAWN_MOST_TEXT = 65536, FUNNELFAWN_MOST_STEPS = 8187 };
 
 /* n, a, b, c are 0 where a reading is refused. */
@@ -157,22 +163,22 @@ struct funnelfawn_reading {
     uint64_t c;
 };
 
-/* Reads a recording. 0, 0, the count of steps, with the steps in the three lists and n, a, b, c in the reading; or 15, or 13, 14, 11 or 12
- * for the first fault of the text, or, last, 16 where the shortest list has no room for all steps. */
+/* [9.90] Reads a recording. 0, 0, the count of steps, with the steps in the three lists and n, a, b, c in the reading; or 15, or 13, 14,
+ * 11 or 12 for the first fault of the text, or, last, 16 where the shortest list has no room for all steps. */
 struct funnelfawn_reading funnelfawn_read(const uint8_t *FUNNELFAWN_RESTRICT text, size_t text_length,
                                           uint64_t *FUNNELFAWN_RESTRICT moments, size_t moments_length,
                                           uint64_t *FUNNELFAWN_RESTRICT windows, size_t windows_length,
                                           uint64_t *FUNNELFAWN_RESTRICT acts, size_t acts_length);
 
-/* Writes a recording of as many steps as the shortest of the three lists holds. 0, 0, the count of bytes, with the text in `out`; or
- * 11, 12, 14 with the line of the first step that has no form (a moment of more than 13 digits, a window of more than 8, no such act), 15,
- * or, last, 16. An `out` of FUNNELFAWN_MOST_TEXT bytes always suffices. */
+/* [9.100] Writes a recording of the steps in the three lists, as many as the shortest has. 0, 0, the count of bytes, with the text in
+ * `out`; or 11, 12, 14 with the line of the first step without a form (a moment of more than 13 digits, a window of more than 8, no such
+ * act), 15, or, last, 16. An `out` of FUNNELFAWN_MOST_TEXT bytes always suffices. */
 struct funnelfawn_answer funnelfawn_write(uint64_t n, uint64_t a, uint64_t b, uint64_t c, const uint64_t *moments, size_t moments_length,
                                           const uint64_t *windows, size_t windows_length, const uint64_t *acts, size_t acts_length,
                                           uint8_t *FUNNELFAWN_RESTRICT out, size_t out_length);
 
-/* What the program `replay` prints for a recording, faulty or not. 0, 0, the count of bytes, with the text in `out`; or 16, which never
- * comes where `out` has FUNNELFAWN_MOST_REPORT bytes. */
+/* [9.110] What the program `replay` prints for a recording, faulty or not. 0, 0, the count of bytes, with the text in `out`; or 16, which
+ * never comes where `out` has FUNNELFAWN_MOST_REPORT bytes. */
 enum { FUNNELFAWN_MOST_REPORT = 687734 };
 
 struct funnelfawn_answer funnelfawn_replay(const uint8_t *FUNNELFAWN_RESTRICT text, size_t text_length,

@@ -85,7 +85,7 @@ static void say_refusal(struct funnelfawn_answer answer)
     case FUNNELFAWN_REFUSED_EARLY:
         printf("early): window %" PRIu64 " may check from %" PRIu64 " on\n", answer.window, answer.moment);
         break;
-    default: /* 1 and 2 do not follow from a fresh table and a new summary, nor 6 from an act that was read */
+    default: /* a fresh table with a new summary leads to neither 1 nor 2, and an act that was read not to 6 */
         puts("unexpected)");
     }
 }

@@ -1,10 +1,10 @@
-//! The answers of the box: document 01, "Answers of the box".
-//! An answer is a number, a window and a moment; where the paper's table shows "-" it holds 0.
+//! The answers of the box: section 4 of the specification.
+//! Where its table has - for a window or a moment, an answer holds 0.
 
-/// The answer to an accepted act, to a fresh table that stands, to a reading and to a writing.
+/// [4.0] The answer to an accepted act, to a fresh table that stands, to a reading and to a writing.
 pub const ACCEPTED: u64 = 0;
 
-// The rows of the table, under the names of its last column.
+// [4.1] to [4.16], the rows of the table, under their names there.
 pub const NO_TABLE: u64 = 1;
 pub const NO_SUMMARY: u64 = 2;
 pub const SUMMARY_FULL: u64 = 3;
@@ -29,12 +29,12 @@ pub struct Answer {
     pub moment: u64,
 }
 
-/// An answer in the order of the table's first column.
+/// [4.50]
 pub fn answer(number: u64, window: u64, moment: u64) -> Answer {
     Answer { number, window, moment }
 }
 
-/// An answer with "-, -" behind its number.
+/// An answer with nothing behind its number.
 pub fn bare(number: u64) -> Answer {
     answer(number, 0, 0)
 }

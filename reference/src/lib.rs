@@ -1,5 +1,5 @@
-//! The box of document 01 in plain Rust, written from the papers alone, to be run beside the proved program.
-//! It speaks the words of document 01; each file's first lines name the sections that it renders.
+//! The box of `docs/SPECIFICATION.md` in plain Rust, written from the user's papers alone, to be run beside the proved program.
+//! It speaks the user's words; each file's first lines name the sections of the specification that it renders.
 
 pub mod answer;
 pub mod generator;

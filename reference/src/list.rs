@@ -1,4 +1,4 @@
-//! A list of calls, as text, and what comes of it: document 01, "The lists of demand 3" and "The running summary".
+//! A list of calls, as text, and what comes of it: sections 8 and 5 of the specification.
 //! Line 1 has n, a, b, c. Each further line is a call: 1 with a summary or 0 without, act, window, moment, then the summary that is
 //! lent: its four counts, the longest wait and the try moments. What a line leaves out at its end is 0.
 
@@ -139,7 +139,7 @@ fn line(name: &str, numbers: &[u64]) -> String {
     format!("{name},{}\n", joined(numbers))
 }
 
-/// The places in the paper's order.
+/// [2.70]
 pub fn number_of(place: Place) -> u64 {
     match place {
         Place::Remainder => 0,

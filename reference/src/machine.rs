@@ -1,5 +1,5 @@
-//! The table of windows and its step: document 01, "The table of windows", "The acts" and "Answers of the box".
-//! A table goes in and comes back by value, as "a table is copied whole when it is handed over and handed back".
+//! The table of windows and its step: sections 2, 3 and 4 of the specification.
+//! A table goes in and comes back by value, as [21.50] has it.
 
 use crate::answer::*;
 use Place::*;
@@ -11,7 +11,7 @@ pub const LIMIT_END: u64 = 10_000_000;
 /// The entries of every table, whatever its n.
 pub const WINDOWS: usize = 96;
 
-// "Nine acts are numbered 0 to 8."
+// The numbers of the acts, [3.0] to [3.8].
 pub const WAIT: u64 = 0;
 pub const TRY: u64 = 1;
 pub const TEST: u64 = 2;
@@ -22,7 +22,7 @@ pub const EXIT: u64 = 6;
 pub const RESET: u64 = 7;
 pub const REM: u64 = 8;
 
-/// "Only the six timed places carry the moment at which the window came there."
+/// [2.80] The number in a timed place is the arrival.
 #[derive(Clone, Copy, Debug, PartialEq, Eq)]
 pub enum Place {
     Remainder,
@@ -55,12 +55,12 @@ pub struct Values {
 }
 
 impl Values {
-    /// The number of the refusal, if they do not stand: "checks 11, then 12".
+    /// [4.90] The number of the refusal, if they do not stand.
     pub fn refusal(&self) -> Option<u64> {
         if !(1..=WINDOWS as u64).contains(&self.n) {
             return Some(WINDOW_COUNT);
         }
-        // 1 ≤ a < b ≤ c ≤ 10,000,000
+        // [2.30]
         if !(1 <= self.a && self.a < self.b && self.b <= self.c && self.c <= LIMIT_END) {
             return Some(LIMITS);
         }
@@ -77,7 +77,7 @@ pub struct Table {
     pub places: [Place; WINDOWS],
 }
 
-/// "A refused fresh table returns n, a, b, c as 0; that table is otherwise like a fresh one."
+/// [2.60] [4.100] Refused or not, all but the values is the same.
 pub fn fresh(values: Values) -> (Answer, Table) {
     let (number, values) = match values.refusal() {
         Some(number) => (number, Values::default()),
@@ -92,7 +92,7 @@ impl Table {
         self.places[window as usize - 1]
     }
 
-    /// "The earliest is arrival + b in checking, else the arrival."
+    /// [2.100] Only a window with an arrival has one.
     pub fn earliest(&self, window: u64) -> Option<u64> {
         match self.place(window) {
             Checking(arrival) => Some(arrival + self.values.b),
@@ -100,7 +100,7 @@ impl Table {
         }
     }
 
-    /// "The latest moment is arrival + c in checking and arrival + a in the other five."
+    /// [2.90]
     pub fn latest(&self, window: u64) -> Option<u64> {
         match self.place(window) {
             Checking(arrival) => Some(arrival + self.values.c),
@@ -114,12 +114,12 @@ impl Table {
         (1..=self.values.n).filter_map(timed).min()
     }
 
-    /// The lowest-numbered window selling, 0 if none.
+    /// The lowest window that is selling, or 0.
     pub fn seller(&self) -> u64 {
         (1..=WINDOWS as u64).find(|&window| self.place(window) == Selling).unwrap_or(0)
     }
 
-    /// "Soundness looks at nothing else."
+    /// [2.120] [2.130]
     pub fn sound(&self) -> bool {
         self.values.refusal().is_none()
             && self.clock <= CLOCK_END
@@ -127,7 +127,7 @@ impl Table {
             && (1..=WINDOWS as u64).all(|window| self.sound_at(window))
     }
 
-    /// "Entries above n are in remainder, and for each timed place arrival ≤ clock ≤ latest moment."
+    /// [2.120] What is asked of the entry of one window.
     fn sound_at(&self, window: u64) -> bool {
         let place = self.place(window);
         // The arrival is looked at first: one within the clock's range leaves the latest moment no overflow.
@@ -148,7 +148,7 @@ pub fn step(table: Table, act: u64, window: u64, moment: u64) -> (Answer, Table)
     }
 }
 
-/// Rows 4 to 10 of the answers, on a sound table: "the first that applies is given, in that order".
+/// [4.80] The answers 4 to 10, on a sound table.
 pub fn refusal(table: &Table, act: u64, window: u64, moment: u64) -> Option<Answer> {
     if moment < table.clock {
         return Some(answer(BACKWARD, 0, table.clock));
@@ -178,7 +178,7 @@ pub fn refusal(table: &Table, act: u64, window: u64, moment: u64) -> Option<Answ
     earliest.map(|earliest| answer(EARLY, window, earliest))
 }
 
-/// The acts table's second column, "From", but for the wait, which starts from any place.
+/// Whether an act leaves that place, by [3.1] to [3.8]; a wait leaves none.
 fn starts_from(act: u64, place: Place) -> bool {
     matches!(
         (act, place),
@@ -193,7 +193,7 @@ fn starts_from(act: u64, place: Place) -> bool {
     )
 }
 
-/// "The answer to an accepted act is 0, the lowest-numbered window selling afterwards, and the clock."
+/// [3.50] [3.70] [4.60] An accepted act: its answer, and the table after it.
 pub fn accepted(mut table: Table, act: u64, window: u64, moment: u64) -> (Answer, Table) {
     table.clock = moment;
     if act != WAIT {
@@ -207,7 +207,7 @@ pub fn accepted(mut table: Table, act: u64, window: u64, moment: u64) -> (Answer
     (answer(ACCEPTED, table.seller(), table.clock), table)
 }
 
-/// Where the act leads; "every move into a timed place takes the act's moment as arrival".
+/// [3.60] Where the act leads.
 fn destination(table: &Table, act: u64, window: u64, moment: u64) -> Place {
     match act {
         TRY => Testing(moment),

@@ -1,4 +1,4 @@
-//! The reader and the writer of recordings: document 01, "Recordings".
+//! The reader and the writer of recordings: section 6 of the specification.
 //! The reader checks the whole text before it stores a step: 16 comes last, and a refusal leaves the lists alone.
 
 use crate::answer::*;
@@ -14,7 +14,7 @@ pub const WORDS: [&str; 9] = ["wait", "try", "test", "set", "check", "crit", "ex
 const VALUE_NAMES: &str = "windows,a,b,c";
 const STEP_NAMES: &str = "time,window,act";
 
-/// "Time has at most 13 digits, other numbers at most 8."
+/// [6.60]
 const TIME_DIGITS: usize = 13;
 const OTHER_DIGITS: usize = 8;
 
@@ -54,7 +54,7 @@ impl Fault {
     }
 }
 
-/// "Order: 15; line 1; line 2 (14, then 11, 12); line 3; further lines."
+/// [6.90] All but 16, which `read_into` gives.
 pub fn read(text: &[u8]) -> Result<Recording, Fault> {
     if text.len() > TEXT_END {
         return Err(Fault { number: LENGTH, line: 0 });
@@ -131,7 +131,7 @@ fn fields<const COUNT: usize>(line: &[u8]) -> Option<[&[u8]; COUNT]> {
     fields.try_into().ok()
 }
 
-/// "Numbers are decimal without leading zeros (0 is one digit)."
+/// [6.60]
 fn number(field: &[u8], most_digits: usize) -> Option<u64> {
     let leading_zero = field.len() > 1 && field[0] == b'0';
     if field.is_empty() || field.len() > most_digits || leading_zero {
@@ -147,7 +147,7 @@ fn number(field: &[u8], most_digits: usize) -> Option<u64> {
     Some(value)
 }
 
-/// The reader with its three lent lists: "the shortest sets the limit", and places past the last step are left.
+/// [6.130] [6.140] The reader with its three lent lists.
 pub fn read_into(text: &[u8], times: &mut [u64], windows: &mut [u64], acts: &mut [u64]) -> (Answer, Values) {
     let recording = match read(text) {
         Ok(recording) => recording,
@@ -165,7 +165,7 @@ pub fn read_into(text: &[u8], times: &mut [u64], windows: &mut [u64], acts: &mut
     (answer(ACCEPTED, 0, recording.steps.len() as u64), recording.values)
 }
 
-/// The writer: "takes as many steps as the shortest of its three lists holds"; bytes after the text are unchanged.
+/// [6.150] [6.180] The writer.
 pub fn write(values: Values, times: &[u64], windows: &[u64], acts: &[u64], output: &mut [u8]) -> Answer {
     let lists = times.iter().zip(windows).zip(acts);
     let steps: Vec<Step> = lists.map(|((&time, &window), &act)| Step { time, window, act }).collect();
@@ -180,7 +180,7 @@ pub fn write(values: Values, times: &[u64], windows: &[u64], acts: &[u64], outpu
     answer(ACCEPTED, 0, text.len() as u64)
 }
 
-/// The whole text, or the refusal: "checks 11, 12, 14 for the first step that has no form, 15".
+/// [6.170] The whole text, or the refusal; but 16, which `write` gives.
 fn text_of(values: Values, steps: &[Step]) -> Result<String, Answer> {
     if let Some(number) = values.refusal() {
         return Err(bare(number));

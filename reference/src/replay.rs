@@ -1,4 +1,4 @@
-//! What the program `replay` prints: document 01, the last part of "Recordings".
+//! What the program `replay` prints: section 7 of the specification.
 //! It lends no summary: no recording is long enough for answer 3, and 2 cannot follow from a new one.
 
 use crate::answer::{bare, Answer};
@@ -16,7 +16,7 @@ pub fn replay(text: &[u8]) -> String {
     output
 }
 
-/// "Runs each step from a fresh table, continuing after a refusal."
+/// [7.40]
 fn run(recording: &Recording, output: &mut String) {
     let (_, mut table) = fresh(recording.values);
     for (line, recorded) in (FIRST_STEP..).zip(&recording.steps) {

@@ -1,5 +1,5 @@
-//! The running summary and the recorded step: document 01, "The running summary".
-//! The caller lends the summary to each recorded step and finds it brought up to date.
+//! The running summary and the recorded step: section 5 of the specification.
+//! A table goes by value, but a summary is lent, [5.30].
 
 use crate::answer::*;
 use crate::machine::*;
@@ -19,7 +19,7 @@ pub struct Summary {
 }
 
 impl Summary {
-    /// "A new one is all zeros."
+    /// [5.20]
     pub fn new() -> Summary {
         Summary { accepted: 0, refused: 0, entries: 0, exits: 0, longest_wait: 0, try_moments: [0; WINDOWS] }
     }

@@ -1,5 +1,5 @@
 //! What `replay` cannot reach: tables and summaries of any make, acts above 8, lent lists, the writer.
-//! And, over generated recordings, what document 01 says of the summary and of writing what was read.
+//! And, over generated recordings, what the specification says of the summary and of writing what was read.
 
 use reference::answer::*;
 use reference::generator::{generate, generate_list};
@@ -126,7 +126,7 @@ fn writer() {
     assert_eq!(output[..], [GOOD, &[b'.'; 60][GOOD.len()..]].concat());
 }
 
-/// "From a fresh table and a new summary lent to every step, entries = exits + windows selling."
+/// [5.110] and [5.130] after each step; after the last, of [5.120] the accepted and the refused acts.
 #[test]
 fn summaries_of_walks() {
     for recording in (0..400).filter_map(|index| read(&generate(2, index).text).ok()) {

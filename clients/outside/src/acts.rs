@@ -28,7 +28,7 @@ fn last_window(table: &Table) -> [u64; 3] {
     [number_of(table.place(n)) + 1, n, moment]
 }
 
-/// The edges of the paper's rules, and those of smaller numbers than 64 bits hold.
+/// The edges of the specification's rules, and those of smaller numbers than 64 bits hold.
 const EDGES: [u64; 14] = [
     0,
     1,

@@ -15,7 +15,7 @@ pub fn table_in(numbers: &[u64]) -> Option<Table> {
     Some(Table { values: Values { n, a, b, c }, clock, word, places })
 }
 
-/// "Remainder and selling carry none": beside them stands 0.
+/// Beside remainder and selling, which have no arrival, stands 0 [9.10].
 fn place_in(number: u64, arrival: u64) -> Option<Place> {
     let place = match number {
         0 => Place::Remainder,

@@ -1,8 +1,8 @@
-//! The acts: document 01, "The acts".
+//! The acts: section 3 of docs/SPECIFICATION.md, which calls them actions.
 
 use crate::answer::Refusal;
 
-/// "Nine acts are numbered 0 to 8."
+/// The nine acts, each as the number that its clause has, [3.0] to [3.8].
 #[derive(Clone, Copy, Debug, PartialEq, Eq, Hash)]
 pub enum Act {
     Wait,

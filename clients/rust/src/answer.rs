@@ -1,4 +1,4 @@
-//! What an answer says: document 01, "Answers of the box". Number 0 is an acceptance, 1 to 16 are refusals.
+//! What an answer says: section 4 of docs/SPECIFICATION.md. Number 0 is an acceptance, 1 to 16 are refusals.
 
 use crate::raw::Answer;
 use std::fmt::{Display, Formatter, Result as Written};
@@ -6,12 +6,12 @@ use std::fmt::{Display, Formatter, Result as Written};
 /// The answer to an accepted act.
 #[derive(Clone, Copy, Debug, PartialEq, Eq)]
 pub struct Accepted {
-    /// the lowest-numbered window that is selling afterwards
+    /// of the windows that sell after it, the one with the lowest number [4.60]
     pub selling: Option<u64>,
     pub clock: u64,
 }
 
-/// Why nothing was done: the rows of the paper's table, in its order, with what the answer carries.
+/// Why nothing was done: [4.1] to [4.16] in their order, each with what the answer carries.
 #[derive(Clone, Copy, Debug, PartialEq, Eq)]
 pub enum Refusal {
     NoTable,
@@ -66,7 +66,7 @@ impl Answer {
 }
 
 impl Refusal {
-    /// The number of the paper's table.
+    /// The number of the answer, 8 where [4.8] is the clause.
     pub fn number(&self) -> u64 {
         match self {
             Refusal::NoTable => 1,

@@ -24,7 +24,7 @@ pub const MOST_STEPS: usize = 8_187;
 /// The bytes that always suffice for what `replay` prints.
 pub const MOST_REPORT: usize = 687_734;
 
-/// An answer: "a number, a window and a moment".
+/// An answer, [4.50]: window and moment are 0 where it carries none.
 #[repr(C)]
 #[derive(Clone, Copy, Debug, PartialEq, Eq)]
 pub struct Answer {

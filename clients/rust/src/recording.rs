@@ -1,4 +1,4 @@
-//! Recordings: document 01, "Recordings". The lists and outputs that are lent here always suffice.
+//! Recordings: section 6 of docs/SPECIFICATION.md, which calls them traces. The lists and outputs that are lent here always suffice.
 
 use crate::answer::Refusal;
 use crate::raw;

@@ -1,4 +1,4 @@
-//! The running summary: document 01, "The running summary".
+//! The running summary: section 5 of docs/SPECIFICATION.md.
 
 use crate::raw;
 

@@ -1,10 +1,10 @@
-//! The table of windows and its steps: document 01, "The table of windows" and "The acts".
+//! The table of windows and its steps: sections 2 and 3 of docs/SPECIFICATION.md, which calls it a state and its windows processes.
 
 use crate::answer::{Accepted, Refusal};
 use crate::raw;
 use crate::summary::Summary;
 
-/// The places in the paper's order.
+/// The places in the order of their numbers [2.70]; selling is what the specification calls critical.
 #[derive(Clone, Copy, Debug, PartialEq, Eq, Hash)]
 pub enum Place {
     Remainder,
@@ -30,7 +30,7 @@ impl Place {
         Place::Leaving,
     ];
 
-    /// "Only the six timed places carry the moment at which the window came there."
+    /// Whether a window has an arrival there: in all places but two [2.80].
     pub fn timed(self) -> bool {
         !matches!(self, Place::Remainder | Place::Selling)
     }
@@ -96,7 +96,7 @@ impl Table {
         self.numbers[4]
     }
 
-    /// The shared word: "0 for free, or a window number".
+    /// The shared word [2.50]: a window, or 0 where it is free.
     pub fn word(&self) -> u64 {
         self.numbers[5]
     }

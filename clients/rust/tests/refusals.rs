@@ -39,7 +39,7 @@ fn acts() {
 #[test]
 fn no_table() {
     let mut numbers = *checking().numbers();
-    // "the shared word (0 for free, or a window number 1 to n)"
+    // the word is no window of this table [2.50]
     numbers[5] = 3;
     let (mut table, mut summary) = (Table::from_numbers(numbers), Summary::new());
     assert_eq!(table.step(Act::Wait, 0, 7), Err(Refusal::NoTable));

@@ -1,4 +1,4 @@
-//! The whole case of document 01, answer by answer: by steps, by counted steps, and as a recording.
+//! The whole case of the specification [7.60], answer by answer: by steps, by counted steps, and as a recording.
 
 use funnelfawn::Act::*;
 use funnelfawn::{read, replay, Accepted, Act, Place, Refusal, Step, Summary, Table};
@@ -27,7 +27,7 @@ fn nobody(clock: u64) -> Outcome {
     Ok(Accepted { selling: None, clock })
 }
 
-/// The acts of the paper's input beside the answers of its output.
+/// The acts of its recording beside the answers of its report.
 fn case() -> [(u64, u64, Act, Outcome); 13] {
     [
         (0, 1, Try, nobody(0)),

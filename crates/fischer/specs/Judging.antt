@@ -1,5 +1,5 @@
--- What the functions that judge an action on numbers ensure. A customer need not believe these: `proofs/` relates them to the
--- model. Assumes nothing.
+-- What the functions that judge an action on numbers ensure. For the proofs only. `proofs/` relates these to the model.
+-- Assumes nothing.
 use Prim.Native.Nat.{ℕ, _+_, _-_}
 use mathlib.Core.Bool.{cond, not, _&&_}
 use lib.Dec.{ltb, eqb}

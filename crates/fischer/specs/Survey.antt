@@ -1,5 +1,5 @@
--- What the functions of the one pass over the entries ensure. A customer need not believe these: `proofs/` relates them to the
--- model. Assumes nothing.
+-- What the functions of the one pass over the entries ensure. For the proofs only. `proofs/` relates these to the model.
+-- Assumes nothing.
 use Prim.Native.Nat.{ℕ, _-_}
 use mathlib.Core.Bool.{Bool, cond, not, _&&_}
 use mathlib.Core.List.{[]}

@@ -33,7 +33,7 @@ pub(crate) fn no_row(word: u64) -> Transition {
     row(REMAINDER, Location::Remainder, word)
 }
 
-// "word 0: to setting; else testing again, arrival renewed"
+// [3.2] Where a test leads.
 pub(crate) fn tested(word: u64, time: u64) -> Location
     ensures { λ r. ⌜ r ≡ afterTest word time ⌝ }
 {
@@ -44,7 +44,7 @@ pub(crate) fn tested(word: u64, time: u64) -> Location
     }
 }
 
-// "word = window: to entering; else to testing"
+// [3.4] Where a check leads.
 pub(crate) fn checked(word: u64, process: u64, time: u64) -> Location
     ensures { λ r. ⌜ r ≡ afterCheck word process time ⌝ }
 {

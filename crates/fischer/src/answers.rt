@@ -18,7 +18,7 @@ ghost use Rattle.model.specs.States.{sinceOf};
 ghost use Rattle.model.specs.Answers.{answerOf, misnamed};
 ghost use Rattle.fischer.specs.Judging.{lowestOf, turnJudged, judged};
 
-// An answer of three numbers.
+// [4.50] An answer of three numbers.
 pub fn answer_with(code: u64, process: u64, time: u64) -> Answer
     ensures { λ r. ⌜ r ≡ answerOf code process time ⌝ }
 {
@@ -45,7 +45,7 @@ fn lowest(critical: u64, process: u64, to: Location) -> u64
     process
 }
 
-// 7: "wait with a window other than 0, or another act with window 0 or above n"
+// [4.7]
 fn is_misnamed(n: u64, action: u64, process: u64) -> bool
     ensures { λ r. ⌜ r ≡ misnamed n action process ⌝ }
 {
@@ -58,7 +58,7 @@ fn is_misnamed(n: u64, action: u64, process: u64) -> bool
     n < process
 }
 
-// An action of a process from 1 to n that nobody is late for: out of place, early or accepted.
+// [4.9] [4.10] An action of a process from 1 to n that nobody is late for: out of place, early or accepted.
 fn judge_turn(
     critical: u64,
     b: u64,
@@ -84,7 +84,7 @@ fn judge_turn(
     answer_with(0, lowest(critical, process, to), time)
 }
 
-// The conditions in the order of the table; past them the act is accepted.
+// [4.80] The conditions in the order of the table; past them the act is accepted.
 pub(crate) fn judge(
     found: Survey,
     numbers: Numbers,

@@ -38,7 +38,7 @@ ghost use Rattle.model.specs.declared.Process.{Process};
 ghost use Rattle.model.specs.States.{idle, initial};
 ghost use Rattle.model.specs.Answers.{freshOf, stepOf};
 
-// "a table of 96 window entries, all in remainder when fresh": `each` says it of every entry.
+// [2.60] [21.30] `each` speaks of every entry.
 fn initial_state(n: u64, a: u64, b: u64, c: u64) -> State
     ensures equals { λ r. ⌜ r ≡ initial n a b c ⌝ }
     ensures each { λ r. ⌜ ((i : ℕ) (other : Process) → i < 96 → getD (r .processes) i other ≡ idle) ⌝ }
@@ -56,7 +56,7 @@ fn initial_state(n: u64, a: u64, b: u64, c: u64) -> State
     }
 }
 
-// A fresh table, or the refusal 11 or 12 with a table whose n, a, b, c are 0.
+// [2.65] [4.70] [4.90] [4.100] [21.110] A fresh table, or the refusal 11 or 12 with a table whose n, a, b, c are 0.
 pub fn fresh(n: u64, a: u64, b: u64, c: u64) -> Outcome
     ensures { λ r. ⌜ r ≡ freshOf n a b c ⌝ }
 {
@@ -91,8 +91,8 @@ fn slot_of(process: u64) -> usize
     (process - 1) as usize
 }
 
-// One action of a process at a time. A single pass over the entries serves soundness, the first deadline and the critical
-// process; it stands here, as each hand-over of a state copies 1,584 bytes.
+// [3.45] [4.80] [21.40] [21.50] [21.110] One action of a process at a time. A single pass over the entries serves soundness, the
+// first deadline and the critical process; it stands here, as each hand-over of a state copies 1,584 bytes.
 pub fn step(mut state: State, action: u64, process: u64, time: u64) -> Outcome
     ensures { λ r. ⌜ r ≡ stepOf state action process time ⌝ }
 {

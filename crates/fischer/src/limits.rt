@@ -4,7 +4,7 @@ ghost use mathlib.Core.Path.{_≡_};
 ghost use Rattle.model.specs.States.{countStands, limitsStand};
 ghost use Rattle.fischer.specs.Survey.{numbersStand};
 
-// "1,000,000,000,000", the clock's end
+// [2.40] the clock's end
 pub(crate) const LAST: u64 = 1000000000000;
 
 // A state without its entries.
@@ -17,7 +17,7 @@ pub struct Numbers {
     pub word: u64,
 }
 
-// "n (1 to 96)"
+// [2.20]
 pub fn count_stands(n: u64) -> bool
     ensures { λ r. ⌜ r ≡ countStands n ⌝ }
 {
@@ -27,7 +27,7 @@ pub fn count_stands(n: u64) -> bool
     n <= 96
 }
 
-// "1 ≤ a < b ≤ c ≤ 10,000,000"
+// [2.30]
 pub fn limits_stand(a: u64, b: u64, c: u64) -> bool
     ensures { λ r. ⌜ r ≡ limitsStand a b c ⌝ }
 {
@@ -43,6 +43,7 @@ pub fn limits_stand(a: u64, b: u64, c: u64) -> bool
     c <= 10000000
 }
 
+// [2.20] [2.30] [2.40] [2.50] All that a sound state asks of its numbers.
 pub fn numbers_stand(numbers: Numbers) -> bool
     ensures { λ r. ⌜ r ≡ numbersStand numbers ⌝ }
 {

@@ -3,22 +3,31 @@ use model::Location;
 ghost use mathlib.Core.Path.{_≡_};
 ghost use Rattle.model.specs.States.{stageOf, sinceOf, locationAt};
 
+// [2.70]
 pub const REMAINDER: u64 = 0;
 
+// [2.70]
 pub const TESTING: u64 = 1;
 
+// [2.70]
 pub const SETTING: u64 = 2;
 
+// [2.70]
 pub const CHECKING: u64 = 3;
 
+// [2.70]
 pub const ENTERING: u64 = 4;
 
+// [2.70]
 pub const CRITICAL: u64 = 5;
 
+// [2.70]
 pub const RESETTING: u64 = 6;
 
+// [2.70]
 pub const LEAVING: u64 = 7;
 
+// [2.70]
 pub fn stage_of(location: Location) -> u64
     ensures { λ r. ⌜ r ≡ stageOf location ⌝ }
 {
@@ -34,7 +43,7 @@ pub fn stage_of(location: Location) -> u64
     }
 }
 
-// The arrival; 0 where the location carries none.
+// [2.80] The arrival; 0 where the location carries none.
 pub fn since_of(location: Location) -> u64
     ensures { λ r. ⌜ r ≡ sinceOf location ⌝ }
 {
@@ -50,7 +59,8 @@ pub fn since_of(location: Location) -> u64
     }
 }
 
-// The location of a stage and an arrival. A stage past leaving is taken for leaving: who may be given one looks at that first.
+// [2.70] [2.80] The location of a stage and an arrival. A stage past leaving is taken for leaving: who may be given one looks at
+// that first.
 pub fn location_at(stage: u64, since: u64) -> Location
     ensures { λ r. ⌜ r ≡ locationAt stage since ⌝ }
 {

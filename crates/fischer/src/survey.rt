@@ -110,7 +110,7 @@ pub(crate) fn note(
     }
 }
 
-// Whether the entry of a process is sound beside the numbers of its state.
+// [2.120] Whether the entry of a process is sound beside the numbers of its state.
 pub fn entry_stands(numbers: Numbers, process: u64, location: Location) -> bool
     ensures { λ r. ⌜ r ≡ entrySound (bare numbers) process (record { location = location }) ⌝ }
 {

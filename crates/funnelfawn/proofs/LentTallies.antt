@@ -89,7 +89,7 @@ module _ (rest spare : List ℕ) where
       ap (λ (g : LentBoth). lentAll g es) (record-in-numbers rest spare r whole e)
       ∙ all-in-numbers (recordNext r e) (next-whole rest spare r whole e) es
 
--- From a fresh table and a new summary
+-- From the start, a fresh table with a new summary
 
 module _ (n a b c : ℕ) (table summary : List ℕ) where
   fresh-in-numbers : {g : Lent} {h : LentSummary} → FreshGiven n a b c table g → NewGiven summary h

@@ -1,4 +1,4 @@
--- What the interface promises from a second side: a refusal leaves the lent numbers, an act writes its own places only, a list of
+-- Section 9 of the specification, from a second side: a refusal leaves the lent numbers, an act writes its own places only, a list of
 -- calls on lent numbers is the list of calls of demand 3, and one summary lent to all tells their tally. Assumes nothing.
 use Prim.Native.Nat.{ℕ, _+_, _*_, _-_, _≤_}
 use mathlib.Core.Path.{_≡_}
@@ -20,30 +20,34 @@ use Rattle.theory.specs.Demand3.{Demand3}
 use Rattle.theory.specs.Tallies.{recordAll, recordsOf, logFrom, Tallied, startOf}
 use Rattle.funnelfawn.specs.Interface.{LentBoth, recordGave, lentFresh, lentStep, lentSummary, lentRecord}
 
--- "A refusal leaves the table and all lent bytes unchanged, save that 4 to 10 raise the summary's refused count"
+-- Refusals
 
+-- [9.120]
 abbrev pub RefusedFreshStays : Type 0
 RefusedFreshStays = (n a b c : ℕ) (table : List ℕ)
     → lentFresh n a b c table .answer .code ≢ 0 → lentFresh n a b c table .table ≡ table
 
+-- [9.120]
 abbrev pub RefusedStepStays : Type 0
 RefusedStepStays = (table : List ℕ) (act p m : ℕ)
     → lentStep table act p m .answer .code ≢ 0 → lentStep table act p m .table ≡ table
 
+-- [9.120]
 abbrev pub RefusedSummaryStays : Type 0
 RefusedSummaryStays = (summary : List ℕ) → lentSummary summary .answer .code ≢ 0 → lentSummary summary .summary ≡ summary
 
+-- [9.120] the table, whatever becomes of the summary
 abbrev pub RefusedRecordStays : Type 0
 RefusedRecordStays = (table summary : List ℕ) (act p m : ℕ)
     → lentRecord table summary act p m .answer .code ≢ 0 → lentRecord table summary act p m .table ≡ table
 
--- 1, 2 and 3 leave the summary too
+-- [9.120] 1, 2 and 3 leave the summary too
 abbrev pub SummaryStays : Type 0
 SummaryStays = (table summary : List ℕ) (act p m : ℕ)
     → lentRecord table summary act p m .answer .code ≢ 0 → lentRecord table summary act p m .answer .code ≤ 3
     → lentRecord table summary act p m .summary ≡ summary
 
--- 4 to 10 raise the number that stands after that of accepted acts
+-- [9.120] 4 to 10 raise the number that stands after that of accepted acts
 abbrev pub RefusedIsCounted : Type 0
 RefusedIsCounted = (table summary : List ℕ) (act p m : ℕ)
     → 4 ≤ lentRecord table summary act p m .answer .code
@@ -51,27 +55,30 @@ RefusedIsCounted = (table summary : List ℕ) (act p m : ℕ)
 
 -- An act writes the clock, the word and the entry of its process; and of a summary the counts and the try moment of its process
 
--- place k of a table is another than these, for an act of process p
+-- [9.130] place k of a table is another than these, for an act of process p
 pub record Elsewhere (p k : ℕ) : Type 0 where
   pub not-clock : k ≢ clockPlace
   pub not-word : k ≢ wordPlace
   pub not-stage : 1 ≤ p → k ≢ headerLength + stride * (p - 1)
   pub not-since : 1 ≤ p → k ≢ headerLength + stride * (p - 1) + 1
 
+-- [9.130]
 abbrev pub StepWritesItsOwn : Type 0
 StepWritesItsOwn = (table : List ℕ) (act p m k : ℕ) → Elsewhere p k
     → getD (lentStep table act p m .table) k 0 ≡ getD table k 0
 
+-- [9.130]
 abbrev pub RecordWritesItsOwn : Type 0
 RecordWritesItsOwn = (table summary : List ℕ) (act p m k : ℕ) → Elsewhere p k
     → getD (lentRecord table summary act p m .table) k 0 ≡ getD table k 0
 
+-- [9.130]
 abbrev pub SummaryWritesItsOwn : Type 0
 SummaryWritesItsOwn = (table summary : List ℕ) (act p m k : ℕ)
     → countsLength ≤ k → (1 ≤ p → k ≢ countsLength + (p - 1))
     → getD (lentRecord table summary act p m .summary) k 0 ≡ getD summary k 0
 
--- no list becomes longer or shorter
+-- [9.130] of every function that is lent numbers
 pub record LengthsStay : Type 0 where
   pub fresh : (n a b c : ℕ) (table : List ℕ) → length (lentFresh n a b c table .table) ≡ length table
   pub step : (table : List ℕ) (act p m : ℕ) → length (lentStep table act p m .table) ≡ length table
@@ -81,7 +88,7 @@ pub record LengthsStay : Type 0 where
 
 -- Lists of calls, each on the numbers that the call before it left
 
--- a step without a summary, or a recorded step with any list for a summary; beside the first, the list stays
+-- [9.140] a step or a recorded step; the list that stands for a summary may be any, and a step leaves it alone
 pub record LentCall : Type 0 where
   pub recorded : Bool
   pub action : ℕ
@@ -89,23 +96,27 @@ pub record LentCall : Type 0 where
   pub time : ℕ
   pub summary : List ℕ
 
+-- helper: what such a call gives back
 unfoldable pub lentCall : List ℕ → LentCall → LentBoth
 lentCall table d =
     cond (d .recorded) (lentRecord table (d .summary) (d .action) (d .process) (d .time))
     (recordGave (lentStep table (d .action) (d .process) (d .time) .answer) (lentStep table (d .action) (d .process) (d .time) .table) (d .summary))
 
+-- [9.140] what each of them gives back
 unfoldable pub lentResults : List ℕ → List LentCall → List LentBoth
 lentResults table [] = []
 lentResults table (d ∷ ds) = lentCall table d ∷ lentResults (lentCall table d .table) ds
 
+-- helper: the numbers that the last one leaves
 unfoldable pub lentRun : List ℕ → List LentCall → List ℕ
 lentRun table [] = table
 lentRun table (d ∷ ds) = lentRun (lentCall table d .table) ds
 
--- the call of demand 3 that it is: a list that is too short is a summary that is not sound
+-- helper: a list that is too short is a summary that is not sound
 abbrev pub noSummary : Statistics
 noSummary = statisticsOf (countsOf (mostActs + 1) 0 0 0 0) []
 
+-- helper: the call of demand 3 that it is
 abbrev pub callIn : LentCall → Call
 callIn d = record {
   recorded = d .recorded;
@@ -115,20 +126,22 @@ callIn d = record {
   lent = cond (ltb (length (d .summary)) summaryLength) noSummary (summaryIn (d .summary));
 }
 
--- what such a call gave back, as numbers before `rest`
+-- helper: the summary x in numbers; a list that is too short stays
 abbrev pub summaryAfter : List ℕ → Statistics → List ℕ
 summaryAfter summary x = cond (ltb (length summary) summaryLength) summary (over (statisticsNumbers x) summary)
 
+-- helper: what such a call gave back, as numbers before `rest`
 abbrev pub inNumbers : List ℕ → LentCall → Recorded → LentBoth
 inNumbers rest d r =
     recordGave (r .outcome .answer) (stateNumbers (r .outcome .state) ++ rest) (summaryAfter (d .summary) (r .statistics))
 
+-- helper: of each call
 unfoldable pub allInNumbers : List ℕ → List LentCall → List Recorded → List LentBoth
 allInNumbers rest [] rs = []
 allInNumbers rest (d ∷ ds) [] = []
 allInNumbers rest (d ∷ ds) (r ∷ rs) = inNumbers rest d r ∷ allInNumbers rest ds rs
 
--- from the table s, in numbers before `rest`, the calls gave back the numbers of results that meet demand 3
+-- [9.140] from the table s, in numbers before `rest`, the calls gave back the numbers of results that meet demand 3
 pub record LentDemand3 (s : State) (table rest : List ℕ) (ds : List LentCall) : Type 0 where
   pub results : List Recorded
   pub last : State
@@ -136,7 +149,7 @@ pub record LentDemand3 (s : State) (table rest : List ℕ) (ds : List LentCall) 
   pub last-is : lentRun table ds ≡ stateNumbers last ++ rest
   pub demand3 : Demand3 s (map callIn ds) results last
 
--- "A list starts from a fresh table answered with 0"
+-- [9.140]
 abbrev pub EveryLentList : Type 0
 EveryLentList = (n a b c : ℕ) (table : List ℕ) (ds : List LentCall)
     → lentFresh n a b c table .answer .code ≡ 0
@@ -144,29 +157,31 @@ EveryLentList = (n a b c : ℕ) (table : List ℕ) (ds : List LentCall)
 
 -- Recorded steps, each on the table and the summary that the one before it left
 
+-- helper: one step, after the one that gave back r
 abbrev pub lentNext : LentBoth → Event → LentBoth
 lentNext r e = lentRecord (r .table) (r .summary) (e .action) (e .process) (e .time)
 
+-- helper: the last one
 unfoldable pub lentAll : LentBoth → List Event → LentBoth
 lentAll r [] = r
 lentAll r (e ∷ es) = lentAll (lentNext r e) es
 
+-- helper: each one
 unfoldable pub lentRecords : LentBoth → List Event → List LentBoth
 lentRecords r [] = []
 lentRecords r (e ∷ es) = lentNext r e ∷ lentRecords (lentNext r e) es
 
--- a fresh table and a new summary
+-- helper: a fresh table and a new summary
 abbrev pub lentStart : ℕ → ℕ → ℕ → ℕ → List ℕ → List ℕ → LentBoth
 lentStart n a b c table summary =
     recordGave (lentFresh n a b c table .answer) (lentFresh n a b c table .table) (lentSummary summary .summary)
 
--- what a recorded step gave back, as numbers before `rest` and before `spare`
+-- helper: what a recorded step gave back, as numbers before `rest` and before `spare`
 abbrev pub bothInNumbers : List ℕ → List ℕ → Recorded → LentBoth
 bothInNumbers rest spare r =
     recordGave (r .outcome .answer) (stateNumbers (r .outcome .state) ++ rest) (statisticsNumbers (r .statistics) ++ spare)
 
--- "From a fresh table and a new summary lent to every step, [..] all four counts and the longest wait equal those worked out from the
--- list of acts and their answers": the steps gave back the numbers of recorded steps, and what the last one left is tallied
+-- [9.150] the steps gave back the numbers of recorded steps, and what the last one left is tallied
 pub record LentTally (n a b c : ℕ) (table summary : List ℕ) (es : List Event) : Type 0 where
   pub results-are :
       lentRecords (lentStart n a b c table summary) es
@@ -176,6 +191,7 @@ pub record LentTally (n a b c : ℕ) (table summary : List ℕ) (es : List Event
       ≡ bothInNumbers (drop tableLength table) (drop summaryLength summary) (recordAll (startOf n a b c) es)
   pub tallied : Tallied (logFrom [] (startOf n a b c) es) (recordAll (startOf n a b c) es)
 
+-- [9.150]
 abbrev pub EveryLentTally : Type 0
 EveryLentTally = (n a b c : ℕ) (table summary : List ℕ) (es : List Event)
     → lentFresh n a b c table .answer .code ≡ 0 → lentSummary summary .answer .code ≡ 0

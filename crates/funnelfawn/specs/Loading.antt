@@ -1,4 +1,4 @@
--- What the functions that read and write lent numbers ensure. A customer need not believe these: `proofs/` relates them to the
+-- What the functions that read and write lent numbers ensure. For the proofs only. `proofs/` relates these definitions to the
 -- interface. Assumes nothing.
 use Prim.Native.Nat.{ℕ, _+_, _-_, _*_}
 use mathlib.Core.Path.{_≡_}

@@ -18,7 +18,7 @@ ghost use Rattle.model.specs.Writings.{eventsOf, writeGave, writeOf};
 ghost use Rattle.model.specs.Reports.{reportOf};
 ghost use Rattle.funnelfawn.specs.Interface.{lentGave, lentFresh, lentStep, recordGave, lentRecord, summaryGave, lentSummary};
 
-// A fresh table, in the lent numbers.
+// [9.50] [21.110] A fresh table, in the lent numbers.
 #[no_mangle]
 pub extern "C" fn funnelfawn_fresh(n: u64, a: u64, b: u64, c: u64, table: &mut [u64]) -> Answer
     ensures { λ r. ⌜ lentGave r (now (table .exit)) ≡ lentFresh n a b c (now (table .entry)) ⌝ }
@@ -35,7 +35,7 @@ pub extern "C" fn funnelfawn_fresh(n: u64, a: u64, b: u64, c: u64, table: &mut [
     answer
 }
 
-// One act, in the lent table.
+// [9.60] [21.110] One act, in the lent table.
 #[no_mangle]
 pub extern "C" fn funnelfawn_step(table: &mut [u64], action: u64, process: u64, time: u64) -> Answer
     ensures { λ r. ⌜ lentGave r (now (table .exit)) ≡ lentStep (now (table .entry)) action process time ⌝ }
@@ -55,7 +55,7 @@ pub extern "C" fn funnelfawn_step(table: &mut [u64], action: u64, process: u64, 
     answer
 }
 
-// A new summary, in the lent numbers.
+// [9.70] [21.110] A new summary, in the lent numbers.
 #[no_mangle]
 pub extern "C" fn funnelfawn_new_summary(summary: &mut [u64]) -> Answer
     ensures { λ r. ⌜ summaryGave r (now (summary .exit)) ≡ lentSummary (now (summary .entry)) ⌝ }
@@ -67,7 +67,7 @@ pub extern "C" fn funnelfawn_new_summary(summary: &mut [u64]) -> Answer
     answer_with(0, 0, 0)
 }
 
-// One act, in the lent table, counted in the lent summary.
+// [9.80] [21.110] One act, in the lent table, counted in the lent summary.
 #[no_mangle]
 pub extern "C" fn funnelfawn_record(
     table: &mut [u64],
@@ -100,7 +100,7 @@ pub extern "C" fn funnelfawn_record(
     answer
 }
 
-// Reads a recording: its steps go to the three lists.
+// [9.90] [21.110] Reads a recording: its steps go to the three lists.
 #[no_mangle]
 pub extern "C" fn funnelfawn_read(
     text: &[u8],
@@ -113,7 +113,7 @@ pub extern "C" fn funnelfawn_read(
     trace::read(text, times, processes, actions)
 }
 
-// Writes a recording of the steps in the three lists.
+// [9.100] [21.110] Writes a recording of the steps in the three lists.
 #[no_mangle]
 pub extern "C" fn funnelfawn_write(
     n: u64,
@@ -130,7 +130,7 @@ pub extern "C" fn funnelfawn_write(
     trace::write(n, a, b, c, times, processes, actions, out)
 }
 
-// Writes what `replay` prints for a recording.
+// [9.110] [21.110] Writes what `replay` prints for a recording.
 #[no_mangle]
 pub extern "C" fn funnelfawn_replay(text: &[u8], out: &mut [u8]) -> Answer
     ensures { λ r. ⌜ writeGave r (now (out .exit)) ≡ reportOf (now (text .entry)) (now (out .entry)) ⌝ }

@@ -7,11 +7,13 @@ ghost use Rattle.model.specs.Encodings.{statisticsIn, statisticsNumbers, summar
 ghost use Rattle.model.specs.Summaries.{newStatistics};
 ghost use Rattle.funnelfawn.specs.Loading.{countsPut, counted};
 
-// the numbers before the try moments
+// [9.30] the numbers before the try moments
 const COUNTS: usize = 5;
 
+// [9.30] the numbers of a summary
 pub(crate) const SUMMARY: usize = COUNTS + 96;
 
+// [9.30] Reads a summary.
 pub(crate) fn load(summary: &[u64]) -> Statistics
     requires { ⌜ length (now summary) ≡ summaryLength ⌝ }
     ensures { λ r. ⌜ r ≡ statisticsIn (now (summary .entry)) ⌝ }
@@ -57,7 +59,7 @@ pub(crate) fn clear(summary: &mut [u64])
     }
 }
 
-// Writes what an act of a process may have changed: the counts and the try moment of the process.
+// [9.130] Writes what an act of a process may have changed: the counts and the try moment of the process.
 pub(crate) fn store(summary: &mut [u64], statistics: Statistics, process: u64)
     requires { ⌜ length (now summary) ≡ summaryLength ⌝ }
     ensures { λ _. ⌜ now (summary .exit) ≡ counted (now (summary .entry)) statistics process ⌝ }

@@ -22,20 +22,21 @@ ghost use Rattle.model.specs.Encodings.{headerLength, stride, tableLength, isEn
 ghost use Rattle.fischer.specs.Survey.{bare, numbersOf};
 ghost use Rattle.funnelfawn.specs.Loading.{areIdle, Loads, placedAt, stored};
 
-// the numbers before the entries
+// [9.10] the numbers before the entries
 const HEADER: usize = 6;
 
-// the numbers of an entry
+// [9.10] the numbers of an entry
 const STRIDE: usize = 2;
 
+// [9.10] the numbers of a table
 pub(crate) const TABLE: usize = HEADER + STRIDE * 96;
 
-// where the clock stands, and the word after it
+// [9.10] where the clock stands, and the word after it
 const CLOCK: usize = 4;
 
 const WORD: usize = CLOCK + 1;
 
-// A stage and an arrival that tell a location.
+// [9.20] A stage and an arrival that tell a location.
 fn is_entry(stage: u64, since: u64) -> bool
     ensures { λ r. ⌜ r ≡ isEntry stage since ⌝ }
 {
@@ -106,8 +107,8 @@ pub(crate) struct Loaded {
     pub state: State,
 }
 
-// Reads a table, up to what is not sound in it. Above n there is nothing to read: there all have to be in the remainder, where they are
-// from the start. It leaves in one place: a state that is returned in two is copied byte by byte.
+// [9.10] [9.20] Reads a table, up to what is not sound in it. Above n there is nothing to read: there all have to be in the remainder,
+// where they are from the start. It leaves in one place: a state that is returned in two is copied byte by byte.
 pub(crate) fn load(table: &[u64]) -> Loaded
     requires { ⌜ length (now table) ≡ tableLength ⌝ }
     ensures { λ r. ⌜ Loads (now (table .entry)) r ⌝ }
@@ -169,7 +170,7 @@ fn put_entry(table: &mut [u64], i: usize, entry: Process)
     put_pair(table, HEADER + STRIDE * i, stage, since);
 }
 
-// Writes a whole table.
+// [9.10] Writes a whole table.
 pub(crate) fn save(table: &mut [u64], state: State)
     requires { ⌜ length (now table) ≡ tableLength ⌝ }
     ensures { λ _. ⌜ now (table .exit) ≡ stateNumbers state ⌝ }
@@ -185,7 +186,7 @@ pub(crate) fn save(table: &mut [u64], state: State)
     }
 }
 
-// Writes what an act of a process may have changed: the clock, the word and the entry of the process.
+// [9.130] Writes what an act of a process may have changed: the clock, the word and the entry of the process.
 pub(crate) fn store(table: &mut [u64], state: State, process: u64)
     requires { ⌜ length (now table) ≡ tableLength ⌝ }
     ensures { λ _. ⌜ now (table .exit) ≡ stored (now (table .entry)) state process ⌝ }

@@ -1,4 +1,4 @@
--- The whole recordings of document 01, computed. Assumes nothing.
+-- The whole traces of section 7 of the specification, computed. Assumes nothing.
 use mathlib.Core.Path.{refl}
 use Rattle.model.specs.States.{limitOf, entriesSound, soundOf, entryOf}
 use Rattle.model.specs.Actions.{transitionOf, effect}

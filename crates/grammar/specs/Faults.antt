@@ -1,4 +1,5 @@
--- The refusals of a reading from a second side: why a text is refused, said by what is written. Assumes nothing.
+-- Section 6 of the specification, the refusals of a reading from a second side: why a text is refused, said by what is written.
+-- Assumes nothing.
 use Prim.Native.Nat.{ℕ, _+_, _≤_, _<_}
 use mathlib.Core.Path.{_≡_}
 use mathlib.Core.Logic.{_≢_}
@@ -10,35 +11,36 @@ use Rattle.model.specs.Texts.{numberBound, Event, valueNames, valuesText, event
 use Rattle.model.specs.Readings.{refused, traceOf}
 use Rattle.model.specs.Writings.{formlessOf}
 
--- a text does not start with this one
+-- helper: a text does not start with this one
 abbrev pub Differs : List ℕ → List ℕ → Type 0
 Differs start text = (more : List ℕ) → text ≢ start ++ more
 
--- The number of a refusal and its line, each with what it says of the text; what would be refused before it is ruled out.
+-- [6.190] [6.90] [6.110] The number of a refusal and its line, each with what it says of the text; what would be refused before it
+-- is ruled out.
 pub data Fault (text : List ℕ) : ℕ → ℕ → Type 0 where
-  -- | 15, -, - | text longer than 65,536 bytes |
+  -- [4.15]
   long : textLimit < length text → Fault text 15 0
-  -- | 13, -, line | a names line differs or is missing |, line 1
+  -- [4.13] [6.20] [6.100] line 1
   names : length text ≤ textLimit → Differs valueNames text → Fault text 13 1
-  -- | 14, -, line | a line of values [..] differs from its form, or line 2 is missing |
+  -- [4.14] [6.30] [6.100] line 2
   values : (rest : List ℕ) → length text ≤ textLimit → text ≡ valueNames ++ rest
       → ((n a b c : ℕ) → n < numberBound → a < numberBound → b < numberBound → c < numberBound → Differs (valuesText n a b c) rest)
       → Fault text 14 2
-  -- | 11, -, - | n outside 1 to 96 |
+  -- [4.11]
   count : (n a b c : ℕ) (rest : List ℕ) → length text ≤ textLimit → text ≡ valueNames ++ (valuesText n a b c ++ rest)
       → countStands n ≡ false → Fault text 11 0
-  -- | 12, -, - | a, b, c outside their rule |
+  -- [4.12]
   limits : (n a b c : ℕ) (rest : List ℕ) → length text ≤ textLimit → text ≡ valueNames ++ (valuesText n a b c ++ rest)
       → countStands n ≡ true → limitsStand a b c ≡ false → Fault text 12 0
-  -- | 13, -, line | a names line differs or is missing |, line 3
+  -- [4.13] [6.40] [6.100] line 3
   steps : (n a b c : ℕ) (rest : List ℕ) → length text ≤ textLimit → text ≡ valueNames ++ (valuesText n a b c ++ rest)
       → countStands n ≡ true → limitsStand a b c ≡ true → Differs eventNames rest → Fault text 13 3
-  -- | 14, -, line | [..] a step differs from its form |: the lines before it are those of steps that have a form
+  -- [4.14] [6.50] the lines before it are those of steps that have a form
   step : (n a b c : ℕ) (events : List Event) (rest : List ℕ) → length text ≤ textLimit
       → text ≡ headText n a b c ++ (eventsText events ++ rest) → countStands n ≡ true → limitsStand a b c ≡ true
       → formlessOf events ≡ 0 → 0 < length rest → ((e : Event) → hasForm e ≡ true → Differs (eventText e) rest)
       → Fault text 14 (4 + length events)
 
--- A text is refused for what its number and line say, and the line is the first that is at fault.
+-- [6.190] of a text that is refused
 abbrev pub RefusedFor : Type 0
 RefusedFor = (text : List ℕ) (code line : ℕ) → traceOf text ≡ refused code line → Fault text code line

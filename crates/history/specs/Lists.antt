@@ -1,5 +1,5 @@
--- Calls as rows of numbers, as `run` is lent them, and all that it gives back. A call is a row of `calls` with a row of `counts` and one
--- of `tries`, the summary that it is lent; its answer goes to a row of `answers`. Assumes nothing.
+-- Section 8 of the specification: calls as rows of numbers, as `run` is lent them, and all that it gives back. A call is a row of
+-- `calls` with a row of `counts` and one of `tries`, the summary that it is lent; its answer goes to a row of `answers`. Assumes nothing.
 use Prim.Native.Nat.{ℕ}
 use mathlib.Core.Path.{_≡_}
 use mathlib.Core.Bool.{not}
@@ -20,14 +20,15 @@ use Rattle.theory.specs.Demand3.{Demand3}
 
 -- Rows of numbers
 
+-- helper: a row
 abbrev pub Tuple : Type 0
 Tuple = List ℕ
 
--- a summary is a row of counts, and one of try moments
+-- [8.150] a summary is a row of counts, and one of try moments
 abbrev pub summaryOf : Tuple → Tuple → Statistics
 summaryOf row tries = statisticsOf (countsIn row) tries
 
--- kind, action, process, time: kind 0 is a step without a summary
+-- [8.150] kind, action, process, time: kind 0 is a step without a summary
 abbrev pub callIn : Tuple → Statistics → Call
 callIn row x = record {
   recorded = not (eqb (getD row 0 0) 0);
@@ -39,88 +40,104 @@ callIn row x = record {
 
 -- What is lent to `run` and comes back
 
+-- [8.150] the lists of rows that `run` may change
 pub record Rows : Type 0 where
   pub counts : List Tuple
   pub tries : List Tuple
   pub answers : List Tuple
 
+-- helper: from its parts
 abbrev pub rows : List Tuple → List Tuple → List Tuple → Rows
 rows counts tries answers = record { counts = counts; tries = tries; answers = answers }
 
--- as many calls as the shortest list has rows
+-- [8.150] as many calls as the shortest list has rows
 unfoldable pub callsIn : List Tuple → List Tuple → List Tuple → List Call
 callsIn [] cs ts = []
 callsIn (r ∷ rs) [] ts = []
 callsIn (r ∷ rs) (c ∷ cs) [] = []
 callsIn (r ∷ rs) (c ∷ cs) (t ∷ ts) = callIn r (summaryOf c t) ∷ callsIn rs cs ts
 
+-- [8.150] the list of answers may be the shortest too
 abbrev pub callsOf : List Tuple → Rows → List Call
 callsOf calls l = take (length (l .answers)) (callsIn calls (l .counts) (l .tries))
 
--- the rows of a call after it
+-- helper: the counts of a call's summary after it
 abbrev pub countsRow : Recorded → Tuple
 countsRow r = countsNumbers (r .statistics .counts)
 
+-- helper: the try moments of a call's summary after it
 abbrev pub triesRow : Recorded → Tuple
 triesRow r = r .statistics .tries
 
+-- helper: the answer to a call
 abbrev pub answerRow : Recorded → Tuple
 answerRow r = r .outcome .answer .code ∷ r .outcome .answer .process ∷ r .outcome .answer .time ∷ []
 
+-- [8.150] each result in the rows of its call
 abbrev pub overwritten : List Recorded → Rows → Rows
 overwritten rs l =
     rows (over (map countsRow rs) (l .counts)) (over (map triesRow rs) (l .tries)) (over (map answerRow rs) (l .answers))
 
 -- All that `run` gives back: the answer to the fresh table, the table after the last call, and the rows
 
+-- helper: these as one
 pub record Run : Type 0 where
   pub outcome : Outcome
   pub kept : Rows
 
+-- helper: from its parts
 abbrev pub runGave : Outcome → Rows → Run
 runGave o l = record { outcome = o; kept = l }
 
--- the outcome o with the table s instead
+-- helper: the outcome o with the table s instead
 abbrev pub ending : Outcome → State → Outcome
 ending o s = record { answer = o .answer; state = s }
 
+-- helper: o is the outcome of the fresh table, be it accepted or not
 abbrev pub ranFrom : Outcome → List Call → Rows → Run
 ranFrom o ds l = runGave (ending o (runOf (o .state) ds)) (overwritten (resultsOf (o .state) ds) l)
 
+-- [8.150] as a whole
 unfoldable pub ranOf : ℕ → ℕ → ℕ → ℕ → List Tuple → Rows → Run
 ranOf n a b c calls l = ranFrom (freshOf n a b c) (callsOf calls l) l
 
 -- Demand 3, of what `run` is lent and gives back: from the table s, with the calls ds, the rows l became l′, and the last table is t
 
+-- [8.130] for `run`
 pub record Ran (s : State) (ds : List Call) (l l′ : Rows) (t : State) : Type 0 where
   -- what each call gave back: its answer and its summary stand in its row
   pub results : List Recorded
   pub written : l′ ≡ overwritten results l
   pub demand3 : Demand3 s ds results t
 
--- "A list starts from a fresh table answered with 0"
+-- [8.10] [8.130] of whatever numbers and rows `run` is lent: a fresh table that was refused starts no list
 abbrev pub MeetsDemand3 : ℕ → ℕ → ℕ → ℕ → List Tuple → Rows → Rows → State → Type 0
 MeetsDemand3 n a b c calls l l′ t =
     Accepted (freshOf n a b c) → Ran (freshOf n a b c .state) (callsOf calls l) l l′ t
 
 -- One turn of the loop: the call in row i
 
+-- helper: the call as the rows have it
 abbrev pub callAt : List Tuple → Rows → ℕ → Call
 callAt calls l i = callIn (getD calls i []) (summaryOf (getD (l .counts) i []) (getD (l .tries) i []))
 
+-- helper: what it gives back at the table s
 abbrev pub resultAt : State → List Tuple → Rows → ℕ → Recorded
 resultAt s calls l i = callOf s (callAt calls l i)
 
+-- helper: the rows with its result in their places
 abbrev pub stored : Rows → ℕ → Recorded → Rows
 stored l i r = rows (set (l .counts) i (countsRow r)) (set (l .tries) i (triesRow r)) (set (l .answers) i (answerRow r))
 
--- the table after it, and the rows
+-- helper: the table after it, and the rows
 pub record Turn : Type 0 where
   pub state : State
   pub kept : Rows
 
+-- helper: from its parts
 abbrev pub turnGave : State → Rows → Turn
 turnGave s l = record { state = s; kept = l }
 
+-- helper: the whole turn
 abbrev pub turnOf : State → List Tuple → Rows → ℕ → Turn
 turnOf s calls l i = turnGave (resultAt s calls l i .outcome .state) (stored l i (resultAt s calls l i))

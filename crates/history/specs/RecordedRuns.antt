@@ -1,5 +1,5 @@
--- Recorded steps as rows of numbers, each lent the summary that the one before it left, as `run_recorded` makes them, and all that it
--- gives back. Assumes nothing.
+-- Sections 5 and 8 of the specification: recorded steps as rows of numbers, each lent the summary that the one before it left, as
+-- `run_recorded` makes them, and all that it gives back. Assumes nothing.
 use Prim.Native.Nat.{ℕ}
 use mathlib.Core.List.{List, [], _∷_, map}
 use lib.ListN.{length, getD, set, take}
@@ -10,47 +10,54 @@ use Rattle.theory.specs.Tallies.{recordNext, recordAll, recordsOf, startOf}
 use Rattle.model.specs.Readings.{over}
 use Rattle.history.specs.Lists.{Tuple, answerRow, ending}
 
--- action, process, time
+-- [8.160] action, process, time
 abbrev pub eventIn : Tuple → Event
 eventIn row = record { time = getD row 2 0; process = getD row 1 0; action = getD row 0 0 }
 
--- as many as the shorter list has rows
+-- [8.160] as many as the shorter list has rows
 abbrev pub eventsOf : List Tuple → List Tuple → List Event
 eventsOf acts answers = take (length answers) (map eventIn acts)
 
--- the log of acts and of the answers to them, the last one first
+-- helper: an act with the answer to it
 abbrev pub attemptIn : Tuple → Tuple → Attempt
 attemptIn act answer = attempt (getD act 0 0) (getD act 1 0) (getD act 2 0) (getD answer 0 0)
 
+-- helper: the row at the front is the next one
 unfoldable pub logOnto : List Attempt → List Tuple → List Tuple → List Attempt
 logOnto log [] rs = log
 logOnto log (e ∷ es) [] = log
 logOnto log (e ∷ es) (r ∷ rs) = logOnto (attemptIn e r ∷ log) es rs
 
+-- [5.120] the log of acts and of the answers to them, the last one first
 abbrev pub logOf : List Tuple → List Tuple → List Attempt
 logOf acts answers = logOnto [] acts answers
 
 -- All that `run_recorded` gives back: the answer to the fresh table, the table and the summary after the last step, and the answers
 
+-- helper: these as one
 pub record RecordedRun : Type 0 where
   pub recorded : Recorded
   pub answers : List Tuple
 
+-- helper: from its parts
 abbrev pub recordedRunGave : Recorded → List Tuple → RecordedRun
 recordedRunGave r answers = record { recorded = r; answers = answers }
 
--- the answer of the first, the table and the summary of the second
+-- helper: the answer of the first, the table and the summary of the second
 abbrev pub started : Recorded → Recorded → Recorded
 started r t = record { outcome = ending (r .outcome) (t .outcome .state); statistics = t .statistics }
 
+-- helper: r is the fresh table beside the new summary
 abbrev pub recordedRunFrom : Recorded → List Event → List Tuple → RecordedRun
 recordedRunFrom r es answers = recordedRunGave (started r (recordAll r es)) (over (map answerRow (recordsOf r es)) answers)
 
+-- [8.160] as a whole
 unfoldable pub recordedRunOf : ℕ → ℕ → ℕ → ℕ → List Tuple → List Tuple → RecordedRun
 recordedRunOf n a b c acts answers = recordedRunFrom (startOf n a b c) (eventsOf acts answers) answers
 
 -- One turn of the loop: the step in row i
 
+-- helper: r is what the step before it gave back
 abbrev pub recordAt : Recorded → List Tuple → List Tuple → ℕ → RecordedRun
 recordAt r acts answers i =
     let t = recordNext r (eventIn (getD acts i [])) in recordedRunGave t (set answers i (answerRow t))

@@ -30,7 +30,7 @@ fn least(a: usize, b: usize) -> usize
     if a < b { a } else { b }
 }
 
-// One call: a step without a summary (kind 0), or a recorded step with the one that is lent.
+// [8.20] [8.30] One call: a step without a summary (kind 0), or a recorded step with the one that is lent.
 fn make_call(state: State, row: [u64; 4], lent: Statistics) -> Recorded
     ensures { λ r. ⌜ r ≡ callOf state (callIn row lent) ⌝ }
 {
@@ -71,8 +71,8 @@ fn make_turn(
     next
 }
 
-// A whole list of calls from a fresh table. The answer is that of `fresh`, the state that of the last call. Each call's summary is lent
-// in its row, brought up to date there, and its answer stored; the contract is demand 3.
+// [8.40] [8.130] [8.150] [21.110] A whole list of calls from a fresh table. The answer is that of `fresh`, the state that of the last
+// call. Each call's summary is lent in its row, brought up to date there, and its answer stored; the contract is demand 3.
 pub fn run(
     n: u64,
     a: u64,
@@ -121,8 +121,8 @@ fn record_turn(last: Recorded, acts: &[[u64; 3]], answers: &mut [[u64; 3]], i: u
     made
 }
 
-// Recorded steps from a fresh table and a new summary that is lent to every one. The answer is that of `fresh`, the state and the
-// summary those after the last step; the contract has the tally of the acts and their answers.
+// [5.120] [5.130] [8.160] [21.110] Recorded steps from a fresh table, all lent one summary that is new at first. The answer is that of
+// `fresh`, the state and the summary those after the last step; the contract has the tally of the acts and their answers.
 pub fn run_recorded(
     n: u64,
     a: u64,

@@ -1,5 +1,5 @@
--- "The acts" of document 01: the table row by row, and what an accepted act makes of the table of windows.
--- An act comes with a process p and a time m, "which becomes the clock". Assumes nothing.
+-- Section 3 of the specification: its table row by row, and what an accepted action makes of the state. An action comes with a
+-- process p and a time m. Assumes nothing.
 use Prim.Native.Nat.{ℕ, _-_}
 use mathlib.Core.Bool.{cond}
 use mathlib.Core.List.{List}
@@ -12,51 +12,53 @@ use Rattle.model.specs.declared.State.{State}
 use Rattle.model.specs.declared.Transition.{Transition}
 use Rattle.model.specs.Stages.{remainder, testing, setting, checking, entering, critical, resetting, leaving}
 
--- The table: "Every move into a timed place takes the act's moment as arrival."
+-- The table, row by row
 
--- the columns "From" and "Effect": the place that is left, the place that is reached, the word after it
+-- helper: a row: the stage that is left, the location that is reached, the word after it
 abbrev pub row : ℕ → Location → ℕ → Transition
 row from to word = record { from = from; to = to; word = word }
 
--- | 1 try | remainder | to testing |
+-- [3.1] [3.60]
 abbrev pub tryRow : State → ℕ → ℕ → Transition
 tryRow s p m = row remainder (Testing m) (s .word)
 
--- | 2 test | testing | word 0: to setting; else testing again, arrival renewed |
+-- [3.2] [3.60] where it leads
 abbrev pub afterTest : ℕ → ℕ → Location
 afterTest word m = cond (eqb word 0) (Setting m) (Testing m)
 
+-- [3.2]
 abbrev pub testRow : State → ℕ → ℕ → Transition
 testRow s p m = row testing (afterTest (s .word) m) (s .word)
 
--- | 3 set | setting | word := window; to checking |
+-- [3.3] [3.60]
 abbrev pub setRow : State → ℕ → ℕ → Transition
 setRow s p m = row setting (Checking m) p
 
--- | 4 check | checking | word = window: to entering; else to testing |
+-- [3.4] [3.60] where it leads
 abbrev pub afterCheck : ℕ → ℕ → ℕ → Location
 afterCheck word p m = cond (eqb word p) (Entering m) (Testing m)
 
+-- [3.4]
 abbrev pub checkRow : State → ℕ → ℕ → Transition
 checkRow s p m = row checking (afterCheck (s .word) p m) (s .word)
 
--- | 5 crit | entering | to selling |
+-- [3.5]
 abbrev pub critRow : State → ℕ → ℕ → Transition
 critRow s p m = row entering Critical (s .word)
 
--- | 6 exit | selling | to resetting |
+-- [3.6] [3.60]
 abbrev pub exitRow : State → ℕ → ℕ → Transition
 exitRow s p m = row critical (Resetting m) (s .word)
 
--- | 7 reset | resetting | word := 0; to leaving |
+-- [3.7] [3.60]
 abbrev pub resetRow : State → ℕ → ℕ → Transition
 resetRow s p m = row resetting (Leaving m) 0
 
--- | 8 rem | leaving | to remainder |
+-- [3.8]
 abbrev pub remRow : State → ℕ → ℕ → Transition
 remRow s p m = row leaving Remainder (s .word)
 
--- the row of an act from 1 to 8
+-- [3.40] the row of an action from 1 to 8
 unfoldable pub transitionOf : State → ℕ → ℕ → ℕ → Transition
 transitionOf s act p m =
     cond (eqb act 1) (tryRow s p m)
@@ -68,24 +70,24 @@ transitionOf s act p m =
     (cond (eqb act 7) (resetRow s p m)
     (remRow s p m)))))))
 
--- What an accepted act makes of the table
+-- What an accepted action makes of the state
 
--- the table at the time m, with another word and other entries
+-- [3.50] [3.70] the state at the time m, with another word and other entries
 abbrev pub changed : State → ℕ → ℕ → List Process → State
 changed s m w qs = record { n = s .n; a = s .a; b = s .b; c = s .c; clock = m; word = w; processes = qs }
 
--- | 0 wait (window 0) | any | clock only |
+-- [3.0]
 abbrev pub waited : State → ℕ → State
 waited s m = changed s m (s .word) (s .processes)
 
--- the entries with process p in another location
+-- [3.70] the entries with process p in another location
 abbrev pub placed : State → ℕ → Location → List Process
 placed s p l = set (s .processes) (p - 1) (record { location = l })
 
--- the table after the row t of process p
+-- [3.70] the state after the row t of process p
 abbrev pub moved : State → ℕ → ℕ → Transition → State
 moved s p m t = changed s m (t .word) (placed s p (t .to))
 
--- the table after an accepted act
+-- [3.70] the state after an accepted action
 unfoldable pub effect : State → ℕ → ℕ → ℕ → State
 effect s act p m = cond (eqb act 0) (waited s m) (moved s p m (transitionOf s act p m))

@@ -1,5 +1,5 @@
--- "Answers of the box" of document 01: the condition of each row in the table's order, and the two functions that give
--- the first that applies, `stepOf` for an act and `freshOf` for a fresh table. Assumes nothing.
+-- Section 4 of the specification: the condition of each code in the order of the codes, and the two functions that give the first that
+-- holds, `stepOf` for an action and `freshOf` for a fresh state. Assumes nothing.
 use Prim.Native.Nat.{ℕ, _+_}
 use mathlib.Core.Bool.{Bool, cond, not, _&&_, _||_}
 use mathlib.Core.List.{List, [], _∷_}
@@ -12,67 +12,66 @@ use Rattle.model.specs.Stages.{critical}
 use Rattle.model.specs.States.{countStands, limitsStand, lastTime, initial, stageOf, deadline, release, late, soundOf, entryOf}
 use Rattle.model.specs.Actions.{transitionOf, effect}
 
--- "Each answer is a number, a window and a moment."
+-- [4.50]
 abbrev pub answerOf : ℕ → ℕ → ℕ → Answer
 answerOf code process time = record { code = code; process = process; time = time }
 
--- an answer beside the table that is given back
+-- helper: an answer beside the state that is given back
 abbrev pub answers : ℕ → ℕ → ℕ → State → Outcome
 answers code process time s = record { answer = answerOf code process time; state = s }
 
--- The conditions. That of | 1, -, - | table not sound | is `soundOf`; 2 and 3 are the summary's.
+-- The conditions. That of 1 is `soundOf`; those of 2 and 3 are the summary's.
 
--- | 4, -, clock | moment before the clock |
+-- [4.4]
 abbrev pub backward : State → ℕ → Bool
 backward s m = ltb m (s .clock)
 
--- | 5, -, - | moment above 1,000,000,000,000 |
+-- [4.5]
 abbrev pub beyond : ℕ → Bool
 beyond m = ltb lastTime m
 
--- | 6, -, - | act above 8 |
+-- [4.6] [3.40]
 abbrev pub unknown : ℕ → Bool
 unknown act = ltb 8 act
 
--- | 7, -, - | wait with a window other than 0, or another act with window 0 or above n |
+-- [4.7]
 abbrev pub misnamed : ℕ → ℕ → ℕ → Bool
 misnamed n act p = cond (eqb act 0) (not (eqb p 0)) (eqb p 0 || ltb n p)
 
--- | 8, window, its latest moment | moment after some latest moment; the smallest such, then the lowest window |
--- Of the processes from i on, each whose deadline is before the time of `least` takes its place: the smallest is left, and of
+-- [4.8] Of the processes from i on, each whose deadline is before the time of `least` takes its place: the smallest is left, and of
 -- equal ones the lowest.
 unfoldable pub soonest : State → ℕ → Answer → List Process → Answer
 soonest s i least [] = least
 soonest s i least (q ∷ qs) = soonest s (i + 1) (cond (late s (least .time) i q) (answerOf 8 i (deadline s i q)) least) qs
 
--- the answer 8 to an act at the time m; its code is 0 where no deadline is missed
+-- [4.8] the answer to an action at the time m; its code is 0 where no deadline is missed
 unfoldable pub lateOf : State → ℕ → Answer
 lateOf s m = soonest s 1 (answerOf 0 0 m) (s .processes)
 
--- | 9, window, - | window not in the act's place |
+-- [4.9]
 abbrev pub misplaced : State → ℕ → ℕ → ℕ → Bool
 misplaced s act p m = not (eqb act 0) && not (eqb (stageOf (entryOf s p .location)) (transitionOf s act p m .from))
 
--- | 10, window, its earliest moment | check before its earliest moment |
+-- [4.10]
 abbrev pub early : State → ℕ → ℕ → ℕ → Bool
 early s act p m = eqb act 4 && ltb m (release s (entryOf s p))
 
--- An accepted act: "0, the lowest-numbered window selling afterwards (0 if none), and the clock"
+-- An accepted action
 
--- the lowest critical process from i on
+-- [4.60] the lowest critical process from i on
 unfoldable pub criticalFrom : ℕ → List Process → ℕ
 criticalFrom i [] = 0
 criticalFrom i (q ∷ qs) = cond (eqb (stageOf (q .location)) critical) i (criticalFrom (i + 1) qs)
 
--- that of a table
+-- [4.60] the lowest critical process of a state
 unfoldable pub criticalOf : State → ℕ
 criticalOf s = criticalFrom 1 (s .processes)
 
--- the answer beside the next table
+-- [4.0] [4.60] the answer beside the next state
 abbrev pub accepts : State → Outcome
 accepts s = answers 0 (criticalOf s) (s .clock) s
 
--- "For an act, the first of 1 to 10 that applies is given, in that order; the step without a summary never gives 2 or 3."
+-- [3.45] [4.80] [4.110] [4.1] one condition a line; a refusal gives the state back
 unfoldable pub stepOf : State → ℕ → ℕ → ℕ → Outcome
 stepOf s act p m =
     cond (not (soundOf s)) (answers 1 0 0 s)
@@ -85,11 +84,11 @@ stepOf s act p m =
     (cond (early s act p m) (answers 10 p (release s (entryOf s p)) s)
     (accepts (effect s act p m)))))))))
 
--- "A refused fresh table [..] returns n, a, b, c as 0; that table is otherwise like a fresh one"
+-- [4.100]
 abbrev pub blank : State
 blank = initial 0 0 0 0
 
--- | 11, -, - | n outside 1 to 96 | and | 12, -, - | a, b, c outside their rule |: "A fresh table checks 11, then 12."
+-- [2.65] [4.90] [4.11] [4.12] [4.70]
 unfoldable pub freshOf : ℕ → ℕ → ℕ → ℕ → Outcome
 freshOf n a b c =
     cond (not (countStands n)) (answers 11 0 0 blank)

@@ -1,4 +1,5 @@
--- A table of windows and a summary as numbers at fixed places, for a caller who can lend nothing else. Assumes nothing.
+-- Section 9 of the specification, its lists: a state and a summary as numbers at fixed places, for a caller who can lend nothing else.
+-- Assumes nothing.
 use Prim.Native.Nat.{ℕ, _+_, _*_}
 use mathlib.Core.Bool.{Bool, true, false, _&&_}
 use mathlib.Core.List.{List, [], _∷_, _++_}
@@ -12,39 +13,46 @@ use Rattle.model.specs.Stages.{leaving}
 use Rattle.model.specs.States.{stageOf, sinceOf, soundOf, locationAt}
 use Rattle.model.specs.Summaries.{countsOf, statisticsOf}
 
--- A table: n, a, b, c, the clock, the word, and then of each of the 96 windows its place and its arrival
+-- A table, the numbers of a state
 
--- the numbers before the entries, those of an entry, and those of a table
+-- [9.10] the numbers before the entries
 abbrev pub headerLength : ℕ
 headerLength = 6
 
+-- [9.10] the numbers of an entry
 abbrev pub stride : ℕ
 stride = 2
 
+-- [9.10] the numbers of a table
 abbrev pub tableLength : ℕ
 tableLength = headerLength + stride * 96
 
--- where the clock stands, and the word
+-- [9.10] where the clock stands
 abbrev pub clockPlace : ℕ
 clockPlace = 4
 
+-- [9.10] where the word stands
 abbrev pub wordPlace : ℕ
 wordPlace = clockPlace + 1
 
+-- [9.10] of the entries
 unfoldable pub processNumbers : List Process → List ℕ
 processNumbers [] = []
 processNumbers (q ∷ qs) = stageOf (q .location) ∷ sinceOf (q .location) ∷ processNumbers qs
 
+-- [9.10]
 unfoldable pub stateNumbers : State → List ℕ
 stateNumbers s = s .n ∷ s .a ∷ s .b ∷ s .c ∷ s .clock ∷ s .word ∷ processNumbers (s .processes)
 
--- The table that numbers tell
+-- The state that numbers tell
 
+-- [9.10] the entries
 unfoldable pub processesIn : List ℕ → List Process
 processesIn [] = []
 processesIn (stage ∷ []) = []
 processesIn (stage ∷ since ∷ rest) = record { location = locationAt stage since } ∷ processesIn rest
 
+-- [9.10] of just the numbers of a table
 unfoldable pub stateIn : List ℕ → State
 stateIn l =
     record {
@@ -57,45 +65,54 @@ stateIn l =
       processes = processesIn (drop headerLength l);
     }
 
--- a stage and an arrival tell a location if it has them: there is no stage past leaving, and "remainder and selling carry none"
+-- [9.20] a stage and a since tell a location if there is one that has them
 abbrev pub isEntry : ℕ → ℕ → Bool
 isEntry stage since = leb stage leaving && eqb (sinceOf (locationAt stage since)) since
 
+-- [9.20] of the numbers of all entries
 unfoldable pub areEntries : List ℕ → Bool
 areEntries [] = true
 areEntries (stage ∷ []) = false
 areEntries (stage ∷ since ∷ rest) = isEntry stage since && areEntries rest
 
--- a list that starts with the numbers of a table
+-- [9.20] a list that starts with the numbers of a state
 unfoldable pub isTable : List ℕ → Bool
 isTable l = leb tableLength (length l) && areEntries (drop headerLength (take tableLength l))
 
+-- [9.10] the state that the first numbers of a list tell
 abbrev pub tableIn : List ℕ → State
 tableIn l = stateIn (take tableLength l)
 
--- with those of a sound one
+-- [9.20] a list that starts with the numbers of a sound state
 unfoldable pub isSoundTable : List ℕ → Bool
 isSoundTable l = isTable l && soundOf (tableIn l)
 
--- A summary: accepted, refused, entries, exits, the longest wait, and then the 96 try moments. Any numbers tell one.
+-- A summary
 
+-- [9.30] the numbers before the try times
 abbrev pub countsLength : ℕ
 countsLength = 5
 
+-- [9.30] the numbers of a summary
 abbrev pub summaryLength : ℕ
 summaryLength = countsLength + 96
 
+-- [9.30] of the counts
 abbrev pub countsNumbers : Counts → List ℕ
 countsNumbers k = k .accepted ∷ k .refused ∷ k .entries ∷ k .exits ∷ k .longest ∷ []
 
+-- [9.30]
 unfoldable pub statisticsNumbers : Statistics → List ℕ
 statisticsNumbers x = countsNumbers (x .counts) ++ x .tries
 
+-- [9.30] the counts that numbers tell
 abbrev pub countsIn : List ℕ → Counts
 countsIn l = countsOf (getD l 0 0) (getD l 1 0) (getD l 2 0) (getD l 3 0) (getD l 4 0)
 
+-- [9.30] the summary that just its numbers tell
 unfoldable pub statisticsIn : List ℕ → Statistics
 statisticsIn l = statisticsOf (countsIn l) (drop countsLength l)
 
+-- [9.30] the summary that the first numbers of a list tell
 abbrev pub summaryIn : List ℕ → Statistics
 summaryIn l = statisticsIn (take summaryLength l)

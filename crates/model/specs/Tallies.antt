@@ -1,5 +1,5 @@
--- "all four counts and the longest wait equal those worked out from the list of acts and their answers": working them out, from the
--- list alone. Assumes nothing.
+-- The counts and the longest wait by a second account, [5.120]: worked out from a list of actions and their answers, with no summary in
+-- it. Assumes nothing.
 use Prim.Native.Nat.{ℕ, _+_, _-_, max}
 use mathlib.Core.Bool.{Bool, cond, _&&_}
 use mathlib.Core.List.{List, [], _∷_}
@@ -10,58 +10,61 @@ use Rattle.model.specs.Stages.{critical}
 use Rattle.model.specs.States.{stageOf}
 use Rattle.model.specs.Summaries.{countsOf}
 
--- an act, and the number of its answer
+-- [5.120] an action, and the code of the answer to it
 pub record Attempt : Type 0 where
   pub action : ℕ
   pub process : ℕ
   pub time : ℕ
   pub code : ℕ
 
+-- helper: of its parts
 abbrev pub attempt : ℕ → ℕ → ℕ → ℕ → Attempt
 attempt act p m code = record { action = act; process = p; time = m; code = code }
 
 -- Kinds of attempts
 
+-- [5.120]
 abbrev pub isAccepted : Attempt → Bool
 isAccepted e = eqb (e .code) 0
 
--- "4 to 10 raise the summary's refused count"
+-- [5.120]
 abbrev pub isRefused : Attempt → Bool
 isRefused e = leb 4 (e .code) && leb (e .code) 10
 
--- an accepted try of process p
+-- [5.120] an accepted try of process p
 abbrev pub isTry : ℕ → Attempt → Bool
 isTry p e = isAccepted e && eqb (e .action) 1 && eqb (e .process) p
 
--- an accepted crit, and an accepted exit
+-- [5.120] an accepted crit
 abbrev pub isEntry : Attempt → Bool
 isEntry e = isAccepted e && eqb (e .action) 5
 
+-- [5.120] an accepted exit
 abbrev pub isExit : Attempt → Bool
 isExit e = isAccepted e && eqb (e .action) 6
 
 -- The tally of a log, which has the last attempt first
 
--- how many pass a test
+-- [5.120] how many pass a test
 unfoldable pub countOf : (Attempt → Bool) → List Attempt → ℕ
 countOf test [] = 0
 countOf test (e ∷ es) = cond (test e) 1 0 + countOf test es
 
--- the time of the last try of process p; 0 where there is none
+-- [5.120] the time of the last try of process p; 0 where there is none
 unfoldable pub lastTry : ℕ → List Attempt → ℕ
 lastTry p [] = 0
 lastTry p (e ∷ es) = cond (isTry p e) (e .time) (lastTry p es)
 
--- the longest time from an entry back to the last try of its process before it
+-- [5.120] for each entry the last try before it counts
 unfoldable pub longestWait : List Attempt → ℕ
 longestWait [] = 0
 longestWait (e ∷ es) = cond (isEntry e) (max (longestWait es) (e .time - lastTry (e .process) es)) (longestWait es)
 
--- what is worked out
+-- [5.120] what is worked out
 abbrev pub tallyOf : List Attempt → Counts
 tallyOf log = countsOf (countOf isAccepted log) (countOf isRefused log) (countOf isEntry log) (countOf isExit log) (longestWait log)
 
--- how many processes are critical: "windows selling"
+-- [5.130] how many processes are critical
 unfoldable pub criticalCount : List Process → ℕ
 criticalCount [] = 0
 criticalCount (q ∷ qs) = cond (eqb (stageOf (q .location)) critical) 1 0 + criticalCount qs

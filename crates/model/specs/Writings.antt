@@ -1,4 +1,4 @@
--- The writer of "Recordings" of document 01: `writeOf`, all that a writing gives back. Assumes nothing.
+-- Section 6 of the specification, the writer: `writeOf`, all that a writing gives back. Assumes nothing.
 use Prim.Native.Nat.{ℕ, _+_}
 use mathlib.Core.Bool.{cond, not}
 use mathlib.Core.List.{List, [], _∷_}
@@ -10,46 +10,50 @@ use Rattle.model.specs.Answers.{answerOf}
 use Rattle.model.specs.Texts.{Event, traceText, textLimit, hasForm}
 use Rattle.model.specs.Readings.{Lists, over}
 
--- "The writer takes as many steps as the shortest of its three lists holds."
+-- [6.150] one step for each place that all three lists have
 unfoldable pub eventsIn : List ℕ → List ℕ → List ℕ → List Event
 eventsIn [] ps qs = []
 eventsIn (t ∷ ts) [] qs = []
 eventsIn (t ∷ ts) (p ∷ ps) [] = []
 eventsIn (t ∷ ts) (p ∷ ps) (q ∷ qs) = record { time = t; process = p; action = q } ∷ eventsIn ts ps qs
 
+-- [6.150]
 abbrev pub eventsOf : Lists → List Event
 eventsOf l = eventsIn (l .times) (l .processes) (l .actions)
 
--- "14 for the first step that has no form (with the line it would take)", where the first takes `line`; 0 if there is none
+-- [6.170] the line of the first step without a form, where the first has `line`; 0 if there is none
 unfoldable pub formlessFrom : ℕ → List Event → ℕ
 formlessFrom line [] = 0
 formlessFrom line (e ∷ es) = cond (hasForm e) (formlessFrom (line + 1) es) line
 
+-- [6.170] [4.14]
 abbrev pub formlessOf : List Event → ℕ
 formlessOf events = formlessFrom 4 events
 
--- What a writing gives back: its answer, and the lent bytes
+-- What a writing gives back
 
+-- [6.150] its answer, and the lent bytes
 pub record Written : Type 0 where
   pub answer : Answer
   pub out : List ℕ
 
+-- helper: of its parts
 abbrev pub writeGave : Answer → List ℕ → Written
 writeGave r out = record { answer = r; out = out }
 
--- a refusal leaves the bytes as they were lent
+-- [6.180]
 abbrev pub unwritten : ℕ → ℕ → List ℕ → Written
 unwritten code line out = writeGave (answerOf code 0 line) out
 
--- 0, 0 and "the bytes"; "bytes after the text are unchanged"
+-- [6.150] [4.70]
 abbrev pub written : List ℕ → List ℕ → Written
 written text out = writeGave (answerOf 0 0 (length text)) (over text out)
 
--- | 16, -, - | a lent output is too short |
+-- [4.16] a text in an output that may be too short for it
 unfoldable pub fitted : List ℕ → List ℕ → Written
 fitted text out = cond (ltb (length out) (length text)) (unwritten 16 0 out) (written text out)
 
--- "It checks 11, 12, 14 [..], 15, 16"
+-- [6.170] [6.150] [6.180] one condition a line
 unfoldable pub writeOf : ℕ → ℕ → ℕ → ℕ → List Event → List ℕ → Written
 writeOf n a b c events out =
     cond (not (countStands n)) (unwritten 11 0 out)

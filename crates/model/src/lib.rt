@@ -1,25 +1,24 @@
 // The declared types of the lock. What they mean, and every definition that a contract cites, stands in `specs/`,
-// one file for each section of document 01; this crate has no function.
+// a file or two for each section of the specification; this crate has no function.
 
-// A place of document 01. The six timed locations carry the time since which the process is there, its arrival.
+// [2.70] [2.80] [21.20] Where a process is; the timed locations carry the time since which it is there.
 pub enum Location {
     Remainder,
     Testing(u64),
     Setting(u64),
     Checking(u64),
     Entering(u64),
-    // "selling"
     Critical,
     Resetting(u64),
     Leaving(u64),
 }
 
-// A window entry.
+// [2.10] [21.20] An entry.
 pub struct Process {
     pub location: Location,
 }
 
-// The table of windows: process p, from 1, has the entry p - 1.
+// [2.10] [21.50] Process p, from 1, has the entry at place p - 1.
 pub struct State {
     // how many of the entries are processes
     pub n: u64,
@@ -33,14 +32,15 @@ pub struct State {
     pub processes: [Process; 96],
 }
 
-// A row of the acts table at a state, a process and a time: the stage that it leaves, where it leads, and the word after it.
+// A row of section 3 of the specification at a state, a process and a time: the stage that it leaves, where it leads, and the word after
+// it.
 pub struct Transition {
     pub from: u64,
     pub to: Location,
     pub word: u64,
 }
 
-// An answer of the box: its number, a window and a moment. Its fields lie as in C, as those of a `Reading` do, for `funnelfawn`.
+// [4.50] An answer. Its fields lie as in C, as those of a `Reading` do, for `funnelfawn`.
 #[repr(C)]
 pub struct Answer {
     pub code: u64,
@@ -54,25 +54,25 @@ pub struct Outcome {
     pub state: State,
 }
 
-// A field of a line: its value, and how many bytes it takes with the byte that ends it; or that it fails.
+// [6.80] [21.100] A field of a line: its value, and how many bytes it takes with the byte that ends it; or that it fails.
 pub enum Field {
     Value(u64, usize),
     Bad,
 }
 
-// A line of a step: time, process, action, and how many bytes it takes; or a refusal's number and line.
+// [6.50] [21.100] A line of a step: time, process, action, and how many bytes it takes; or a refusal's code and line.
 pub enum Row {
     Step(u64, u64, u64, usize),
     Unread(u64, u64),
 }
 
-// The first lines of a recording: n, a, b, c, and how many bytes they take; or a refusal's number and line.
+// [6.90] [21.100] The first lines of a trace: n, a, b, c, and how many bytes they take; or a refusal's code and line.
 pub enum Head {
     Values(u64, u64, u64, u64, usize),
     Refused(u64, u64),
 }
 
-// What a reading answers; n, a, b, c are 0 where it is refused.
+// [6.130] What a reading answers; n, a, b, c are 0 where it is refused.
 #[repr(C)]
 pub struct Reading {
     pub answer: Answer,
@@ -82,7 +82,7 @@ pub struct Reading {
     pub c: u64,
 }
 
-// The counts of a summary, and the longest wait.
+// [5.10] The counts of a summary, and the longest wait.
 pub struct Counts {
     pub accepted: u64,
     pub refused: u64,
@@ -93,13 +93,13 @@ pub struct Counts {
     pub longest: u64,
 }
 
-// The running summary: the try moment of process p, from 1, has the place p - 1.
+// [5.10] The try time of process p, from 1, has the place p - 1.
 pub struct Statistics {
     pub counts: Counts,
     pub tries: [u64; 96],
 }
 
-// What a recorded step gives back: the outcome, and the summary brought up to date.
+// [5.30] What a recorded step gives back: the outcome, and the summary brought up to date.
 pub struct Recorded {
     pub outcome: Outcome,
     pub statistics: Statistics,

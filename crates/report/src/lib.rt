@@ -20,7 +20,7 @@ ghost use Rattle.trace.specs.Puts.{Put};
 // No recording has more steps: 65,536 bytes less those of the first lines, eight a step.
 const MOST_STEPS: usize = 8187;
 
-// No report has more bytes: the names line, and at most 84 a step.
+// [7.50] No report has more bytes: the names line, and at most 84 a step.
 const MOST_BYTES: usize = 687734;
 
 // Room for the steps of any recording. Only the length is told, since a proof that writes the zeros out is dear.
@@ -30,6 +30,7 @@ fn list() -> [u64; 8187]
     [0; MOST_STEPS]
 }
 
+// [7.30] The line that is printed with a refusal.
 fn fault_line(code: u64, line: u64) -> u64
     ensures { λ r. ⌜ r ≡ faultLine code line ⌝ }
 {
@@ -42,7 +43,7 @@ fn fault_line(code: u64, line: u64) -> u64
     line
 }
 
-// One line of a report, which has at most 84 bytes: four numbers of at most 20 digits, and their ends.
+// [7.25] One line of a report, which has at most 84 bytes: four numbers of at most 20 digits, and their ends.
 fn put_line(out: &mut [u8], at: u32, line: u64, code: u64, process: u64, time: u64) -> usize
     ensures { λ r. ⌜ Put (now (out .entry)) (now (out .exit)) at (valuesText line code process time) r ⌝ }
     ensures { λ r. ⌜ r ≤ 84 ⌝ }
@@ -50,7 +51,7 @@ fn put_line(out: &mut [u8], at: u32, line: u64, code: u64, process: u64, time: u
     put_values(out, at, line, code, process, time)
 }
 
-// Runs the steps in the lists, at most 8,187, from a table on, and puts a line for each after the names line.
+// [7.40] Runs the steps in the lists, at most 8,187, from a table on, and puts a line for each after the names line.
 fn put_run(out: &mut [u8], first: State, times: &[u64], processes: &[u64], actions: &[u64]) -> usize
     requires { ⌜ length (now times) ≤ 8187 ⌝ }
     requires { ⌜ length (now processes) ≡ length (now times) ⌝ }
@@ -74,7 +75,7 @@ fn put_run(out: &mut [u8], first: State, times: &[u64], processes: &[u64], actio
     size
 }
 
-// Puts the report, as much of it as there is room for, and answers how many bytes it has.
+// [7.20] [7.30] [7.40] Puts the report, as much of it as there is room for, and answers how many bytes it has.
 fn put_report(text: &[u8], out: &mut [u8]) -> usize
     ensures { λ r. ⌜ Put (now (out .entry)) (now (out .exit)) 0 (reportText (now (text .entry))) r ⌝ }
     ensures { λ r. ⌜ r ≤ 687734 ⌝ }
@@ -102,8 +103,8 @@ fn put_report(text: &[u8], out: &mut [u8]) -> usize
     names + lines
 }
 
-// Writes what `replay` prints for a recording. An output that may be too short is measured first, so that it stays; one of
-// 687,734 bytes never is.
+// [7.50] [21.110] Writes what `replay` prints for a recording. An output that may be too short is measured first, so that it stays;
+// one of 687,734 bytes never is.
 pub fn report(text: &[u8], out: &mut [u8]) -> Answer
     ensures report { λ r. ⌜ writeGave r (now (out .exit)) ≡ reportOf (now (text .entry)) (now (out .entry)) ⌝ }
     ensures room { λ r. ⌜ (687734 ≤ length (now (out .entry)) → r .code ≡ 0) ⌝ }

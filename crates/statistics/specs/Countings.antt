@@ -1,4 +1,4 @@
--- What is judged of a summary before an act is counted, and what the counting asks for. Assumes nothing.
+-- What is judged of a summary before an act is counted, and what the counting asks for. For the proofs only. Assumes nothing.
 use Prim.Native.Nat.{ℕ, _<_}
 use mathlib.Core.Bool.{Bool, cond, not, _&&_}
 use Rattle.model.specs.declared.Counts.{Counts}

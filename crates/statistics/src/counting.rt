@@ -5,6 +5,7 @@ ghost use Prim.Native.Nat.{max};
 ghost use Rattle.model.specs.Summaries.{oneRefused, oneAccepted, oneEntry, oneExit};
 ghost use Rattle.statistics.specs.Countings.{Room};
 
+// [5.100]
 pub(crate) fn with_refused(mut counts: Counts) -> Counts
     requires { ⌜ Room counts ⌝ }
     ensures { λ r. ⌜ r ≡ oneRefused counts ⌝ }
@@ -13,7 +14,7 @@ pub(crate) fn with_refused(mut counts: Counts) -> Counts
     counts
 }
 
-// Neither a crit nor an exit.
+// [5.70] Neither a crit nor an exit.
 pub(crate) fn with_accepted(mut counts: Counts) -> Counts
     requires { ⌜ Room counts ⌝ }
     ensures { λ r. ⌜ r ≡ oneAccepted counts ⌝ }
@@ -28,7 +29,7 @@ fn greater(a: u64, b: u64) -> u64
     if a < b { b } else { a }
 }
 
-// A crit, and the wait that it ends.
+// [5.70] [5.90] A crit, and the wait that it ends.
 pub(crate) fn with_entry(mut counts: Counts, wait: u64) -> Counts
     requires { ⌜ Room counts ⌝ }
     ensures { λ r. ⌜ r ≡ oneEntry counts wait ⌝ }
@@ -39,6 +40,7 @@ pub(crate) fn with_entry(mut counts: Counts, wait: u64) -> Counts
     counts
 }
 
+// [5.70] An exit.
 pub(crate) fn with_exit(mut counts: Counts) -> Counts
     requires { ⌜ Room counts ⌝ }
     ensures { λ r. ⌜ r ≡ oneExit counts ⌝ }

@@ -26,7 +26,7 @@ ghost use Rattle.model.specs.States.{soundOf};
 ghost use Rattle.model.specs.Answers.{answers};
 ghost use Rattle.model.specs.Summaries.{newStatistics, beside, recordedOf};
 
-// "A new one is all zeros."
+// [5.20] [21.110]
 pub fn new_statistics() -> Statistics
     ensures { λ r. ⌜ r ≡ newStatistics ⌝ }
 {
@@ -57,8 +57,8 @@ fn refuse(state: State, fault: u64) -> Outcome
     }
 }
 
-// One action of a process at a time, and the summary after it. The summary is judged first and changed in place, as each hand-over
-// of it copies 808 bytes.
+// [5.80] [5.110] [21.110] One action of a process at a time, and the summary after it. The summary is judged first and changed in
+// place, as each hand-over of it copies 808 bytes.
 pub fn record(
     state: State,
     mut statistics: Statistics,
@@ -103,7 +103,7 @@ pub fn record(
     }
 }
 
-// "The caller lends the summary to each recorded step and finds it brought up to date."
+// [5.30] [21.70] [21.110]
 pub fn record_step(
     state: State,
     statistics: &mut Statistics,

@@ -4,9 +4,10 @@ ghost use mathlib.Core.Path.{_≡_};
 ghost use Rattle.model.specs.Summaries.{countsSound, triesSound};
 ghost use Rattle.statistics.specs.Countings.{faultBy};
 
-// "1,000,000,000,000", of acts and of microseconds
+// [5.40] [5.60] of acts and of microseconds
 const MOST: u64 = 1000000000000;
 
+// [5.40] [5.50] All but the try moments.
 fn counts_stand(counts: Counts) -> bool
     ensures { λ r. ⌜ r ≡ countsSound counts ⌝ }
 {
@@ -25,6 +26,7 @@ fn counts_stand(counts: Counts) -> bool
     counts.longest <= MOST
 }
 
+// [5.40] The try moments.
 pub(crate) fn tries_stand(tries: [u64; 96], clock: u64) -> bool
     ensures { λ r. ⌜ r ≡ triesSound clock tries ⌝ }
 {
@@ -38,7 +40,8 @@ pub(crate) fn tries_stand(tries: [u64; 96], clock: u64) -> bool
     i == 96
 }
 
-// The number of the refusal, 2 or 3; 0 where an act can be counted. `past` tells whether no try moment is after the clock.
+// [4.2] [4.3] [5.60] The number of the refusal, 2 or 3; 0 where an act can be counted. `past` tells whether no try moment is after
+// the clock.
 pub(crate) fn fault_by(counts: Counts, past: bool) -> u64
     ensures { λ r. ⌜ r ≡ faultBy counts past ⌝ }
 {

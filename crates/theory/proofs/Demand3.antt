@@ -1,4 +1,4 @@
--- "The lists of demand 3" of document 01: its statements hold of every list of calls from a fresh table. Assumes nothing.
+-- Section 8 of the specification: its statements hold of every list of calls from a fresh table. Assumes nothing.
 use Prim.Native.Nat.{ℕ, _≤_}
 use mathlib.Core.Path.{refl}
 use mathlib.Core.List.{List, [], _∷_}
@@ -28,7 +28,7 @@ use Rattle.theory.proofs.Spans.{wait-within}
 owed-room : {s : State} → Sound s → {x : View} {w : ℕ} → x .since w ≤ x .clock → Room (lockOf s) x w (owedWait s)
 owed-room sound h = omega arith
 
--- One seller
+-- One critical process
 
 one-critical : {L : Lock} {s : State} → Reached L s → OneCritical s
 one-critical r i j h k = one-owner (r .inv) i j (critical-owns h) (critical-owns k)

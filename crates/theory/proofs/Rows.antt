@@ -1,4 +1,4 @@
--- The acts table, `transitionOf` against the relations of its columns "From" and "Effect".
+-- The table of section 3 of the specification, `transitionOf` against the relations `From` and `Effect`.
 -- These laws look at the eight acts, so that other proofs need not. Assumes nothing.
 use Prim.Native.Nat.{ℕ, _+_, _≤_}
 use mathlib.Core.Path.{_≡_}
@@ -16,7 +16,7 @@ use Rattle.model.specs.Actions.{transitionOf}
 use Rattle.theory.specs.Acceptance.{From, Effect}
 use Rattle.model.proofs.Tests.{by-cond}
 
--- The column "From"
+-- What an act leaves
 
 -- `From` in numbers: the act is the next after the stage, and a check is not early
 pub record Ready (b m act : ℕ) (l : Location) : Type 0 where
@@ -67,7 +67,7 @@ row-leaves s act p m some most =
     (λ h₇. row-or-later h₇ (omega arith)
     (λ h₈. omega arith)))))))
 
--- The column "Effect"
+-- Where it leads
 
 pub row-effect : (s : State) (p : ℕ) {b m act : ℕ} {l : Location} → From b m act l
     → Effect p m act (s .word) (transitionOf s act p m .to) (transitionOf s act p m .word)

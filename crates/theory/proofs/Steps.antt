@@ -26,7 +26,7 @@ pub record Guards (s : State) (act p m : ℕ) : Type 0 where
   pub placed : misplaced s act p m ≡ false
   pub released : early s act p m ≡ false
 
--- "4 to 10 raise the summary's refused count"
+-- the numbers that a summary counts as refused
 pub record Refuses (code : ℕ) : Type 0 where
   pub some : 4 ≤ code
   pub most : code ≤ 10

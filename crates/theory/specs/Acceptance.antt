@@ -1,5 +1,5 @@
--- Which acts the algorithm allows, in plain facts, and what they change: the acts table as two relations, its columns "From"
--- and "Effect". `stepOf` accepts exactly these, and a refused step gives the state back. Assumes nothing.
+-- Section 3 of the specification: which acts the algorithm allows, in plain facts, and what they change, its table as two relations,
+-- `From` and `Effect`. `stepOf` accepts exactly these, and a refused step gives the state back. Assumes nothing.
 use Prim.Native.Nat.{ℕ, _+_, _≤_}
 use mathlib.Core.Path.{_≡_}
 use mathlib.Core.Logic.{_⊎_, _≢_, _↔_}
@@ -12,42 +12,60 @@ use Rattle.model.specs.States.{lastTime, entryOf, soundOf}
 use Rattle.model.specs.Answers.{stepOf}
 use Rattle.model.specs.Facts.{Accepted, HasDeadline}
 
--- The column "From": the acts that a process may take in a location at the time m. Only a check waits for its earliest moment.
+-- [3.80] the acts that a process may take in a location at the time m. Only a check waits for its release.
 pub data From (b m : ℕ) : ℕ → Location → Type 0 where
+  -- [3.1]
   try : From b m 1 Remainder
+  -- [3.2]
   test : {t : ℕ} → From b m 2 (Testing t)
+  -- [3.3]
   set : {t : ℕ} → From b m 3 (Setting t)
+  -- [3.4] [2.100]
   check : {t : ℕ} → t + b ≤ m → From b m 4 (Checking t)
+  -- [3.5]
   crit : {t : ℕ} → From b m 5 (Entering t)
+  -- [3.6]
   exit : From b m 6 Critical
+  -- [3.7]
   reset : {t : ℕ} → From b m 7 (Resetting t)
+  -- [3.8]
   rem : {t : ℕ} → From b m 8 (Leaving t)
 
--- The column "Effect": where an act of process p at the time m leads at the word w, and the word after it.
+-- [3.60] where an act of process p at the time m leads at the word w, and the word after it; m is the since wherever there is one
 pub data Effect (p m : ℕ) : ℕ → ℕ → Location → ℕ → Type 0 where
+  -- [3.1]
   try : {w : ℕ} → Effect p m 1 w (Testing m) w
+  -- [3.2]
   test-free : Effect p m 2 0 (Setting m) 0
+  -- [3.2]
   test-taken : {w : ℕ} → w ≢ 0 → Effect p m 2 w (Testing m) w
+  -- [3.3]
   set : {w : ℕ} → Effect p m 3 w (Checking m) p
+  -- [3.4]
   check-own : Effect p m 4 p (Entering m) p
+  -- [3.4]
   check-other : {w : ℕ} → w ≢ p → Effect p m 4 w (Testing m) w
+  -- [3.5]
   crit : {w : ℕ} → Effect p m 5 w Critical w
+  -- [3.6]
   exit : {w : ℕ} → Effect p m 6 w (Resetting m) w
+  -- [3.7]
   reset : {w : ℕ} → Effect p m 7 w (Leaving m) 0
+  -- [3.8]
   rem : {w : ℕ} → Effect p m 8 w Remainder w
 
--- a wait, which is of no process
+-- [3.0] a wait, which is of no process
 pub record Waits (act p : ℕ) : Type 0 where
   pub wait : act ≡ 0
   pub nobody : p ≡ 0
 
--- a process from 1 to n in the act's place
+-- [3.80] a process from 1 to n in the act's place
 pub record Acts (s : State) (act p m : ℕ) : Type 0 where
   pub some : 1 ≤ p
   pub most : p ≤ s .n
   pub from : From (s .b) m act (entryOf s p .location)
 
--- the algorithm allows the act of process p at the time m
+-- [3.80] the algorithm allows the act of process p at the time m
 pub record Allowed (s : State) (act p m : ℕ) : Type 0 where
   pub forward : s .clock ≤ m
   pub within : m ≤ lastTime
@@ -55,30 +73,33 @@ pub record Allowed (s : State) (act p m : ℕ) : Type 0 where
   pub in-time : (i d : ℕ) → HasDeadline s i d → m ≤ d
   pub turn : Waits act p ⊎ Acts s act p m
 
+-- [3.85] of a sound state; of others, `UnsoundIffOne`
 abbrev pub AcceptedIffAllowed : Type 0
 AcceptedIffAllowed = (s : State) → soundOf s ≡ true → (act p m : ℕ) → Accepted (stepOf s act p m) ↔ Allowed s act p m
 
--- s′ is s after the act of process p at the time m: it differs in the clock, in p's entry and in the word only
+-- [3.70] s′ is s after the act of process p at the time m: it differs in the clock, in p's entry and in the word only
 pub record Changed (s : State) (act p m : ℕ) (s′ : State) : Type 0 where
   pub n-stays : s′ .n ≡ s .n
   pub a-stays : s′ .a ≡ s .a
   pub b-stays : s′ .b ≡ s .b
   pub c-stays : s′ .c ≡ s .c
   pub size-stays : length (s′ .processes) ≡ length (s .processes)
+  -- [3.50]
   pub clock-is : s′ .clock ≡ m
   pub others-stay : (i : ℕ) → 1 ≤ i → i ≢ p → entryOf s′ i ≡ entryOf s i
+  -- [3.0] and `others-stay` keeps every entry, as none is of process 0
   pub wait-keeps : act ≡ 0 → s′ .word ≡ s .word
   pub effect : 1 ≤ act → Effect p m act (s .word) (entryOf s′ p .location) (s′ .word)
 
--- for a state of 96 entries, as each of the code is
+-- [3.70] for a state of 96 entries, as each of the code is
 abbrev pub NextIsChanged : Type 0
 NextIsChanged = (s : State) → length (s .processes) ≡ 96 → (act p m : ℕ) → Accepted (stepOf s act p m)
     → Changed s act p m (stepOf s act p m .state)
 
--- "A refusal leaves the table [..] unchanged"
+-- [4.110] the state, in a step without a summary
 abbrev pub RefusedStays : Type 0
 RefusedStays = (s : State) (act p m : ℕ) → stepOf s act p m .answer .code ≢ 0 → stepOf s act p m .state ≡ s
 
--- "A wait at the clock's own moment changes nothing in the table."
+-- [3.90] of any state, sound or not
 abbrev pub WaitNowChangesNothing : Type 0
 WaitNowChangesNothing = (s : State) → stepOf s 0 0 (s .clock) .state ≡ s

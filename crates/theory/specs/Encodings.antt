@@ -1,4 +1,5 @@
--- A table and a summary come back from their numbers, and numbers from what they tell. Assumes nothing.
+-- Section 9 of the specification: a table and a summary come back from their numbers, and numbers from what they tell.
+-- Assumes nothing.
 use Prim.Native.Nat.{ℕ, _≤_}
 use mathlib.Core.Path.{_≡_}
 use mathlib.Core.Bool.{true}
@@ -11,22 +12,25 @@ use Rattle.model.specs.Encodings.{stateNumbers, isTable, tableIn, summaryLength
 
 -- Tables, of 96 entries as each of the code is
 
--- the numbers of a table, whatever stands after them, are those of a table, and tell that one
+-- [9.40] the numbers of a table, whatever stands after them, are those of a table, and tell that one
 abbrev pub TableComesBack : Type 0
 TableComesBack = (s : State) → length (s .processes) ≡ 96 → (rest : List ℕ)
     → (isTable (stateNumbers s ++ rest) ≡ true) × (tableIn (stateNumbers s ++ rest) ≡ s)
 
--- the table that numbers tell has 96 entries, and numbers that tell one are its numbers
+-- [9.40] what numbers tell is a whole table: it has 96 entries
 abbrev pub TableIsWhole : Type 0
 TableIsWhole = (l : List ℕ) → isTable l ≡ true → length (tableIn l .processes) ≡ 96
 
+-- [9.40] numbers that tell a table are its numbers, whatever stands after them
 abbrev pub NumbersComeBack : Type 0
 NumbersComeBack = (l : List ℕ) → isTable l ≡ true → over (stateNumbers (tableIn l)) l ≡ l
 
 -- Summaries, of 96 try moments
 
+-- [9.40] as a table does
 abbrev pub SummaryComesBack : Type 0
 SummaryComesBack = (x : Statistics) → length (x .tries) ≡ 96 → (rest : List ℕ) → summaryIn (statisticsNumbers x ++ rest) ≡ x
 
+-- [9.40] any numbers, if there are enough of them
 abbrev pub SummaryNumbersComeBack : Type 0
 SummaryNumbersComeBack = (l : List ℕ) → summaryLength ≤ length l → over (statisticsNumbers (summaryIn l)) l ≡ l

@@ -1,5 +1,5 @@
--- Answer 8: it names the smallest missed deadline and the lowest process that has it, and it is given exactly where one is
--- missed and none of 1 to 7 applies. Assumes nothing.
+-- Section 4 of the specification, the code 8: it names the smallest missed deadline and the lowest process that has it, and it is
+-- given exactly where one is missed and none of 1 to 7 applies. Assumes nothing.
 use Prim.Native.Nat.{ℕ, _≤_, _<_}
 use mathlib.Core.Path.{_≡_}
 use mathlib.Core.Logic.{_≢_, _↔_}
@@ -9,26 +9,27 @@ use Rattle.model.specs.States.{soundOf}
 use Rattle.model.specs.Answers.{backward, beyond, unknown, misnamed, lateOf, stepOf}
 use Rattle.model.specs.Facts.{HasDeadline}
 
--- "the smallest such, then the lowest window": process p has missed the deadline d at the time m
+-- [4.8] who is named, and with what: process p has missed the deadline d at the time m
 pub record FirstMissed (s : State) (m p d : ℕ) : Type 0 where
   pub has : HasDeadline s p d
   pub missed : d < m
   pub smallest : (i e : ℕ) → HasDeadline s i e → d ≤ e
   pub lowest : (i : ℕ) → HasDeadline s i d → p ≤ i
 
+-- [4.8] the process and the time of the answer
 abbrev pub LateNamesTheFirst : Type 0
 LateNamesTheFirst = (s : State) (act p m : ℕ) → stepOf s act p m .answer .code ≡ 8
     → FirstMissed s m (stepOf s act p m .answer .process) (stepOf s act p m .answer .time)
 
--- every deadline is kept at the time m
+-- helper: every deadline is kept at the time m
 abbrev pub AllInTime : State → ℕ → Type 0
 AllInTime s m = (i d : ℕ) → HasDeadline s i d → m ≤ d
 
--- the search finds none exactly where every deadline is kept
+-- [4.8] the search finds none exactly where every deadline is kept
 abbrev pub NoneFoundIffAllInTime : Type 0
 NoneFoundIffAllInTime = (s : State) (m : ℕ) → (lateOf s m .code ≢ 8) ↔ AllInTime s m
 
--- none of the answers 1 to 7 applies
+-- helper: none of the answers 1 to 7 applies
 pub record Admissible (s : State) (act p m : ℕ) : Type 0 where
   pub sound : soundOf s ≡ true
   pub forward : backward s m ≡ false
@@ -36,8 +37,10 @@ pub record Admissible (s : State) (act p m : ℕ) : Type 0 where
   pub known : unknown act ≡ false
   pub named : misnamed (s .n) act p ≡ false
 
+-- [4.8] of any act, a wait included
 abbrev pub NotLateIffAllInTime : Type 0
 NotLateIffAllInTime = (s : State) (act p m : ℕ) → Admissible s act p m → (stepOf s act p m .answer .code ≢ 8) ↔ AllInTime s m
 
+-- [4.80] of 8 and the codes before it
 abbrev pub LateIsAdmissible : Type 0
 LateIsAdmissible = (s : State) (act p m : ℕ) → stepOf s act p m .answer .code ≡ 8 → Admissible s act p m

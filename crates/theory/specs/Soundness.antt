@@ -1,5 +1,5 @@
--- What a sound state is, in plain facts, and that `soundOf` tells it and the step answers 1 to all others; what a fresh table is,
--- and that `freshOf` gives it. Assumes nothing.
+-- Section 2 of the specification: what a sound state is, in plain facts, and that `soundOf` tells it and the step answers 1 to all
+-- others; what a fresh table is, and that `freshOf` gives it. Assumes nothing.
 use Prim.Native.Nat.{ℕ, _≤_, _<_}
 use mathlib.Core.Path.{_≡_}
 use mathlib.Core.Logic.{_↔_, _≢_}
@@ -11,39 +11,41 @@ use Rattle.model.specs.States.{lastTime, entryOf, soundOf}
 use Rattle.model.specs.Answers.{stepOf, freshOf}
 use Rattle.model.specs.Facts.{Accepted, Arrival, HasDeadline}
 
--- "n (1 to 96)"
+-- [2.20]
 pub record CountStands (n : ℕ) : Type 0 where
   pub some : 1 ≤ n
   pub most : n ≤ 96
 
--- "1 ≤ a < b ≤ c ≤ 10,000,000"
+-- [2.30]
 pub record LimitsStand (a b c : ℕ) : Type 0 where
   pub some : 1 ≤ a
   pub apart : a < b
   pub order : b ≤ c
   pub most : c ≤ 10_000_000
 
--- "A table is sound when the ranges above hold, entries above n are in remainder, and for each timed place
--- arrival ≤ clock ≤ latest moment."
+-- [2.120]
 pub record Sound (s : State) : Type 0 where
   pub count : CountStands (s .n)
   pub limits : LimitsStand (s .a) (s .b) (s .c)
+  -- [2.40]
   pub clock : s .clock ≤ lastTime
+  -- [2.50]
   pub word : s .word ≤ s .n
   pub above : (i : ℕ) → s .n < i → entryOf s i .location ≡ Remainder
   pub past : (i t : ℕ) → Arrival (entryOf s i .location) t → t ≤ s .clock
   pub in-time : (i d : ℕ) → HasDeadline s i d → s .clock ≤ d
 
+-- [2.120] [2.130] exactly these facts, and no other
 abbrev pub SoundIffPlain : Type 0
 SoundIffPlain = (s : State) → (soundOf s ≡ true) ↔ Sound s
 
--- | 1, -, - | table not sound |: an act is answered so exactly then
+-- [4.1] [3.85] an act is answered so exactly then
 abbrev pub UnsoundIffOne : Type 0
 UnsoundIffOne = (s : State) (act p m : ℕ) → (stepOf s act p m .answer .code ≡ 1) ↔ (soundOf s ≡ false)
 
 -- A fresh table
 
--- "Fresh also means clock 0 and word 0", and all 96 entries are in remainder
+-- [2.60] s is such a table, with these n, a, b, c
 pub record Fresh (n a b c : ℕ) (s : State) : Type 0 where
   pub n-is : s .n ≡ n
   pub a-is : s .a ≡ a
@@ -54,14 +56,17 @@ pub record Fresh (n a b c : ℕ) (s : State) : Type 0 where
   pub size : length (s .processes) ≡ 96
   pub all : (i : ℕ) → entryOf s i .location ≡ Remainder
 
--- it is given exactly for the numbers that stand, and it is sound
+-- [2.65] it is given exactly for the numbers that stand, and it is sound
 pub record FreshTable (n a b c : ℕ) : Type 0 where
+  -- [4.11] [4.12] it is refused exactly where one of them holds
   pub accepted : Accepted (freshOf n a b c) ↔ (CountStands n × LimitsStand a b c)
   pub fresh : Accepted (freshOf n a b c) → Fresh n a b c (freshOf n a b c .state)
   pub sound : Accepted (freshOf n a b c) → soundOf (freshOf n a b c .state) ≡ true
-  -- "A refused fresh table [..] returns n, a, b, c as 0; that table is otherwise like a fresh one, and so not sound."
+  -- [4.100]
   pub refused : freshOf n a b c .answer .code ≢ 0 → Fresh 0 0 0 0 (freshOf n a b c .state)
+  -- [4.100]
   pub unsound : freshOf n a b c .answer .code ≢ 0 → soundOf (freshOf n a b c .state) ≡ false
 
+-- [2.65] [4.11] [4.12] [4.100] for any numbers
 abbrev pub FreshIsPlain : Type 0
 FreshIsPlain = (n a b c : ℕ) → FreshTable n a b c

@@ -1,5 +1,5 @@
--- "The running summary" from a second side: its soundness in plain facts, and what a recorded step gives back, by its answer.
--- Assumes nothing.
+-- Section 5 of the specification from a second side: the soundness of a summary in plain facts, and what a recorded step gives back,
+-- by its answer. Assumes nothing.
 use Prim.Native.Nat.{ℕ, _+_, _≤_}
 use mathlib.Core.Path.{_≡_}
 use mathlib.Core.Logic.{_≢_, _↔_}
@@ -13,45 +13,49 @@ use Rattle.model.specs.States.{lastTime, soundOf}
 use Rattle.model.specs.Answers.{stepOf}
 use Rattle.model.specs.Summaries.{mostActs, statisticsSound, acceptedCounted, refusedCounted, recordedOf}
 
--- "accepted + refused ≤ 1,000,000,000,000, entries + exits ≤ accepted, the longest wait is at most 1,000,000,000,000"
+-- [5.40] [5.50] of the counts; the sums are those of numbers without an end
 pub record CountsSound (k : Counts) : Type 0 where
   pub acts : k .accepted + k .refused ≤ mostActs
   pub turns : k .entries + k .exits ≤ k .accepted
   pub longest : k .longest ≤ lastTime
 
--- "and each try moment is at most the clock"
+-- [5.40] beside a table with this clock
 pub record SummarySound (clock : ℕ) (x : Statistics) : Type 0 where
   pub counts : CountsSound (x .counts)
+  -- past the list's end 0 is looked at, which is after no clock
   pub tries : (k : ℕ) → getD (x .tries) k 0 ≤ clock
 
+-- [5.40]
 abbrev pub SummarySoundIffPlain : Type 0
 SummarySoundIffPlain = (clock : ℕ) (x : Statistics) → (statisticsSound clock x ≡ true) ↔ SummarySound clock x
 
--- an act more can be counted
+-- [5.60] an act more can be counted
 abbrev pub NotFull : Statistics → Type 0
 NotFull x = x .counts .accepted + x .counts .refused ≢ mostActs
 
+-- [5.110] what is asked of the summary, beside a table with this clock
 pub record HasRoom (clock : ℕ) (x : Statistics) : Type 0 where
   pub sound : SummarySound clock x
   pub not-full : NotFull x
 
--- what a recorded step gives back, by its number
+-- [5.30] what a recorded step gives back, by its number
 pub record RecordedTells (s : State) (x : Statistics) (act p m : ℕ) (r : Recorded) : Type 0 where
-  -- | 1, -, - | table not sound |
+  -- [4.1]
   pub one : (r .outcome .answer .code ≡ 1) ↔ (soundOf s ≡ false)
-  -- | 2, -, - | summary not sound |
+  -- [4.2] after 1
   pub two : (r .outcome .answer .code ≡ 2) ↔ ((soundOf s ≡ true) × (SummarySound (s .clock) x → ⊥))
-  -- | 3, -, - | accepted + refused = 1,000,000,000,000 |
+  -- [4.3] after 1 and 2
   pub three : (r .outcome .answer .code ≡ 3)
       ↔ ((soundOf s ≡ true) × SummarySound (s .clock) x × (x .counts .accepted + x .counts .refused ≡ mostActs))
-  -- where neither applies, the answer and the table are those of the step without a summary
+  -- [5.110] where neither applies; a table that is not sound is answered alike by both
   pub step : HasRoom (s .clock) x → r .outcome ≡ stepOf s act p m
-  -- 1, 2 and 3 change nothing
+  -- [5.100] [4.110] 1, 2 and 3 change nothing
   pub unchanged : 1 ≤ r .outcome .answer .code → r .outcome .answer .code ≤ 3 → (r .outcome .state ≡ s) × (r .statistics ≡ x)
-  -- "A refusal leaves the table and all lent bytes unchanged, save that 4 to 10 raise the summary's refused count"
+  -- [5.100] [4.110] the other refusals
   pub refused : 4 ≤ r .outcome .answer .code → (r .outcome .state ≡ s) × (r .statistics ≡ refusedCounted x)
-  -- an accepted act is counted
+  -- [5.70] [5.80] [5.90] an accepted act is counted
   pub accepted : r .outcome .answer .code ≡ 0 → r .statistics ≡ acceptedCounted x act p m
 
+-- [5.30] [5.100] [5.110] of any table and any summary, sound or not
 abbrev pub RecordedIsPlain : Type 0
 RecordedIsPlain = (s : State) (x : Statistics) (act p m : ℕ) → RecordedTells s x act p m (recordedOf s x act p m)

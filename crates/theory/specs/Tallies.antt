@@ -1,5 +1,5 @@
--- "From a fresh table and a new summary lent to every step, entries = exits + windows selling; all four counts and the longest wait
--- equal those worked out from the list of acts and their answers." Assumes nothing.
+-- Section 5 of the specification, its last clauses: lists of recorded steps with one summary for all, and that it holds what the log
+-- of the acts and of the answers to them tells. Assumes nothing.
 use Prim.Native.Nat.{ℕ, _+_}
 use mathlib.Core.Path.{_≡_}
 use mathlib.Core.List.{List, [], _∷_}
@@ -10,36 +10,41 @@ use Rattle.model.specs.Facts.{Accepted}
 use Rattle.model.specs.Summaries.{newStatistics, beside, recordedOf}
 use Rattle.model.specs.Tallies.{Attempt, attempt, tallyOf, criticalCount}
 
--- a recorded step after another, with the table and the summary that it left
+-- helper: a recorded step after another, with the table and the summary that it left
 abbrev pub recordNext : Recorded → Event → Recorded
 recordNext r e = recordedOf (r .outcome .state) (r .statistics) (e .action) (e .process) (e .time)
 
--- a list of recorded steps: what the last one left, and what each gives back
+-- [5.120] a list of recorded steps after r: what the last one left
 unfoldable pub recordAll : Recorded → List Event → Recorded
 recordAll r [] = r
 recordAll r (e ∷ es) = recordAll (recordNext r e) es
 
+-- helper: what each of them gives back
 unfoldable pub recordsOf : Recorded → List Event → List Recorded
 recordsOf r [] = []
 recordsOf r (e ∷ es) = recordNext r e ∷ recordsOf (recordNext r e) es
 
--- the log of the list: each act with the number of the answer to it, the last one first
+-- helper: an act with the number of the answer to it
 abbrev pub attemptOf : Event → Recorded → Attempt
 attemptOf e r = attempt (e .action) (e .process) (e .time) (r .outcome .answer .code)
 
+-- [5.120] the log of the list, the last act first
 unfoldable pub logFrom : List Attempt → Recorded → List Event → List Attempt
 logFrom log r [] = log
 logFrom log r (e ∷ es) = logFrom (attemptOf e (recordNext r e) ∷ log) (recordNext r e) es
 
--- what the last step left, beside the log of all
+-- helper: what the last step left, beside the log of all
 pub record Tallied (log : List Attempt) (r : Recorded) : Type 0 where
+  -- [5.120]
   pub counts : r .statistics .counts ≡ tallyOf log
+  -- [5.130]
   pub balance : r .statistics .counts .entries ≡ r .statistics .counts .exits + criticalCount (r .outcome .state .processes)
 
--- a fresh table and a new summary
+-- [5.120] a fresh table and a new summary
 abbrev pub startOf : ℕ → ℕ → ℕ → ℕ → Recorded
 startOf n a b c = beside newStatistics (freshOf n a b c)
 
+-- [5.120] [5.130] of every list es
 abbrev pub EveryTally : Type 0
 EveryTally = (n a b c : ℕ) → Accepted (freshOf n a b c) → (es : List Event)
     → Tallied (logFrom [] (startOf n a b c) es) (recordAll (startOf n a b c) es)

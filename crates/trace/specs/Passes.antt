@@ -1,4 +1,4 @@
--- What the passes over a recording's lines ensure: parts of `readOf` and `writeOf`, which no reader has to believe.
+-- What the passes over a recording's lines ensure: parts of `readOf` and `writeOf`. For the proofs only.
 -- Assumes nothing.
 use Prim.Native.Nat.{ℕ, _+_, _≤_}
 use mathlib.Core.Path.{_≡_}

@@ -1,4 +1,4 @@
--- What the functions that put a text into a lent output ensure. Assumes nothing.
+-- What the functions that put a text into a lent output ensure. For the proofs only. Assumes nothing.
 use Prim.Native.Nat.{ℕ}
 use mathlib.Core.Path.{_≡_}
 use mathlib.Core.List.{List}

@@ -1,5 +1,5 @@
-// The lines of a recording, taken apart field by field: the first field that fails ends the reading, and the part of the
-// text after a comma goes to the next field's reader.
+// The lines of a recording, taken apart field by field: a field that fails is the last that is looked at, and the part of
+// the text after a comma goes to the next field's reader.
 use crate::fields::NUMBER_BOUND;
 use crate::fields::TIME_BOUND;
 use crate::fields::number_at;
@@ -13,7 +13,7 @@ use model::Row;
 ghost use mathlib.Core.Path.{_≡_};
 ghost use Rattle.model.specs.Readings.{eventAt, valuesAt, headOf};
 
-// The step at the start of s, which has the number `line`.
+// [6.50] [6.80] [21.10] [21.60] The step at the start of s, which has the number `line`.
 pub(crate) fn event_at(s: &[u8], line: u64) -> Row
     ensures { λ r. ⌜ r ≡ eventAt line (now (s .entry)) ⌝ }
 {
@@ -33,7 +33,7 @@ pub(crate) fn event_at(s: &[u8], line: u64) -> Row
     Row::Step(time, process, action, i + j + k)
 }
 
-// The values of line 2 at the start of s.
+// [6.30] [6.80] [21.10] [21.60] The values of line 2 at the start of s.
 fn values_at(s: &[u8]) -> Head
     ensures { λ r. ⌜ r ≡ valuesAt (now (s .entry)) ⌝ }
 {
@@ -58,7 +58,7 @@ fn values_at(s: &[u8]) -> Head
     Head::Values(n, a, b, c, i + j + k + l)
 }
 
-// The first three lines: "15; line 1; line 2 (14, then 11, 12); line 3".
+// [6.20] [6.40] [6.90] The first three lines.
 pub(crate) fn head_of(text: &[u8]) -> Head
     ensures { λ r. ⌜ r ≡ headOf (now (text .entry)) ⌝ }
 {

@@ -33,6 +33,7 @@ pub fn put_text(out: &mut [u8], at: usize, text: &[u8]) -> usize
     i
 }
 
+// [6.60]
 fn put_digits(out: &mut [u8], at: usize, v: u64) -> usize
     ensures { λ r. ⌜ Put (now (out .entry)) (now (out .exit)) at (decimal v) r ⌝ }
 {
@@ -54,7 +55,7 @@ pub fn put_number(out: &mut [u8], at: usize, v: u64, end: u8) -> usize
     k + 1
 }
 
-// The word of an action and the end of its line.
+// [6.70] The word of an action and the end of its line.
 fn put_word(out: &mut [u8], at: usize, action: u64) -> usize
     ensures { λ r. ⌜ Put (now (out .entry)) (now (out .exit)) at (wordText action) r ⌝ }
 {
@@ -68,7 +69,7 @@ fn put_word(out: &mut [u8], at: usize, action: u64) -> usize
     put_text(out, at, &cells[from..to])
 }
 
-// A line of four numbers. The place is a u32 so that no sum of places overflows.
+// [6.30] A line of four numbers. The place is a u32 so that no sum of places overflows.
 pub fn put_values(out: &mut [u8], at: u32, n: u64, a: u64, b: u64, c: u64) -> usize
     ensures { λ r. ⌜ Put (now (out .entry)) (now (out .exit)) at (valuesText n a b c) r ⌝ }
 {
@@ -80,7 +81,7 @@ pub fn put_values(out: &mut [u8], at: u32, n: u64, a: u64, b: u64, c: u64) -> us
     i + (j + (k + l))
 }
 
-// The line of a step.
+// [6.50] The line of a step.
 pub fn put_event(out: &mut [u8], at: u32, time: u64, process: u64, action: u64) -> usize
     ensures { λ r. ⌜ Put (now (out .entry)) (now (out .exit)) at (eventText (record { time = time; process = process; action = action })) r ⌝ }
 {

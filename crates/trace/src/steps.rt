@@ -7,13 +7,13 @@ ghost use lib.ListN.{length};
 ghost use Rattle.model.specs.Readings.{bodyOf, over, timesOf, processesOf, actionsOf};
 ghost use Rattle.trace.specs.Passes.{tallyOf};
 
-// How many steps there are; or a refusal's number and line.
+// [21.100] How many steps there are; or a refusal's number and line.
 pub(crate) enum Tally {
     Steps(usize),
     Fault(u64, u64),
 }
 
-// How many steps s holds; or the refusal of its first line that is no step.
+// [6.50] [6.90] How many steps s holds; or the refusal of its first line that is no step.
 pub(crate) fn count_events(s: &[u8]) -> Tally
     requires { ⌜ length (now s) ≤ 65536 ⌝ }
     ensures { λ r. ⌜ r ≡ tallyOf (bodyOf 4 (now (s .entry))) ⌝ }
@@ -32,7 +32,7 @@ pub(crate) fn count_events(s: &[u8]) -> Tally
     Tally::Steps(count)
 }
 
-// Stores the steps of s.
+// [6.130] Stores the steps of s.
 pub(crate) fn store_events(s: &[u8], times: &mut [u64], processes: &mut [u64], actions: &mut [u64])
     requires { ⌜ length (bodyOf 4 (now s) .events) ≤ length (now times) ⌝ }
     requires { ⌜ length (bodyOf 4 (now s) .events) ≤ length (now processes) ⌝ }

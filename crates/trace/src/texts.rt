@@ -25,6 +25,7 @@ pub(crate) fn least(a: usize, b: usize) -> usize
     if a < b { a } else { b }
 }
 
+// [6.160]
 fn has_form(time: u64, process: u64, action: u64) -> bool
     ensures { λ r. ⌜ r ≡ hasForm (record { time = time; process = process; action = action }) ⌝ }
 {
@@ -37,7 +38,7 @@ fn has_form(time: u64, process: u64, action: u64) -> bool
     action < COUNT
 }
 
-// The line of the first step that has no form; 0 where there is none.
+// [6.170] The line of the first step that has no form; 0 where there is none.
 pub(crate) fn formless(times: &[u64], processes: &[u64], actions: &[u64]) -> u64
     ensures { λ r. ⌜ r ≡ formlessOf (eventsOf (lists (now (times .entry)) (now (processes .entry)) (now (actions .entry)))) ⌝ }
 {
@@ -52,6 +53,7 @@ pub(crate) fn formless(times: &[u64], processes: &[u64], actions: &[u64]) -> u64
     0
 }
 
+// [6.20] [6.30] [6.40] The first three lines.
 fn put_head(out: &mut [u8], n: u64, a: u64, b: u64, c: u64) -> usize
     ensures { λ r. ⌜ Put (now (out .entry)) (now (out .exit)) 0 (headText n a b c) r ⌝ }
 {

@@ -6,6 +6,7 @@ pub(crate) const COUNT: u64 = 9;
 // Each word, with the end of its line, stands at the start of a cell of six bytes.
 pub(crate) const CELL: usize = 6;
 
+// [6.70]
 pub(crate) const CELLS: [u8; 54] =
     *b"wait\n try\n  test\n set\n  check\ncrit\n exit\n reset\nrem\n  ";
 

@@ -1,5 +1,5 @@
 //! Texts about as long as a text may be, and longer.
-//! "Text longer than 65,536 bytes" is 15, whatever else is wrong with it.
+//! What is too long is 15, whatever else is wrong with it: [6.90].
 
 use super::random::Random;
 use super::walk::{self, Mood};
