@@ -8,7 +8,6 @@ import collections
 import hashlib
 import pathlib
 import re
-import subprocess
 import sys
 
 SPECIFICATION = "docs/SPECIFICATION.md"
@@ -18,9 +17,9 @@ BEGIN, END = "<!-- printed by docs/traceability.py: begin -->", "<!-- end -->"
 CITATION = re.compile(r"\[(\d+\.\d+)\]")
 # what a file of specs says in its opening lines if no customer has to believe it
 PROOFS_ONLY = "For the proofs only"
-# where citations are looked at: stored inputs and outputs are not, nor what cites clauses that there are none of, to be refused
+# where citations are looked at: not in stored inputs and outputs, nor where clauses that do not exist are cited in order to be refused
 ENDINGS = (".md", ".rt", ".antt", ".edit", ".rs", ".h", ".c", ".py", ".sh", ".txt")
-NOT_LOOKED_AT = "docs/traceability_test.py"
+NOT_LOOKED_AT = {".git", "target", "traceability_test.py"}
 
 # An item is what a comment can stand directly above: a definition, a statement, a contract, a type, or a part of one.
 Item = collections.namedtuple("Item", "path line name kind public comment")
@@ -30,10 +29,9 @@ Clause = collections.namedtuple("Clause", "number title text section note")
 def read_repository():
     """The text of each file that is looked at, by its path."""
     root = pathlib.Path(__file__).resolve().parent.parent
-    command = ["git", "-C", str(root), "ls-files", "--cached", "--others", "--exclude-standard"]
-    paths = subprocess.run(command, stdout=subprocess.PIPE, text=True, check=True).stdout.splitlines()
-    looked_at = [path for path in paths if path.endswith(ENDINGS) and path != NOT_LOOKED_AT]
-    return {path: (root / path).read_text(encoding="utf8") for path in sorted(looked_at) if (root / path).is_file()}
+    paths = [path.relative_to(root) for path in root.rglob("*") if path.suffix in ENDINGS and path.is_file()]
+    looked_at = sorted(path for path in paths if not NOT_LOOKED_AT.intersection(path.parts))
+    return {path.as_posix(): (root / path).read_text(encoding="utf8") for path in looked_at}
 
 
 # The specification
@@ -48,7 +46,7 @@ def title_of(text):
     bold = re.search(r"\*\*(.+?)\*\*", text)
     if bold and text.startswith("- "):
         return bold.group(1).rstrip(".,")
-    return text.split("|")[2].split(",")[0].strip()
+    return text.split("|")[2].strip()
 
 
 def clauses_of(specification):
@@ -92,9 +90,10 @@ def rt_item(line, inside):
     if whole:
         kind = "contract" if whole.group(2) == "fn" else "type"
         return whole.group(3), kind, whole.group(1) == "pub "
+    if part and inside and part.group(3):
+        return inside, "row", False
     if part and inside:
-        # a row of a table is the table's
-        return (inside if part.group(3) else f"{inside}.{part.group(1) or part.group(2)}"), "part", False
+        return f"{inside}.{part.group(1) or part.group(2)}", "part", False
     return None
 
 
@@ -110,7 +109,7 @@ def items_of(path, text):
         item = find(line, inside)
         if item:
             name, kind, public = item
-            inside = name if kind != "part" else inside
+            inside = name if kind not in ("part", "row") else inside
             yield Item(path, number, name, kind, public, " ".join(comment))
         comment = []
 
@@ -155,12 +154,14 @@ def check_citations(files, clauses):
                     yield f"{path}:{number}: [{citation}] is no clause"
 
 
+def is_read(files, item):
+    """Whether a customer reads it: a public definition of a spec file, unless the file is for the proofs only."""
+    return item.public and "/specs/" in item.path and PROOFS_ONLY not in " ".join(files[item.path].splitlines()[:3])
+
+
 def check_definitions(files, items):
-    """Each public definition that a customer reads cites a clause or is marked as a helper."""
     for item in items:
-        if "/specs/" not in item.path or not item.public or PROOFS_ONLY in " ".join(files[item.path].splitlines()[:3]):
-            continue
-        if not CITATION.search(item.comment) and not item.comment.startswith("helper"):
+        if is_read(files, item) and not CITATION.search(item.comment) and not item.comment.startswith("helper:"):
             yield f"{item.path}:{item.line}: {item.name} cites no clause and is not marked as a helper"
 
 
@@ -193,28 +194,35 @@ def faults_of(files):
 # The table
 
 
-def name_in_table(item):
-    return f"contract of `{item.name}`" if item.kind == "contract" else f"`{item.name}`"
+# what stands before the names of a kind
+KINDS = {"definition": "", "type": "", "part": "", "row": "rows of ", "contract": "contract of "}
+
+
+def names_in(path, items):
+    """The names of a file's items, each once, those of a kind together."""
+    kinds = collections.defaultdict(list)
+    for item in items:
+        names = kinds[KINDS[item.kind]]
+        if item.path == path and f"`{item.name}`" not in names:
+            names.append(f"`{item.name}`")
+    return ", ".join(kind + ", ".join(names) for kind, names in kinds.items() if names)
 
 
 def rows_of(clause, items):
-    """One row for each file that has the clause."""
-    names = collections.OrderedDict()
-    for item in items:
-        if clause.number in CITATION.findall(item.comment):
-            there = names.setdefault(item.path, [])
-            if name_in_table(item) not in there:
-                there.append(name_in_table(item))
-    first = [f"[{clause.number}] {clause.title}", f"`{fingerprint(clause)}`"]
-    if not names:
-        return [f"| {first[0]} | {first[1]} | *(note)* | |"]
-    rows = [f"{', '.join(there)} | `{path}` |" for path, there in names.items()]
-    return [f"| {first[0]} | {first[1]} | {rows[0]}"] + [f"| | | {row}" for row in rows[1:]]
+    """One row for each file that cites the clause directly above something."""
+    citing = [item for item in items if clause.number in CITATION.findall(item.comment)]
+    paths = list(dict.fromkeys(item.path for item in citing))
+    rows = [f"{names_in(path, citing)} | `{path}` |" for path in paths] or ["*(note)* | |"]
+    first = f"[{clause.number}] {clause.title} | `{fingerprint(clause)}`"
+    return [f"| {first} | {rows[0]}"] + [f"| | | {row}" for row in rows[1:]]
 
 
 def table_of(clauses, items):
+    """A table for each section that has more than notes."""
     lines, section = [], ""
     for clause in clauses:
+        if clause.section.endswith("(notes)"):
+            continue
         if clause.section != section:
             section = clause.section
             lines += ["", f"### {section}", "", "| clause | text | definition, statement or contract | file |", "|---|---|---|---|"]
@@ -228,6 +236,17 @@ def with_table(properties, clauses, items):
     return f"{before}{BEGIN}\n\n{table_of(clauses, items)}\n{END}{after}" if begin else ""
 
 
+def said_of(files):
+    clauses, items = clauses_of(files[SPECIFICATION]), list(all_items(files))
+    definitions = [item for item in items if is_read(files, item)]
+    helpers = [item for item in definitions if not CITATION.search(item.comment)]
+    notes = [clause for clause in clauses if clause.note]
+    return (
+        f"{len(clauses)} clauses, {len(notes)} of them notes; {len(definitions)} public definitions that a customer reads,"
+        f" {len(helpers)} of them helpers"
+    )
+
+
 def main(arguments):
     files = read_repository()
     if arguments == ["write"]:
@@ -236,7 +255,7 @@ def main(arguments):
         return 0
     if arguments == ["check"]:
         faults = faults_of(files)
-        print("\n".join(faults), end="\n" if faults else "")
+        print("\n".join(faults or [said_of(files)]))
         return 1 if faults else 0
     print(__doc__)
     return 2
