@@ -10,255 +10,315 @@ import pathlib
 import re
 import sys
 
+ROOT = pathlib.Path(__file__).resolve().parent.parent
 SPECIFICATION = "docs/SPECIFICATION.md"
 PROPERTIES = "docs/PROPERTIES.md"
-BEGIN, END = "<!-- printed by docs/traceability.py: begin -->", "<!-- end -->"
+BEGIN, END = "<!-- written by docs/traceability.py: begin -->", "<!-- written by docs/traceability.py: end -->"
 
 CITATION = re.compile(r"\[(\d+\.\d+)\]")
+# two clauses in one pair of brackets, or a number of three parts: nobody would find it by a clause's number
+NO_CITATION = re.compile(r"\[\d+\.\d+[^\]\w][^\]]*\]")
 # what a file of specs says in its opening lines if no customer has to believe it
 PROOFS_ONLY = "For the proofs only"
-# where citations are looked at: not in stored inputs and outputs, nor where clauses that do not exist are cited in order to be refused
+# where citations are looked at: in no stored input or output, nor where clauses that do not exist are cited in order to be refused
 ENDINGS = (".md", ".rt", ".antt", ".edit", ".rs", ".h", ".c", ".py", ".sh", ".txt")
 NOT_LOOKED_AT = {".git", "target", "traceability_test.py"}
 
-# An item is what a comment can stand directly above: a definition, a statement, a contract, a type, or a part of one.
-Item = collections.namedtuple("Item", "path line name kind public comment")
-Clause = collections.namedtuple("Clause", "number title text section note")
+Section = collections.namedtuple("Section", "title lines")
+Clause = collections.namedtuple("Clause", "number title lines section note")
+# What a comment can stand directly above, or a part of it; `head` is the contract of a function, with its signature.
+Item = collections.namedtuple("Item", "path line name kind public comment head")
+Trace = collections.namedtuple("Trace", "files sections clauses items")
+
+
+def is_looked_at(path):
+    if NOT_LOOKED_AT.intersection(path.parts) or not (ROOT / path).is_file():
+        return False
+    return path.suffix in ENDINGS or (path.suffix == "" and (ROOT / path).read_bytes().startswith(b"#!"))
 
 
 def read_repository():
     """The text of each file that is looked at, by its path."""
-    root = pathlib.Path(__file__).resolve().parent.parent
-    paths = [path.relative_to(root) for path in root.rglob("*") if path.suffix in ENDINGS and path.is_file()]
-    looked_at = sorted(path for path in paths if not NOT_LOOKED_AT.intersection(path.parts))
-    return {path.as_posix(): (root / path).read_text(encoding="utf8") for path in looked_at}
+    paths = sorted(path.relative_to(ROOT) for path in ROOT.rglob("*"))
+    return {path.as_posix(): (ROOT / path).read_text(encoding="utf8") for path in paths if is_looked_at(path)}
+
+
+def trace_of(files):
+    sections = sections_of(files[SPECIFICATION])
+    clauses = [clause for section in sections for clause in clauses_of(section)]
+    return Trace(files, sections, clauses, list(items_of(files)))
 
 
 # The specification
+
+
+CLAUSE = re.compile(r"(?:- |\| )\[(\d+\.\d+)\] (\*\(note\)\* )?")
+
+
+def sections_of(text):
+    sections = []
+    for line in text.splitlines():
+        if line.startswith("## "):
+            sections.append(Section(line[3:], []))
+        elif sections:
+            sections[-1].lines.append(line)
+    return sections
+
+
+def clauses_of(section):
+    """A clause is the line that its number starts, and the lines directly after it that are indented."""
+    clauses, open_clause = [], False
+    for line in section.lines:
+        start = CLAUSE.match(line)
+        if start:
+            note = bool(start.group(2)) or section.title.endswith("(notes)")
+            clauses.append(Clause(start.group(1), title_of(line), [line], section.title, note))
+        elif open_clause and line.startswith("  "):
+            clauses[-1].lines.append(line)
+        open_clause = bool(start) or (open_clause and line.startswith("  "))
+    return clauses
+
+
+def title_of(line):
+    """The bold words of a clause; of a row, the cell after the number."""
+    if line.startswith("|"):
+        return line.split("|")[2].strip()
+    bold = re.search(r"\*\*(.+?)\*\*", line)
+    return bold.group(1).rstrip(".,") if bold else ""
 
 
 def order(number):
     return tuple(int(part) for part in number.split("."))
 
 
-def title_of(text):
-    """A clause's bold words; of a row, the cell after the number."""
-    bold = re.search(r"\*\*(.+?)\*\*", text)
-    if bold and text.startswith("- "):
-        return bold.group(1).rstrip(".,")
-    return text.split("|")[2].strip()
-
-
-def clauses_of(specification):
-    """The clauses in the order of the page. A clause ends where the next begins, at a heading, or after a blank line."""
-    found, section, notes = [], "", False
-    for line in specification.splitlines():
-        heading = re.match(r"## (\d+\. .+)", line)
-        start = re.match(r"(?:- |\| )\[(\d+\.\d+)\] ", line)
-        if heading:
-            section, notes = heading.group(1), heading.group(1).endswith("(notes)")
-        elif start:
-            found.append([start.group(1), section, notes or "*(note)*" in line, [line]])
-        elif line.startswith("  ") and found:
-            found[-1][3].append(line)
-    return [Clause(n, title_of(" ".join(t)), " ".join(" ".join(t).split()), s, note) for n, s, note, t in found]
-
-
-def fingerprint(clause):
-    return hashlib.sha256(clause.text.encode()).hexdigest()[:6]
+def fingerprint(lines):
+    return hashlib.sha256("\n".join(lines).encode()).hexdigest()[:6]
 
 
 # Definitions, statements and contracts, with the comments directly above them
 
-ANTT = re.compile(r"(?:(?:abbrev|unfoldable) )?pub (?:(record|data) )?(?!mod )([^\s:({]+)")
+
+ANTT = re.compile(r"(?:\s*(?:[a-z]+ )+pub|pub|\s*pub(?= record | data )) (?:record |data )?(?!mod )([^\s:({]+)")
 ANTT_PART = re.compile(r"  (?:pub )?([^\s:(){}]+) :")
 RT = re.compile(r'(pub(?:\(crate\))? )?(?:extern "C" )?(fn|struct|enum|const|type) (\w+)')
-RT_PART = re.compile(r"    (?:pub (\w+):|(\w+)[(,]|(\[))")
+RT_PART = re.compile(r"    (?:pub )?(\w+)[:(,]")
 
 
 def antt_item(line, inside):
     whole, part = ANTT.match(line), ANTT_PART.match(line)
     if whole:
-        return whole.group(2), "definition", True
+        return whole.group(1), "definition", True
     if part and inside:
-        return f"{inside}.{part.group(1)}", "part", False
+        return f"{inside[0]}.{part.group(1)}", "part", False
     return None
 
 
 def rt_item(line, inside):
     whole, part = RT.match(line), RT_PART.match(line)
     if whole:
-        kind = "contract" if whole.group(2) == "fn" else "type"
-        return whole.group(3), kind, whole.group(1) == "pub "
-    if part and inside and part.group(3):
-        return inside, "row", False
-    if part and inside:
-        return f"{inside}.{part.group(1) or part.group(2)}", "part", False
+        return whole.group(3), whole.group(2), whole.group(1) == "pub "
+    if inside and inside[1] == "const" and line.startswith("    ["):
+        return inside[0], "row", False
+    if inside and inside[1] in ("struct", "enum") and part:
+        return f"{inside[0]}.{part.group(1)}", "part", False
     return None
 
 
-def items_of(path, text):
+def head_of(lines):
+    """A function up to the brace that opens its body."""
+    for end, line in enumerate(lines, 1):
+        if line == "{" or line.endswith(" {"):
+            return "\n".join(line.split("//")[0] for line in lines[:end])
+    return ""
+
+
+def items_in(path, text):
     find, mark = (antt_item, "--") if path.endswith(".antt") else (rt_item, "//")
-    comment, inside = [], ""
-    for number, line in enumerate(text.splitlines(), 1):
+    lines, comment, inside = text.splitlines(), [], None
+    for number, line in enumerate(lines, 1):
         if line.strip().startswith(mark):
             comment.append(line.strip()[len(mark):].strip())
-            continue
-        if line.startswith("#["):
-            continue
-        item = find(line, inside)
-        if item:
-            name, kind, public = item
-            inside = name if kind not in ("part", "row") else inside
-            yield Item(path, number, name, kind, public, " ".join(comment))
-        comment = []
+        elif not line.startswith("#["):
+            found = find(line, inside)
+            if found:
+                name, kind, public = found
+                head = head_of(lines[number - 1:]) if kind == "fn" else ""
+                yield Item(path, number, name, kind, public, " ".join(comment), head)
+                inside = inside if kind in ("part", "row") else (name, kind)
+            comment = []
 
 
-def all_items(files):
-    """Those of definitions and code, in the order of crates.txt."""
-    crates = [line.split(":")[0] for line in files["crates.txt"].splitlines() if re.match(r"\w+:", line)]
-    for crate in crates:
+def items_of(files):
+    """In the order of crates.txt: of each crate its code, what a customer reads, and its proofs."""
+    for crate in re.findall(r"^(\w+):", files["crates.txt"], re.MULTILINE):
         for folder in ("src", "specs", "proofs"):
             for path, text in files.items():
                 if path.startswith(f"crates/{crate}/{folder}/") and path.endswith((".rt", ".antt")):
-                    yield from items_of(path, text)
+                    yield from items_in(path, text)
+
+
+def delivers(item):
+    """Definitions and statements, contracts, declared types, rows of a table; no constant, no function without a contract, no inner lemma."""
+    if item.kind == "fn":
+        return "ensures" in item.head
+    return item.kind in ("definition", "part", "row", "struct", "enum") and ("/proofs/" not in item.path or item.public)
+
+
+def cites(item, clause):
+    return clause.number in CITATION.findall(item.comment)
+
+
+def is_for_proofs_only(files, path):
+    return PROOFS_ONLY in " ".join(files.get(path, "").splitlines()[:3])
+
+
+def is_read(files, item):
+    """Whether a customer reads it: a public definition of a spec file, unless the file is for the proofs only."""
+    return item.public and "/specs/" in item.path and not is_for_proofs_only(files, item.path)
 
 
 # What is looked at
 
 
-def check_numbers(clauses):
-    for before, clause in zip(clauses, clauses[1:]):
+def check_sections(trace):
+    for section in trace.sections:
+        if not any("Renders " in line for line in section.lines[:4]):
+            yield f"{SPECIFICATION}: section {section.title} does not say what it renders"
+        for line in section.lines:
+            if line.startswith(("- ", "| ")) and not CLAUSE.match(line) and not line.startswith("| clause |"):
+                yield f"{SPECIFICATION}: section {section.title} has a line without a number: {line[:60]}"
+
+
+def check_numbers(trace):
+    for before, clause in zip(trace.clauses, trace.clauses[1:]):
         if order(clause.number) == order(before.number):
             yield f"{SPECIFICATION}: [{clause.number}] stands twice"
         elif order(clause.number) < order(before.number):
             yield f"{SPECIFICATION}: [{clause.number}] stands after [{before.number}]"
-    for clause in clauses:
-        if order(clause.number)[0] != order(clause.section.split(" ")[0] + "0")[0]:
-            yield f"{SPECIFICATION}: [{clause.number}] stands in the section {clause.section}"
+    for clause in trace.clauses:
+        if clause.number.split(".")[0] != clause.section.split(".")[0]:
+            yield f"{SPECIFICATION}: [{clause.number}] stands in section {clause.section}"
 
 
-def check_cited(clauses, items):
-    cited = {number for item in items for number in CITATION.findall(item.comment)}
-    for clause in clauses:
-        if not clause.note and clause.number not in cited:
+def check_cited(trace):
+    for clause in trace.clauses:
+        if not clause.note and not any(cites(item, clause) for item in trace.items if delivers(item)):
             yield f"{SPECIFICATION}: [{clause.number}] stands above no definition, statement or contract"
 
 
-def check_citations(files, clauses):
-    known = {clause.number for clause in clauses}
-    for path, text in files.items():
+def check_citations(trace):
+    known = {clause.number for clause in trace.clauses}
+    for path, text in trace.files.items():
         for number, line in enumerate(text.splitlines(), 1):
             for citation in CITATION.findall(line):
                 if citation not in known:
                     yield f"{path}:{number}: [{citation}] is no clause"
+            for citation in NO_CITATION.findall(line):
+                yield f"{path}:{number}: {citation} is no citation"
 
 
-def is_read(files, item):
-    """Whether a customer reads it: a public definition of a spec file, unless the file is for the proofs only."""
-    return item.public and "/specs/" in item.path and PROOFS_ONLY not in " ".join(files[item.path].splitlines()[:3])
-
-
-def check_definitions(files, items):
-    for item in items:
-        if is_read(files, item) and not CITATION.search(item.comment) and not item.comment.startswith("helper:"):
+def check_definitions(trace):
+    for item in trace.items:
+        if is_read(trace.files, item) and not CITATION.search(item.comment) and not item.comment.startswith("helper:"):
             yield f"{item.path}:{item.line}: {item.name} cites no clause and is not marked as a helper"
 
 
-def check_promises(files, items):
-    """No public function asks anything of its caller."""
-    for item in items:
-        if item.kind == "contract" and item.public:
-            contract = "\n".join(files[item.path].splitlines()[item.line - 1:]).split("\n{", 1)[0]
-            if re.search(r"^\s*requires\b", contract, re.MULTILINE):
-                yield f"{item.path}:{item.line}: {item.name} is public and has a requires"
+def imported_specs(text):
+    """The spec file that each name of a file of code comes from."""
+    found = re.findall(r"ghost use Rattle·(\w+)(?:·specs)?(?:\.specs)+\.(\w+)\.\{([^}]*)\}", text)
+    return {name.strip(" «»"): f"crates/{crate}/specs/{file}.antt" for crate, file, names in found for name in names.split(",")}
 
 
-def check_table(files, clauses, items):
-    if files.get(PROPERTIES, "") != with_table(files.get(PROPERTIES, ""), clauses, items):
+def check_contracts(trace):
+    """No public function asks anything of its caller, or speaks of what is for the proofs only."""
+    for item in trace.items:
+        if item.kind != "fn" or not item.public:
+            continue
+        if re.search(r"\brequires\b", item.head):
+            yield f"{item.path}:{item.line}: {item.name} is public and has a requires"
+        specs = imported_specs(trace.files[item.path])
+        for name in set(re.findall(r"[\w′]+", item.head)) & set(specs):
+            if is_for_proofs_only(trace.files, specs[name]):
+                yield f"{item.path}:{item.line}: {item.name} is public, and {name} of its contract is for the proofs only"
+
+
+def check_table(trace):
+    properties = trace.files.get(PROPERTIES, "")
+    if properties.count(BEGIN) != 1 or properties.count(END) != 1:
+        yield f"{PROPERTIES}: the marks around its table do not stand just once"
+    elif properties != with_table(properties, trace):
         yield f"{PROPERTIES}: the table is not the one that docs/traceability.py writes"
 
 
-def faults_of(files):
-    clauses, items = clauses_of(files[SPECIFICATION]), list(all_items(files))
-    return [
-        *check_numbers(clauses),
-        *check_cited(clauses, items),
-        *check_citations(files, clauses),
-        *check_definitions(files, items),
-        *check_promises(files, items),
-        *check_table(files, clauses, items),
-    ]
+CHECKS = (check_sections, check_numbers, check_cited, check_citations, check_definitions, check_contracts, check_table)
+
+
+def faults_of(trace):
+    return [fault for check in CHECKS for fault in check(trace)]
+
+
+def said_of(trace):
+    notes = [clause for clause in trace.clauses if clause.note]
+    definitions = [item for item in trace.items if is_read(trace.files, item)]
+    helpers = [item for item in definitions if not CITATION.search(item.comment)]
+    return (
+        f"{len(trace.clauses)} clauses, {len(notes)} of them notes; {len(definitions)} public definitions that a customer reads,"
+        f" {len(helpers)} of them helpers"
+    )
 
 
 # The table
 
 
 # what stands before the names of a kind
-KINDS = {"definition": "", "type": "", "part": "", "row": "rows of ", "contract": "contract of "}
+BEFORE = collections.defaultdict(str, fn="contract of ", row="rows of ")
 
 
-def names_in(path, items):
-    """The names of a file's items, each once, those of a kind together."""
+def names_in(items):
+    """Each name once, those of a kind together."""
     kinds = collections.defaultdict(list)
     for item in items:
-        names = kinds[KINDS[item.kind]]
-        if item.path == path and f"`{item.name}`" not in names:
-            names.append(f"`{item.name}`")
-    return ", ".join(kind + ", ".join(names) for kind, names in kinds.items() if names)
+        if f"`{item.name}`" not in kinds[BEFORE[item.kind]]:
+            kinds[BEFORE[item.kind]].append(f"`{item.name}`")
+    return ", ".join(before + ", ".join(names) for before, names in kinds.items() if names)
 
 
 def rows_of(clause, items):
-    """One row for each file that cites the clause directly above something."""
-    citing = [item for item in items if clause.number in CITATION.findall(item.comment)]
-    paths = list(dict.fromkeys(item.path for item in citing))
-    rows = [f"{names_in(path, citing)} | `{path}` |" for path in paths] or ["*(note)* | |"]
-    first = f"[{clause.number}] {clause.title} | `{fingerprint(clause)}`"
+    """A row for each file that delivers the clause."""
+    delivering = [item for item in items if delivers(item) and cites(item, clause)]
+    paths = dict.fromkeys(item.path for item in delivering)
+    rows = [f"{names_in(item for item in delivering if item.path == path)} | `{path}` |" for path in paths] or ["*(note)* | |"]
+    first = f"[{clause.number}] {clause.title} | `{fingerprint(clause.lines)}`"
     return [f"| {first} | {rows[0]}"] + [f"| | | {row}" for row in rows[1:]]
 
 
-def table_of(clauses, items):
-    """A table for each section that has more than notes."""
-    lines, section = [], ""
-    for clause in clauses:
-        if clause.section.endswith("(notes)"):
-            continue
-        if clause.section != section:
-            section = clause.section
-            lines += ["", f"### {section}", "", "| clause | text | definition, statement or contract | file |", "|---|---|---|---|"]
-        lines += rows_of(clause, items)
-    return "\n".join(lines).strip() + "\n"
+def table_of(trace):
+    lines = []
+    for section in trace.sections:
+        lines += [f"### {section.title}, `{fingerprint(section.lines)}`", ""]
+        clauses = [clause for clause in trace.clauses if clause.section == section.title]
+        if not all(clause.note for clause in clauses):
+            lines += ["| clause | text | definition, statement or contract | file |", "|---|---|---|---|"]
+            lines += [row for clause in clauses for row in rows_of(clause, trace.items)] + [""]
+    return "\n".join(lines)
 
 
-def with_table(properties, clauses, items):
-    before, begin, rest = properties.partition(BEGIN)
-    after = rest.partition(END)[2]
-    return f"{before}{BEGIN}\n\n{table_of(clauses, items)}\n{END}{after}" if begin else ""
-
-
-def said_of(files):
-    clauses, items = clauses_of(files[SPECIFICATION]), list(all_items(files))
-    definitions = [item for item in items if is_read(files, item)]
-    helpers = [item for item in definitions if not CITATION.search(item.comment)]
-    notes = [clause for clause in clauses if clause.note]
-    return (
-        f"{len(clauses)} clauses, {len(notes)} of them notes; {len(definitions)} public definitions that a customer reads,"
-        f" {len(helpers)} of them helpers"
-    )
+def with_table(properties, trace):
+    before, rest = properties.split(BEGIN)
+    return f"{before}{BEGIN}\n\n{table_of(trace)}\n{END}{rest.split(END)[1]}"
 
 
 def main(arguments):
-    files = read_repository()
-    if arguments == ["write"]:
-        clauses, items = clauses_of(files[SPECIFICATION]), list(all_items(files))
-        (pathlib.Path(__file__).parent / "PROPERTIES.md").write_text(with_table(files[PROPERTIES], clauses, items), encoding="utf8")
-        return 0
-    if arguments == ["check"]:
-        faults = faults_of(files)
-        print("\n".join(faults or [said_of(files)]))
-        return 1 if faults else 0
-    print(__doc__)
-    return 2
+    if arguments not in (["check"], ["write"]):
+        print(__doc__)
+        return 2
+    trace = trace_of(read_repository())
+    faults = faults_of(trace)
+    if arguments == ["write"] and not any("the marks" in fault for fault in faults):
+        (ROOT / PROPERTIES).write_text(with_table(trace.files[PROPERTIES], trace), encoding="utf8")
+        faults = faults_of(trace_of(read_repository()))
+    print("\n".join(faults or [said_of(trace)]))
+    return 1 if faults else 0
 
 
 if __name__ == "__main__":

@@ -3,44 +3,64 @@
 import sys
 
 import traceability
-from traceability import PROPERTIES, SPECIFICATION
+from traceability import BEGIN, END, PROPERTIES, SPECIFICATION
 
 ANSWERS = "crates/model/specs/Answers.antt"
 WHOLES = "crates/grammar/specs/Wholes.antt"
 STEP = "crates/fischer/src/lib.rt"
+PUTS = "crates/trace/specs/Puts.antt"
+NEW = "\n- [2.55] **New.**\n- [2.60] "
+STALE = "the table is not the one"
 
-# what is wrong; the file, what stands there and what is put in its place; what must be said of it
+# what is wrong; the edits, each a file, what stands there and what is put in its place; what must be said of it
 EDITS = [
-    ("a clause gets another number, its citations do not", SPECIFICATION, "- [8.80] ", "- [8.85] ", "[8.80] is no clause"),
-    ("a clause's text is edited, and nothing else", SPECIFICATION, "more than 2c + 5a past", "more than 2c + 4a past", "the table is not the one"),
-    ("a clause comes without a citation", SPECIFICATION, "\n- [2.60] ", "\n- [2.55] **New.**\n- [2.60] ", "[2.55] stands above no"),
-    ("a clause's only citation goes", WHOLES, "-- [7.80]", "--", "[7.80] stands above no"),
-    ("a citation does not stand directly above", WHOLES, "\nabbrev pub EmptyCase", "\n\nabbrev pub EmptyCase", "[7.80] stands above no"),
-    ("a citation is of no clause", ANSWERS, "-- [4.4]\n", "-- [4.44]\n", "[4.44] is no clause"),
-    ("a document cites no clause", "README.md", "[7.60]", "[7.61]", "README.md:"),
-    ("two clauses have one number", SPECIFICATION, "\n- [2.30] ", "\n- [2.20] ", "[2.20] stands twice"),
-    ("a clause's number falls", SPECIFICATION, "\n- [2.30] ", "\n- [2.15] ", "[2.15] stands after [2.20]"),
-    ("a clause stands in another section", SPECIFICATION, "\n- [2.130] ", "\n- [3.130] ", "[3.130] stands in the section 2."),
-    ("a definition neither cites nor is a helper", ANSWERS, "-- [4.4]\n", "-- back in time\n", "backward cites no clause"),
-    ("the table of PROPERTIES lacks a row", PROPERTIES, "### 3. Actions\n", "\n", "the table is not the one"),
-    ("a public function asks for something", STEP, "\n    ensures { λ r. ⌜ r ≡ freshOf", "\n    requires { ⌜ 1 ≤ n ⌝ }\n    ensures { λ r. ⌜ r ≡ freshOf", "fresh is public"),
+    # clauses
+    ("a clause gets another number, its citations do not", [(SPECIFICATION, "- [8.80] ", "- [8.81] ")], "[8.80] is no clause"),
+    ("a clause's text is edited, and nothing else", [(SPECIFICATION, "more than 2c + 5a past", "more than 2c + 4a past")], STALE),
+    ("a step of the whole case is moved to another line", [(SPECIFICATION, "  3,1,test\n", "  3,1,test ")], STALE),
+    ("the columns of a table are exchanged", [(SPECIFICATION, "| process | time |", "| time | process |")], STALE),
+    ("a note is edited", [(SPECIFICATION, "number of microseconds", "number of milliseconds")], STALE),
+    ("two clauses have one number", [(SPECIFICATION, "\n- [2.30] ", "\n- [2.20] ")], "[2.20] stands twice"),
+    ("a clause's number falls", [(SPECIFICATION, "\n- [2.30] ", "\n- [2.15] ")], "[2.15] stands after [2.20]"),
+    ("a clause stands in another section", [(SPECIFICATION, "\n- [2.130] ", "\n- [3.130] ")], "[3.130] stands in section 2."),
+    ("a clause has no number", [(SPECIFICATION, "\n- [2.60] ", "\n- **New.**\n- [2.60] ")], "has a line without a number"),
+    ("a section does not say what it renders", [(SPECIFICATION, "Renders *The running", "As *The running")], "section 5. Summary does not say"),
+    # citations
+    ("a clause comes without a citation", [(SPECIFICATION, "\n- [2.60] ", NEW)], "[2.55] stands above no"),
+    ("it is cited inside a function only", [(SPECIFICATION, "\n- [2.60] ", NEW), (STEP, "    let slot = slot_of", "    // [2.55]\n    let slot = slot_of")], "[2.55] stands above no"),
+    ("it is cited above a constant only", [(SPECIFICATION, "\n- [2.60] ", NEW), ("crates/trace/src/words.rt", "// [3.40]", "// [2.55]")], "[2.55] stands above no"),
+    ("a clause's only citation goes", [(WHOLES, "-- [7.80]", "--")], "[7.80] stands above no"),
+    ("a citation does not stand directly above", [(WHOLES, "\nabbrev pub EmptyCase", "\n\nabbrev pub EmptyCase")], "[7.80] stands above no"),
+    ("a citation is of no clause", [(ANSWERS, "-- [4.4]\n", "-- [4.44]\n")], "[4.44] is no clause"),
+    ("a document cites no clause", [("README.md", "[7.60]", "[7.61]")], "README.md:"),
+    ("two clauses in one citation", [(ANSWERS, "-- [4.4]\n", "-- [4.4, 4.5]\n")], "is no citation"),
+    # definitions and contracts
+    ("a definition neither cites nor is a helper", [(ANSWERS, "-- [4.4]\n", "-- back in time\n")], "backward cites no clause"),
+    ("so does an indented one", [(ANSWERS, "-- [4.4]\n", "  abbrev pub inner : ℕ\n-- [4.4]\n")], "inner cites no clause"),
+    ("a public contract rests on what is for the proofs only", [(PUTS, "Assumes nothing.", "For the proofs only.")], "Put of its contract is for the proofs only"),
+    ("a public function asks for something", [(STEP, "    ensures { λ r. ⌜ r ≡ freshOf", "    requires { ⌜ 1 ≤ n ⌝ }\n    ensures { λ r. ⌜ r ≡ freshOf")], "fresh is public and has a requires"),
+    ("it does so on the line of its signature", [(STEP, "c: u64) -> Outcome\n", "c: u64) -> Outcome requires { ⌜ 1 ≤ n ⌝ }\n")], "fresh is public and has a requires"),
+    # PROPERTIES
+    ("its table lacks a heading", [(PROPERTIES, "### 3. Actions", "")], STALE),
+    ("its marks are gone", [(PROPERTIES, BEGIN, ""), (PROPERTIES, END, "")], "the marks around its table"),
 ]
 
 
-def refused(files, path, old, new, reason):
-    if files[path].count(old) != 1:
-        return f"{path} has {files[path].count(old)} times {old!r}"
-    faults = traceability.faults_of({**files, path: files[path].replace(old, new)})
-    return None if any(reason in fault for fault in faults) else f"nothing says {reason!r}"
+def edited(files, edits):
+    files = dict(files)
+    for path, old, new in edits:
+        assert files[path].count(old) == 1, f"{path} has {files[path].count(old)} times {old!r}"
+        files[path] = files[path].replace(old, new)
+    return files
 
 
 def main():
     files = traceability.read_repository()
     wrong = 0
-    for what, *edit in EDITS:
-        said = refused(files, *edit)
-        if said:
-            print(f"{what}: {said}")
+    for what, edits, reason in EDITS:
+        faults = traceability.faults_of(traceability.trace_of(edited(files, edits)))
+        if not any(reason in fault for fault in faults):
+            print(f"{what}: nothing says {reason!r}")
             wrong += 1
     print(f"{len(EDITS)} edits, {wrong} not refused")
     return 1 if wrong else 0

@@ -77,7 +77,7 @@ pub struct Table {
     pub places: [Place; WINDOWS],
 }
 
-/// [2.60] [4.100] Refused or not, all but the values is the same.
+/// [2.65] [4.100] Refused or not, all but the values is the same.
 pub fn fresh(values: Values) -> (Answer, Table) {
     let (number, values) = match values.refusal() {
         Some(number) => (number, Values::default()),
@@ -207,7 +207,7 @@ pub fn accepted(mut table: Table, act: u64, window: u64, moment: u64) -> (Answer
     (answer(ACCEPTED, table.seller(), table.clock), table)
 }
 
-/// [3.60] Where the act leads.
+/// Where the act leads, by [3.1] to [3.8] and [3.60].
 fn destination(table: &Table, act: u64, window: u64, moment: u64) -> Place {
     match act {
         TRY => Testing(moment),

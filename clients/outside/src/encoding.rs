@@ -15,7 +15,7 @@ pub fn table_in(numbers: &[u64]) -> Option<Table> {
     Some(Table { values: Values { n, a, b, c }, clock, word, places })
 }
 
-/// Beside remainder and selling, which have no arrival, stands 0 [9.10].
+/// Beside remainder and selling, which have no arrival, 0 has to stand [9.20].
 fn place_in(number: u64, arrival: u64) -> Option<Place> {
     let place = match number {
         0 => Place::Remainder,

@@ -66,7 +66,7 @@ impl Answer {
 }
 
 impl Refusal {
-    /// The number of the answer, 8 where [4.8] is the clause.
+    /// The number of the answer, which its clause has after the point.
     pub fn number(&self) -> u64 {
         match self {
             Refusal::NoTable => 1,

@@ -13,7 +13,7 @@ use Rattle.model.specs.Encodings.{stateIn}
 
 -- The call: 0 and n, a, b, c for a fresh state; 1 and an action, a process and a time for a step from the state s
 
--- helper: what a row's call gives back
+-- [20.120] what a row's call gives back
 unfoldable pub outcomeOf : State → List ℕ → Outcome
 outcomeOf s row =
     cond (eqb (getD row 0 0) 0) (freshOf (getD row 1 0) (getD row 2 0) (getD row 3 0) (getD row 4 0))
@@ -29,13 +29,12 @@ outcomeIn xs = record { answer = answerOf (getD xs 0 0) (getD xs 1 0) (getD xs 2
 unfoldable pub toldBy : List ℕ → List ℕ
 toldBy row = drop 5 row ++ replicate 188 0
 
--- helper: the outcome that a row tells
+-- [20.120] the outcome that a row tells
 abbrev pub expectedOf : List ℕ → Outcome
 expectedOf row = outcomeIn (toldBy row)
 
--- Each row's call, at the state that the row before it gave back, has the whole outcome that the row tells.
-
--- helper: of the rows of a table, the first at the state s
+-- [20.120] Each row's call, at the state that the row before it gave back, has the whole outcome that the row tells; the first at
+-- the state s.
 unfoldable pub Hold : State → List (List ℕ) → Type 0
 Hold s [] = Unit
 Hold s (row ∷ rows) = (outcomeOf s row ≡ expectedOf row) × Hold (outcomeOf s row .state) rows

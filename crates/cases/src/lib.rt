@@ -92,7 +92,7 @@ const CASES: [Row; 57] = [
     [1, 0, 0, 19, 0, 4, 0, 20, 2, 5, 8, 12, 20, 2, 1, 20, 5, 0],
 ];
 
-// The table of cases. Each row's call gives back what the row tells; the state before the first row, a fresh one, is of no account.
+// [20.120] The table of cases. Each row's call gives back what the row tells; the state before the first row, a fresh one, is of no account.
 pub fn table() -> [Row; 57]
     ensures { λ r. ⌜ Hold blank r ⌝ }
 {

@@ -91,7 +91,7 @@ fn slot_of(process: u64) -> usize
     (process - 1) as usize
 }
 
-// [3.45] [4.80] [21.40] [21.50] [21.110] One action of a process at a time. A single pass over the entries serves soundness, the
+// [3.45] [4.80] [4.83] [21.40] [21.50] [21.110] One action of a process at a time. A single pass over the entries serves soundness, the
 // first deadline and the critical process; it stands here, as each hand-over of a state copies 1,584 bytes.
 pub fn step(mut state: State, action: u64, process: u64, time: u64) -> Outcome
     ensures { λ r. ⌜ r ≡ stepOf state action process time ⌝ }

@@ -107,12 +107,12 @@ unfoldable pub lentResults : List ℕ → List LentCall → List LentBoth
 lentResults table [] = []
 lentResults table (d ∷ ds) = lentCall table d ∷ lentResults (lentCall table d .table) ds
 
--- helper: the numbers that the last one leaves
+-- [9.140] the numbers that the last one leaves
 unfoldable pub lentRun : List ℕ → List LentCall → List ℕ
 lentRun table [] = table
 lentRun table (d ∷ ds) = lentRun (lentCall table d .table) ds
 
--- helper: a list that is too short is a summary that is not sound
+-- [9.35] a list that is too short is a summary that is not sound
 abbrev pub noSummary : Statistics
 noSummary = statisticsOf (countsOf (mostActs + 1) 0 0 0 0) []
 
@@ -171,7 +171,7 @@ unfoldable pub lentRecords : LentBoth → List Event → List LentBoth
 lentRecords r [] = []
 lentRecords r (e ∷ es) = lentNext r e ∷ lentRecords (lentNext r e) es
 
--- helper: a fresh table and a new summary
+-- [9.150] a fresh table and a new summary
 abbrev pub lentStart : ℕ → ℕ → ℕ → ℕ → List ℕ → List ℕ → LentBoth
 lentStart n a b c table summary =
     recordGave (lentFresh n a b c table .answer) (lentFresh n a b c table .table) (lentSummary summary .summary)

@@ -28,7 +28,7 @@ lentGave r table = record { answer = r; table = table }
 abbrev pub outcomeLent : Outcome → List ℕ → Lent
 outcomeLent o table = lentGave (o .answer) (over (stateNumbers (o .state)) table)
 
--- [9.50] `funnelfawn_fresh`: 11, 12, and then 16, as the table is only an output
+-- [9.50] [4.16] `funnelfawn_fresh`: 11, 12, and then 16, as the table is only an output
 unfoldable pub lentFresh : ℕ → ℕ → ℕ → ℕ → List ℕ → Lent
 lentFresh n a b c table =
     cond (not (eqb (freshOf n a b c .answer .code) 0)) (lentGave (freshOf n a b c .answer) table)
@@ -52,7 +52,7 @@ pub record LentSummary : Type 0 where
 abbrev pub summaryGave : Answer → List ℕ → LentSummary
 summaryGave r summary = record { answer = r; summary = summary }
 
--- [9.70] `funnelfawn_new_summary`: 16 where the numbers are too few
+-- [9.70] [4.16] `funnelfawn_new_summary`: 16 where the numbers are too few
 unfoldable pub lentSummary : List ℕ → LentSummary
 lentSummary summary =
     cond (ltb (length summary) summaryLength) (summaryGave (answerOf 16 0 0) summary)
@@ -75,7 +75,7 @@ abbrev pub recordedLent : Recorded → List ℕ → List ℕ → LentBoth
 recordedLent r table summary =
     recordGave (r .outcome .answer) (over (stateNumbers (r .outcome .state)) table) (over (statisticsNumbers (r .statistics)) summary)
 
--- [9.30] [9.80] `funnelfawn_record`: 1 as above, and 2 where the summary's numbers are too few; the rest is the recorded step's
+-- [9.35] [9.80] `funnelfawn_record`: 1 as above, and 2 where the summary's numbers are too few; the rest is the recorded step's
 unfoldable pub lentRecord : List ℕ → List ℕ → ℕ → ℕ → ℕ → LentBoth
 lentRecord table summary act p m =
     cond (not (isSoundTable table)) (recordGave (answerOf 1 0 0) table summary)

@@ -18,7 +18,7 @@ pub record Formed (n a b c : ℕ) (events : List Event) : Type 0 where
   pub forms : formlessOf events ≡ 0
   pub short : length (traceText n a b c events) ≤ textLimit
 
--- [6.190] of a text that is read
+-- [6.190] [6.125] of a text that is read
 abbrev pub ReadExactly : Type 0
 ReadExactly =
     (text : List ℕ) (n a b c : ℕ) (events : List Event)

@@ -23,7 +23,7 @@ wholeOutput =
 abbrev pub WholeCase : Type 0
 WholeCase = reportText wholeInput ≡ wholeOutput
 
--- [7.70] of the whole case's three first lines
+-- [7.70]
 abbrev pub NamesCase : Type 0
 NamesCase = reportText (bytes "windows,a,b,c\n2,5,8,12\ntime,window,act\n") ≡ bytes "line,answer,window,moment\n"
 

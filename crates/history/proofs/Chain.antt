@@ -67,13 +67,13 @@ pub record Records (s : State) (x : Statistics) (a p t : ℕ) (r : Recorded) : T
 
 -- Chains
 
--- [8.130] a result of one call
+-- [8.135] a result of one call
 pub data Made (s : State) (d : Call) (r : Recorded) : Type 0 where
   by-step : d .recorded ≡ false → Steps s (d .action) (d .process) (d .time) (r .outcome) → r .statistics ≡ d .lent → Made s d r
   by-value : d .recorded ≡ true → RecordsByValue s (d .lent) (d .action) (d .process) (d .time) r → Made s d r
   by-record : d .recorded ≡ true → Records s (d .lent) (d .action) (d .process) (d .time) r → Made s d r
 
--- [8.40] [8.130] each result on the table of the one before it
+-- [8.40] [8.135] each result on the table of the one before it
 pub data Chain : State → List Call → List Recorded → Type 0 where
   ended : {s : State} → Chain s [] []
   made : {s : State} {d : Call} {ds : List Call} {r : Recorded} {rs : List Recorded} → Made s d r → Chain (r .outcome .state) ds rs
@@ -104,7 +104,7 @@ unfolding runOf
 chain-last ended = refl
 chain-last (made {ds = ds} m ch) = chain-last ch ∙ ap (λ (q : Recorded). runOf (q .outcome .state) ds) (call-made m)
 
--- [8.130] whoever makes the calls
+-- [8.130] [8.135] whoever makes the calls
 pub every-chain : (n a b c : ℕ) {o : Outcome} {ds : List Call} {rs : List Recorded} → Starts n a b c o → Accepted o → Chain (o .state) ds rs
     → Demand3 (freshOf n a b c .state) ds rs (lastTable (o .state) rs)
 every-chain n a b c {o} {ds} {rs} h accepted ch =
@@ -170,7 +170,7 @@ recorded-log log ended = refl
 recorded-log log (made {r = r} {e = e} {es = es} m ch) =
     recorded-log _ ch ∙ ap (λ (q : Recorded). logFrom (attemptOf e q ∷ log) q es) (next-made r e m)
 
--- [5.120] [5.130] whoever makes the calls
+-- [5.120] [5.125] [5.130] whoever makes the calls
 pub every-recorded-chain : (n a b c : ℕ) {o : Outcome} {es : List Event} {rs : List Recorded} → Starts n a b c o → Accepted o
     → RecordedChain (beside newStatistics o) es rs → Tallied (logOver [] es rs) (lastResult (beside newStatistics o) rs)
 every-recorded-chain n a b c {o} {es} {rs} h accepted ch =

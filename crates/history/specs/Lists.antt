@@ -24,7 +24,7 @@ use Rattle.theory.specs.Demand3.{Demand3}
 abbrev pub Tuple : Type 0
 Tuple = List ℕ
 
--- [8.150] a summary is a row of counts, and one of try moments
+-- [8.152] a summary is a row of counts, and one of try moments
 abbrev pub summaryOf : Tuple → Tuple → Statistics
 summaryOf row tries = statisticsOf (countsIn row) tries
 
@@ -40,7 +40,7 @@ callIn row x = record {
 
 -- What is lent to `run` and comes back
 
--- [8.150] the lists of rows that `run` may change
+-- [8.152] [8.154] the lists of rows that `run` may change
 pub record Rows : Type 0 where
   pub counts : List Tuple
   pub tries : List Tuple
@@ -50,30 +50,30 @@ pub record Rows : Type 0 where
 abbrev pub rows : List Tuple → List Tuple → List Tuple → Rows
 rows counts tries answers = record { counts = counts; tries = tries; answers = answers }
 
--- [8.150] as many calls as the shortest list has rows
+-- [8.156] as many calls as the shortest of the first three lists has rows
 unfoldable pub callsIn : List Tuple → List Tuple → List Tuple → List Call
 callsIn [] cs ts = []
 callsIn (r ∷ rs) [] ts = []
 callsIn (r ∷ rs) (c ∷ cs) [] = []
 callsIn (r ∷ rs) (c ∷ cs) (t ∷ ts) = callIn r (summaryOf c t) ∷ callsIn rs cs ts
 
--- [8.150] the list of answers may be the shortest too
+-- [8.156] the list of answers may be the shortest too
 abbrev pub callsOf : List Tuple → Rows → List Call
 callsOf calls l = take (length (l .answers)) (callsIn calls (l .counts) (l .tries))
 
--- helper: the counts of a call's summary after it
+-- [8.152] the counts of a call's summary after it
 abbrev pub countsRow : Recorded → Tuple
 countsRow r = countsNumbers (r .statistics .counts)
 
--- helper: the try moments of a call's summary after it
+-- [8.152] the try moments of a call's summary after it
 abbrev pub triesRow : Recorded → Tuple
 triesRow r = r .statistics .tries
 
--- helper: the answer to a call
+-- [8.154] the answer to a call
 abbrev pub answerRow : Recorded → Tuple
 answerRow r = r .outcome .answer .code ∷ r .outcome .answer .process ∷ r .outcome .answer .time ∷ []
 
--- [8.150] each result in the rows of its call
+-- [8.152] [8.154] [8.156] each result in the rows of its call
 abbrev pub overwritten : List Recorded → Rows → Rows
 overwritten rs l =
     rows (over (map countsRow rs) (l .counts)) (over (map triesRow rs) (l .tries)) (over (map answerRow rs) (l .answers))
@@ -89,28 +89,28 @@ pub record Run : Type 0 where
 abbrev pub runGave : Outcome → Rows → Run
 runGave o l = record { outcome = o; kept = l }
 
--- helper: the outcome o with the table s instead
+-- [8.158] the outcome o with the table s instead
 abbrev pub ending : Outcome → State → Outcome
 ending o s = record { answer = o .answer; state = s }
 
--- helper: o is the outcome of the fresh table, be it accepted or not
+-- [8.158] o is the outcome of the fresh table, be it accepted or not
 abbrev pub ranFrom : Outcome → List Call → Rows → Run
 ranFrom o ds l = runGave (ending o (runOf (o .state) ds)) (overwritten (resultsOf (o .state) ds) l)
 
--- [8.150] as a whole
+-- [8.150] [8.158] as a whole
 unfoldable pub ranOf : ℕ → ℕ → ℕ → ℕ → List Tuple → Rows → Run
 ranOf n a b c calls l = ranFrom (freshOf n a b c) (callsOf calls l) l
 
 -- Demand 3, of what `run` is lent and gives back: from the table s, with the calls ds, the rows l became l′, and the last table is t
 
--- [8.130] for `run`
+-- [8.135] for `run`
 pub record Ran (s : State) (ds : List Call) (l l′ : Rows) (t : State) : Type 0 where
   -- what each call gave back: its answer and its summary stand in its row
   pub results : List Recorded
   pub written : l′ ≡ overwritten results l
   pub demand3 : Demand3 s ds results t
 
--- [8.10] [8.130] of whatever numbers and rows `run` is lent: a fresh table that was refused starts no list
+-- [8.10] [8.135] of whatever numbers and rows `run` is lent: a fresh table that was refused starts no list
 abbrev pub MeetsDemand3 : ℕ → ℕ → ℕ → ℕ → List Tuple → Rows → Rows → State → Type 0
 MeetsDemand3 n a b c calls l l′ t =
     Accepted (freshOf n a b c) → Ran (freshOf n a b c .state) (callsOf calls l) l l′ t

@@ -28,7 +28,7 @@ logOnto log [] rs = log
 logOnto log (e ∷ es) [] = log
 logOnto log (e ∷ es) (r ∷ rs) = logOnto (attemptIn e r ∷ log) es rs
 
--- [5.120] the log of acts and of the answers to them, the last one first
+-- [5.120] [5.125] the log of acts and of the answers to them, the last one first
 abbrev pub logOf : List Tuple → List Tuple → List Attempt
 logOf acts answers = logOnto [] acts answers
 
@@ -43,15 +43,15 @@ pub record RecordedRun : Type 0 where
 abbrev pub recordedRunGave : Recorded → List Tuple → RecordedRun
 recordedRunGave r answers = record { recorded = r; answers = answers }
 
--- helper: the answer of the first, the table and the summary of the second
+-- [8.164] the answer of the first, the table and the summary of the second
 abbrev pub started : Recorded → Recorded → Recorded
 started r t = record { outcome = ending (r .outcome) (t .outcome .state); statistics = t .statistics }
 
--- helper: r is the fresh table beside the new summary
+-- [8.160] [8.164] r is the fresh table beside the new summary
 abbrev pub recordedRunFrom : Recorded → List Event → List Tuple → RecordedRun
 recordedRunFrom r es answers = recordedRunGave (started r (recordAll r es)) (over (map answerRow (recordsOf r es)) answers)
 
--- [8.160] as a whole
+-- [8.160] [8.164] as a whole
 unfoldable pub recordedRunOf : ℕ → ℕ → ℕ → ℕ → List Tuple → List Tuple → RecordedRun
 recordedRunOf n a b c acts answers = recordedRunFrom (startOf n a b c) (eventsOf acts answers) answers
 

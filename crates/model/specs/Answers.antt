@@ -71,7 +71,7 @@ criticalOf s = criticalFrom 1 (s .processes)
 abbrev pub accepts : State → Outcome
 accepts s = answers 0 (criticalOf s) (s .clock) s
 
--- [3.45] [4.80] [4.110] [4.1] one condition a line; a refusal gives the state back
+-- [3.45] [4.80] [4.83] [4.110] [4.1] one condition a line; a refusal gives the state back
 unfoldable pub stepOf : State → ℕ → ℕ → ℕ → Outcome
 stepOf s act p m =
     cond (not (soundOf s)) (answers 1 0 0 s)

@@ -18,7 +18,7 @@ pub record Call : Type 0 where
   pub time : ℕ
   pub lent : Statistics
 
--- [8.50] what a call gives back at a state: the outcome, and the summary
+-- [8.55] what a call gives back at a state: the outcome, and the summary
 unfoldable pub callOf : State → Call → Recorded
 callOf s d =
     cond (d .recorded) (recordedOf s (d .lent) (d .action) (d .process) (d .time))
@@ -28,7 +28,7 @@ callOf s d =
 abbrev pub outcomeOf : State → Call → Outcome
 outcomeOf s d = callOf s d .outcome
 
--- helper: the state after it
+-- [8.55] the state after it
 abbrev pub tableOf : State → Call → State
 tableOf s d = outcomeOf s d .state
 
@@ -37,7 +37,7 @@ unfoldable pub runOf : State → List Call → State
 runOf s [] = s
 runOf s (d ∷ ds) = runOf (tableOf s d) ds
 
--- [8.50] what each call of a list gives back, judged in the plain state
+-- [8.55] what each call of a list gives back, judged in the plain state
 unfoldable pub resultsOf : State → List Call → List Recorded
 resultsOf s [] = []
 resultsOf s (d ∷ ds) = callOf s d ∷ resultsOf (tableOf s d) ds

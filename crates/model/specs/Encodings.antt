@@ -35,7 +35,7 @@ clockPlace = 4
 abbrev pub wordPlace : ℕ
 wordPlace = clockPlace + 1
 
--- [9.10] of the entries
+-- [9.10] the numbers of the entries
 unfoldable pub processNumbers : List Process → List ℕ
 processNumbers [] = []
 processNumbers (q ∷ qs) = stageOf (q .location) ∷ sinceOf (q .location) ∷ processNumbers qs
@@ -46,7 +46,7 @@ stateNumbers s = s .n ∷ s .a ∷ s .b ∷ s .c ∷ s .clock ∷ s .word ∷ pr
 
 -- The state that numbers tell
 
--- [9.10] the entries
+-- [9.10] the entries that numbers tell
 unfoldable pub processesIn : List ℕ → List Process
 processesIn [] = []
 processesIn (stage ∷ []) = []

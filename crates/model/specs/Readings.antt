@@ -24,7 +24,7 @@ startsWith [] s = true
 startsWith (x ∷ w) [] = false
 startsWith (x ∷ w) (y ∷ s) = eqb y x && startsWith w s
 
--- [6.60] a number below `bound` whose first k digits made v, up to the byte `end`
+-- [6.60] [6.65] [6.15] a number below `bound` whose first k digits made v, up to the byte `end`, without which it fails
 unfoldable pub numberFrom : ℕ → ℕ → ℕ → ℕ → List ℕ → Field
 numberFrom bound end v k [] = Bad
 numberFrom bound end v k (x ∷ s) =
@@ -34,11 +34,11 @@ numberFrom bound end v k (x ∷ s) =
     (cond (leb bound (v * 10 + (x - 48))) Bad
     (numberFrom bound end (v * 10 + (x - 48)) (k + 1) s))))
 
--- [6.60] the number at the start of a text
+-- [6.60] [6.65] the number at the start of a text
 abbrev pub numberAt : ℕ → ℕ → List ℕ → Field
 numberAt bound end s = numberFrom bound end 0 0 s
 
--- [6.70] the first of these words, numbered from `action` on, that fills the line
+-- [6.70] [6.15] the first of these words, numbered from `action` on, that fills the line with its end
 unfoldable pub wordFrom : ℕ → List (List ℕ) → List ℕ → Field
 wordFrom action [] s = Bad
 wordFrom action (w ∷ ws) s = cond (startsWith (w ++ (newline ∷ [])) s) (Value action (length w + 1)) (wordFrom (action + 1) ws s)
@@ -54,7 +54,7 @@ abbrev pub opened : {A : Type 0} → Field → A → (ℕ → ℕ → A) → A
 opened Bad refusal next = refusal
 opened (Value v k) refusal next = next v k
 
--- [6.50] [6.80] [4.14] the step at the start of a text, or the refusal of that line
+-- [6.50] [6.80] [6.125] [4.14] the step at the start of a text, or the refusal of that line
 unfoldable pub eventAt : ℕ → List ℕ → Row
 eventAt line s =
     opened (numberAt timeBound comma s) (Unread 14 line) (λ time i.
@@ -73,7 +73,8 @@ valuesAt s =
 
 -- Whole texts
 
--- [6.90] [6.110] [6.120] line 2 as it was read, 11 and 12, and then line 3, which stands after the k bytes of line 2
+-- [6.90] [6.100] [6.110] [6.120] [6.15] [6.40] [4.11] [4.12] [4.13] line 2 as it was read, 11 and 12, and then line 3, which stands
+-- after the k bytes of line 2
 abbrev pub afterValues : List ℕ → Head → Head
 afterValues text (Refused code line) = Refused 14 2
 afterValues text (Values n a b c k) =
@@ -82,7 +83,7 @@ afterValues text (Values n a b c k) =
     (cond (not (startsWith eventNames (drop (length valueNames + k) text))) (Refused 13 3)
     (Values n a b c (length valueNames + k + length eventNames))))
 
--- [6.90] [6.100] [4.13] [4.15] n, a, b, c and how many bytes the first three lines take, or the first refusal
+-- [6.90] [6.100] [6.15] [6.20] [4.13] [4.15] n, a, b, c and how many bytes the first three lines take, or the first refusal
 unfoldable pub headOf : List ℕ → Head
 headOf text =
     cond (ltb textLimit (length text)) (Refused 15 0)
@@ -98,7 +99,7 @@ pub record Body : Type 0 where
 abbrev pub before : Event → Body → Body
 before e b = record { events = e ∷ b .events; fault = b .fault }
 
--- [6.50] at most k lines, of which the first has the number `line`
+-- [6.50] [6.55] at most k lines, of which the first has the number `line`
 unfoldable pub bodyIn : ℕ → ℕ → List ℕ → Body
 bodyIn zero line [] = record { events = []; fault = 0 }
 bodyIn zero line (x ∷ s) = record { events = []; fault = line }
@@ -109,16 +110,16 @@ bodyIn (suc k) line (x ∷ s) =
       | Unread code at ↦ record { events = []; fault = line }
     ]
 
--- [6.50] all lines: each has at least one byte
+-- [6.50] [6.55] all lines: each has at least one byte
 unfoldable pub bodyOf : ℕ → List ℕ → Body
 bodyOf line s = bodyIn (length s) line s
 
--- [6.190] what a text says: a trace, or a refusal's code and line
+-- [6.190] [6.195] what a text says: a trace, or a refusal's code and line
 pub data Trace : Type 0 where
   refused : ℕ → ℕ → Trace
   trace : ℕ → ℕ → ℕ → ℕ → List Event → Trace
 
--- helper: what the steps make of n, a, b, c
+-- [6.90] [4.14] n, a, b, c with the steps, or the refusal of a line
 abbrev pub ofBody : ℕ → ℕ → ℕ → ℕ → Body → Trace
 ofBody n a b c body = cond (eqb (body .fault) 0) (trace n a b c (body .events)) (refused 14 (body .fault))
 
@@ -143,11 +144,11 @@ pub record Lists : Type 0 where
 abbrev pub lists : List ℕ → List ℕ → List ℕ → Lists
 lists times processes actions = record { times = times; processes = processes; actions = actions }
 
--- [6.130] as many steps as the shortest holds
+-- [6.133] as many steps as the shortest holds
 abbrev pub room : Lists → ℕ
 room l = min (length (l .times)) (min (length (l .processes)) (length (l .actions)))
 
--- [6.130] [6.150] values from the first place on; what stands after them stays
+-- [6.136] [6.156] values from the first place on; what stands after them stays
 abbrev pub over : {A : Type 0} → List A → List A → List A
 over values list = values ++ drop (length values) list
 
@@ -187,7 +188,7 @@ readingOf code time n a b c = record { answer = answerOf code 0 time; n = n; a =
 abbrev pub unread : ℕ → ℕ → Lists → Read
 unread code line l = readGave (readingOf code line 0 0 0 0) l
 
--- [6.90] [6.130] [4.16] [4.70] 16 after all others; then the steps, and how many there are
+-- [6.90] [6.130] [6.133] [4.16] [4.70] 16 after all others; then the steps, and how many there are
 abbrev pub into : Lists → Trace → Read
 into l (refused code line) = unread code line l
 into l (trace n a b c events) =

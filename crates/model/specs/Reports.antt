@@ -18,14 +18,14 @@ answerNames = bytes "line,answer,window,moment\n"
 abbrev pub answerText : ℕ → Answer → List ℕ
 answerText line r = valuesText line (r .code) (r .process) (r .time)
 
--- [7.40] the lines for the steps from a state on
+-- [7.40] [7.45] the lines for the steps from a state on
 unfoldable pub runText : ℕ → State → List Event → List ℕ
 runText line s [] = []
 runText line s (e ∷ es) =
     answerText line (stepOf s (e .action) (e .process) (e .time) .answer)
     ++ runText (line + 1) (stepOf s (e .action) (e .process) (e .time) .state) es
 
--- [7.30] the line that is printed for a refusal
+-- [7.35]
 abbrev pub faultLine : ℕ → ℕ → ℕ
 faultLine code line = cond (eqb code 11 || eqb code 12) 2 line
 
@@ -38,6 +38,6 @@ reportLines (trace n a b c events) = runText 4 (freshOf n a b c .state) events
 unfoldable pub reportText : List ℕ → List ℕ
 reportText text = answerNames ++ reportLines (traceOf text)
 
--- [7.50]
+-- [7.50] [4.70]
 abbrev pub reportOf : List ℕ → List ℕ → Written
 reportOf text out = fitted (reportText text) out

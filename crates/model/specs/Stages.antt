@@ -1,5 +1,5 @@
--- The stages of a process, a number for each location: from the remainder to the critical stage and back. They stand here and
--- nowhere else. Assumes nothing.
+-- The stages of a process, a number for each location: from the remainder to the critical stage and back. No other definition has
+-- such a number. Assumes nothing.
 use Prim.Native.Nat.{ℕ}
 
 -- [2.70]

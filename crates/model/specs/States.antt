@@ -37,7 +37,7 @@ wordStands n w = leb w n
 abbrev pub idle : Process
 idle = record { location = Remainder }
 
--- [2.60] of a fresh state, with any numbers for n, a, b, c
+-- [2.60] a fresh state, with any numbers for n, a, b, c
 abbrev pub initial : ℕ → ℕ → ℕ → ℕ → State
 initial n a b c = record { n = n; a = a; b = b; c = c; clock = 0; word = 0; processes = replicate 96 idle }
 
@@ -65,7 +65,7 @@ timed Critical = false
 timed (Resetting t) = true
 timed (Leaving t) = true
 
--- [2.80] 0 where there is none
+-- [2.80] the arrival; 0 where there is none
 abbrev pub sinceOf : Location → ℕ
 sinceOf Remainder = 0
 sinceOf (Testing t) = t
@@ -78,7 +78,7 @@ sinceOf (Leaving t) = t
 
 -- Times: process i has the entry q
 
--- helper: the bound a of process i
+-- [2.90] the bound a of process i
 unfoldable pub limitOf : State → ℕ → ℕ
 limitOf s i = s .a
 
@@ -86,7 +86,7 @@ limitOf s i = s .a
 abbrev pub bounded : State → Process → Bool
 bounded s q = timed (q .location)
 
--- [2.90] for an entry that has one
+-- [2.90] [2.95] the deadline of an entry that has one
 abbrev pub deadline : State → ℕ → Process → ℕ
 deadline s i q = sinceOf (q .location) + cond (eqb (stageOf (q .location)) checking) (s .c) (limitOf s i)
 
@@ -94,7 +94,7 @@ deadline s i q = sinceOf (q .location) + cond (eqb (stageOf (q .location)) check
 abbrev pub release : State → Process → ℕ
 release s q = sinceOf (q .location) + cond (eqb (stageOf (q .location)) checking) (s .b) 0
 
--- helper: the deadline, if there is one, is before the time m
+-- [4.8] [2.120] the deadline, if there is one, is before the time m
 abbrev pub late : State → ℕ → ℕ → Process → Bool
 late s m i q = bounded s q && ltb (deadline s i q) m
 

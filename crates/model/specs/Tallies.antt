@@ -1,4 +1,4 @@
--- The counts and the longest wait by a second account, [5.120]: worked out from a list of actions and their answers, with no summary in
+-- The counts and the longest wait by a second account, [5.120] and [5.125]: worked out from a list of actions and their answers, with no summary in
 -- it. Assumes nothing.
 use Prim.Native.Nat.{ℕ, _+_, _-_, max}
 use mathlib.Core.Bool.{Bool, cond, _&&_}
@@ -31,7 +31,7 @@ isAccepted e = eqb (e .code) 0
 abbrev pub isRefused : Attempt → Bool
 isRefused e = leb 4 (e .code) && leb (e .code) 10
 
--- [5.120] an accepted try of process p
+-- [5.125] an accepted try of process p
 abbrev pub isTry : ℕ → Attempt → Bool
 isTry p e = isAccepted e && eqb (e .action) 1 && eqb (e .process) p
 
@@ -50,17 +50,17 @@ unfoldable pub countOf : (Attempt → Bool) → List Attempt → ℕ
 countOf test [] = 0
 countOf test (e ∷ es) = cond (test e) 1 0 + countOf test es
 
--- [5.120] the time of the last try of process p; 0 where there is none
+-- [5.125] the time of the last try of process p; 0 where there is none
 unfoldable pub lastTry : ℕ → List Attempt → ℕ
 lastTry p [] = 0
 lastTry p (e ∷ es) = cond (isTry p e) (e .time) (lastTry p es)
 
--- [5.120] for each entry the last try before it counts
+-- [5.125] the longest time from an entry back to the last try of its process before it
 unfoldable pub longestWait : List Attempt → ℕ
 longestWait [] = 0
 longestWait (e ∷ es) = cond (isEntry e) (max (longestWait es) (e .time - lastTry (e .process) es)) (longestWait es)
 
--- [5.120] what is worked out
+-- [5.120] [5.125] what is worked out
 abbrev pub tallyOf : List Attempt → Counts
 tallyOf log = countsOf (countOf isAccepted log) (countOf isRefused log) (countOf isEntry log) (countOf isExit log) (longestWait log)
 

@@ -23,7 +23,7 @@ newline = 10
 
 -- Numbers
 
--- helper: the digits of v, no more than k of them
+-- [6.60] the digits of v, no more than k of them
 unfoldable pub decimalIn : ℕ → ℕ → List ℕ
 decimalIn zero v = []
 decimalIn (suc k) v = elim (ltb v 10) [ true ↦ (48 + v) ∷ [] | false ↦ decimalIn k (v / 10) ++ ((48 + v % 10) ∷ []) ]
@@ -36,11 +36,11 @@ decimal v = decimalIn (suc v) v
 unfoldable pub numberText : ℕ → ℕ → List ℕ
 numberText end v = decimal v ++ (end ∷ [])
 
--- [6.60] a time is below it: 13 digits
+-- [6.65] a time is below it: 13 digits
 abbrev pub timeBound : ℕ
 timeBound = 10_000_000_000_000
 
--- [6.60] any other number is below it: 8 digits
+-- [6.65] any other number is below it: 8 digits
 abbrev pub numberBound : ℕ
 numberBound = 100_000_000
 
@@ -81,16 +81,16 @@ eventText e = numberText comma (e .time) ++ (numberText comma (e .process) ++ wo
 
 -- Whole texts
 
--- helper: the first three lines
+-- [6.20] [6.30] [6.40] the first three lines
 unfoldable pub headText : ℕ → ℕ → ℕ → ℕ → List ℕ
 headText n a b c = valueNames ++ (valuesText n a b c ++ eventNames)
 
--- helper: the lines of the steps
+-- [6.50] the lines of the steps
 unfoldable pub eventsText : List Event → List ℕ
 eventsText [] = []
 eventsText (e ∷ es) = eventText e ++ eventsText es
 
--- [6.150] the text of a trace
+-- [6.153] the text of a trace
 abbrev pub traceText : ℕ → ℕ → ℕ → ℕ → List Event → List ℕ
 traceText n a b c events = headText n a b c ++ eventsText events
 

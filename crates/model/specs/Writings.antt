@@ -32,7 +32,7 @@ formlessOf events = formlessFrom 4 events
 
 -- What a writing gives back
 
--- [6.150] its answer, and the lent bytes
+-- [6.153] its answer, and the lent bytes
 pub record Written : Type 0 where
   pub answer : Answer
   pub out : List ℕ
@@ -45,7 +45,7 @@ writeGave r out = record { answer = r; out = out }
 abbrev pub unwritten : ℕ → ℕ → List ℕ → Written
 unwritten code line out = writeGave (answerOf code 0 line) out
 
--- [6.150] [4.70]
+-- [6.153] [6.156] [4.70]
 abbrev pub written : List ℕ → List ℕ → Written
 written text out = writeGave (answerOf 0 0 (length text)) (over text out)
 
@@ -53,7 +53,7 @@ written text out = writeGave (answerOf 0 0 (length text)) (over text out)
 unfoldable pub fitted : List ℕ → List ℕ → Written
 fitted text out = cond (ltb (length out) (length text)) (unwritten 16 0 out) (written text out)
 
--- [6.170] [6.150] [6.180] one condition a line
+-- [6.170] [6.153] [6.180] one condition a line
 unfoldable pub writeOf : ℕ → ℕ → ℕ → ℕ → List Event → List ℕ → Written
 writeOf n a b c events out =
     cond (not (countStands n)) (unwritten 11 0 out)

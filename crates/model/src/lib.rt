@@ -1,5 +1,5 @@
 // The declared types of the lock. What they mean, and every definition that a contract cites, stands in `specs/`,
-// a file or two for each section of the specification; this crate has no function.
+// one to three files for each section of the specification; this crate has no function.
 
 // [2.70] [2.80] [21.20] Where a process is; the timed locations carry the time since which it is there.
 pub enum Location {

@@ -17,10 +17,10 @@ ghost use Rattle.model.specs.Writings.{eventsOf, writeGave};
 ghost use Rattle.model.specs.Reports.{faultLine, runText, reportText, reportOf};
 ghost use Rattle.trace.specs.Puts.{Put};
 
-// No recording has more steps: 65,536 bytes less those of the first lines, eight a step.
+// [9.115] No recording has more steps: 65,536 bytes less those of the first lines, eight a step.
 const MOST_STEPS: usize = 8187;
 
-// [7.50] No report has more bytes: the names line, and at most 84 a step.
+// [7.55] No report has more bytes: the names line, and at most 84 a step.
 const MOST_BYTES: usize = 687734;
 
 // Room for the steps of any recording. Only the length is told, since a proof that writes the zeros out is dear.
@@ -30,7 +30,7 @@ fn list() -> [u64; 8187]
     [0; MOST_STEPS]
 }
 
-// [7.30] The line that is printed with a refusal.
+// [7.35] The line that is printed with a refusal.
 fn fault_line(code: u64, line: u64) -> u64
     ensures { λ r. ⌜ r ≡ faultLine code line ⌝ }
 {
@@ -51,7 +51,7 @@ fn put_line(out: &mut [u8], at: u32, line: u64, code: u64, process: u64, time: u
     put_values(out, at, line, code, process, time)
 }
 
-// [7.40] Runs the steps in the lists, at most 8,187, from a table on, and puts a line for each after the names line.
+// [7.40] [7.45] Runs the steps in the lists, at most 8,187, from a table on, and puts a line for each after the names line.
 fn put_run(out: &mut [u8], first: State, times: &[u64], processes: &[u64], actions: &[u64]) -> usize
     requires { ⌜ length (now times) ≤ 8187 ⌝ }
     requires { ⌜ length (now processes) ≡ length (now times) ⌝ }
@@ -103,7 +103,7 @@ fn put_report(text: &[u8], out: &mut [u8]) -> usize
     names + lines
 }
 
-// [7.50] [21.110] Writes what `replay` prints for a recording. An output that may be too short is measured first, so that it stays;
+// [7.50] [7.55] [21.110] Writes what `replay` prints for a recording. An output that may be too short is measured first, so that it stays;
 // one of 687,734 bytes never is.
 pub fn report(text: &[u8], out: &mut [u8]) -> Answer
     ensures report { λ r. ⌜ writeGave r (now (out .exit)) ≡ reportOf (now (text .entry)) (now (out .entry)) ⌝ }

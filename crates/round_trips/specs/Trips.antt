@@ -9,14 +9,14 @@ use Rattle.model.specs.Readings.{Lists, Read, readGave}
 use Rattle.model.specs.Writings.{Written, writeGave}
 use Rattle.grammar.specs.RoundTrips.{rewritten, reread}
 
--- [6.200] a reading, and the writing of what was read, or the reading's refusal
+-- [6.205] a reading, and the writing of what was read, or the reading's refusal
 unfoldable pub rewriteOf : Read → List ℕ → Written
 rewriteOf r out = cond (eqb (r .reading .answer .code) 0) (rewritten r out) (writeGave (r .reading .answer) out)
 
--- helper: a refused writing leaves nothing to read
+-- [6.215] a refused writing leaves nothing to read
 abbrev pub notRead : Answer → Reading
 notRead answer = record { answer = answer; n = 0; a = 0; b = 0; c = 0 }
 
--- [6.210] a writing, and the reading of what was written, or the writing's refusal
+-- [6.215] a writing, and the reading of what was written, or the writing's refusal
 unfoldable pub rereadOf : Written → Lists → Read
 rereadOf w l = cond (eqb (w .answer .code) 0) (reread w l) (readGave (notRead (w .answer)) l)

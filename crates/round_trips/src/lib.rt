@@ -12,7 +12,7 @@ ghost use Rattle.model.specs.Writings.{eventsOf, writeGave, writeOf};
 ghost use Rattle.grammar.specs.RoundTrips.{eventsRead};
 ghost use Rattle.round_trips.specs.Trips.{rewriteOf, notRead, rereadOf};
 
-// [6.200] Reads a recording into three lists, and writes what was read. A refused reading is the answer, and `out` stays.
+// [6.200] [6.205] [21.110] Reads a recording into three lists, and writes what was read. A refused reading is the answer, and `out` stays.
 pub fn rewrite(
     text: &[u8],
     times: &mut [u64],
@@ -55,7 +55,7 @@ fn not_read(answer: Answer) -> Reading
     }
 }
 
-// [6.210] Writes the steps in three lists into `out`, and reads what was written into three other lists. A refused writing is
+// [6.210] [6.215] [21.110] Writes the steps in three lists into `out`, and reads what was written into three other lists. A refused writing is
 // the answer, and these lists stay.
 pub fn reread(
     n: u64,

@@ -57,8 +57,8 @@ fn refuse(state: State, fault: u64) -> Outcome
     }
 }
 
-// [5.80] [5.110] [21.110] One action of a process at a time, and the summary after it. The summary is judged first and changed in
-// place, as each hand-over of it copies 808 bytes.
+// [5.30] [5.80] [5.105] [5.110] [21.110] One action of a process at a time, and the summary after it. The summary is judged first and
+// changed in place, as each hand-over of it copies 808 bytes.
 pub fn record(
     state: State,
     mut statistics: Statistics,

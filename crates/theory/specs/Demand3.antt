@@ -20,12 +20,12 @@ pub record SpanStarts (s : State) : Type 0 where
   pub some : (w : ℕ) × IsTrying s w
   pub none : (i : ℕ) → IsCritical s i → ⊥
 
--- [8.80] the call d lets its process in
+-- [8.85] the call d lets its process in
 pub record Enters (s : State) (d : Call) : Type 0 where
   pub crit : d .action ≡ 5
   pub accepted : Accepted (outcomeOf s d)
 
--- [8.70] each of the calls is in the span that starts at s, as none but the last lets anybody in
+-- [8.75] each of the calls is in the span that starts at s, as none but the last lets anybody in
 abbrev pub InSpan : State → List Call → Type 0
 InSpan s [] = Unit {0}
 InSpan s (d ∷ ds) = (ds ≡ []) ⊎ ((Enters s d → ⊥) × InSpan (tableOf s d) ds)
@@ -34,7 +34,7 @@ InSpan s (d ∷ ds) = (ds ≡ []) ⊎ ((Enters s d → ⊥) × InSpan (tableOf s
 abbrev pub owedWait : State → ℕ
 owedWait s = 2 * s .c + 5 * s .a
 
--- [8.80] The list is cut where the span starts, and at a point of the span.
+-- [8.80] [8.85] The list is cut where the span starts, and at a point of the span.
 abbrev pub OwedWait : State → List Call → Type 0
 OwedWait s ds = (before during after : List Call) → ds ≡ before ++ during ++ after
     → SpanStarts (runOf s before) → InSpan (runOf s before) during

@@ -17,7 +17,7 @@ abbrev pub TableComesBack : Type 0
 TableComesBack = (s : State) → length (s .processes) ≡ 96 → (rest : List ℕ)
     → (isTable (stateNumbers s ++ rest) ≡ true) × (tableIn (stateNumbers s ++ rest) ≡ s)
 
--- [9.40] what numbers tell is a whole table: it has 96 entries
+-- [9.10] what numbers tell is a whole state: it has 96 entries
 abbrev pub TableIsWhole : Type 0
 TableIsWhole = (l : List ℕ) → isTable l ≡ true → length (tableIn l .processes) ≡ 96
 

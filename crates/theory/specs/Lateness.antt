@@ -21,7 +21,7 @@ abbrev pub LateNamesTheFirst : Type 0
 LateNamesTheFirst = (s : State) (act p m : ℕ) → stepOf s act p m .answer .code ≡ 8
     → FirstMissed s m (stepOf s act p m .answer .process) (stepOf s act p m .answer .time)
 
--- helper: every deadline is kept at the time m
+-- [4.8] every deadline is kept at the time m
 abbrev pub AllInTime : State → ℕ → Type 0
 AllInTime s m = (i d : ℕ) → HasDeadline s i d → m ≤ d
 
@@ -29,7 +29,7 @@ AllInTime s m = (i d : ℕ) → HasDeadline s i d → m ≤ d
 abbrev pub NoneFoundIffAllInTime : Type 0
 NoneFoundIffAllInTime = (s : State) (m : ℕ) → (lateOf s m .code ≢ 8) ↔ AllInTime s m
 
--- helper: none of the answers 1 to 7 applies
+-- [4.80] none of the answers 1 to 7 applies
 pub record Admissible (s : State) (act p m : ℕ) : Type 0 where
   pub sound : soundOf s ≡ true
   pub forward : backward s m ≡ false

@@ -39,7 +39,7 @@ pub record Sound (s : State) : Type 0 where
 abbrev pub SoundIffPlain : Type 0
 SoundIffPlain = (s : State) → (soundOf s ≡ true) ↔ Sound s
 
--- [4.1] [3.85] an act is answered so exactly then
+-- [4.1] [3.85] an act is answered 1 exactly if the state is not sound
 abbrev pub UnsoundIffOne : Type 0
 UnsoundIffOne = (s : State) (act p m : ℕ) → (stepOf s act p m .answer .code ≡ 1) ↔ (soundOf s ≡ false)
 

@@ -38,7 +38,7 @@ pub record HasRoom (clock : ℕ) (x : Statistics) : Type 0 where
   pub sound : SummarySound clock x
   pub not-full : NotFull x
 
--- [5.30] what a recorded step gives back, by its number
+-- [5.30] what a recorded step gives back, by the code of its answer
 pub record RecordedTells (s : State) (x : Statistics) (act p m : ℕ) (r : Recorded) : Type 0 where
   -- [4.1]
   pub one : (r .outcome .answer .code ≡ 1) ↔ (soundOf s ≡ false)
@@ -47,9 +47,9 @@ pub record RecordedTells (s : State) (x : Statistics) (act p m : ℕ) (r : Recor
   -- [4.3] after 1 and 2
   pub three : (r .outcome .answer .code ≡ 3)
       ↔ ((soundOf s ≡ true) × SummarySound (s .clock) x × (x .counts .accepted + x .counts .refused ≡ mostActs))
-  -- [5.110] where neither applies; a table that is not sound is answered alike by both
+  -- [5.110] where neither 2 nor 3 applies; a state that is not sound is answered alike by both
   pub step : HasRoom (s .clock) x → r .outcome ≡ stepOf s act p m
-  -- [5.100] [4.110] 1, 2 and 3 change nothing
+  -- [5.105] [4.110] 1, 2 and 3 change nothing
   pub unchanged : 1 ≤ r .outcome .answer .code → r .outcome .answer .code ≤ 3 → (r .outcome .state ≡ s) × (r .statistics ≡ x)
   -- [5.100] [4.110] the other refusals
   pub refused : 4 ≤ r .outcome .answer .code → (r .outcome .state ≡ s) × (r .statistics ≡ refusedCounted x)

@@ -10,7 +10,7 @@ use Rattle.model.specs.Facts.{Accepted}
 use Rattle.model.specs.Summaries.{newStatistics, beside, recordedOf}
 use Rattle.model.specs.Tallies.{Attempt, attempt, tallyOf, criticalCount}
 
--- helper: a recorded step after another, with the table and the summary that it left
+-- [5.120] a recorded step after another, with the table and the summary that it left
 abbrev pub recordNext : Recorded → Event → Recorded
 recordNext r e = recordedOf (r .outcome .state) (r .statistics) (e .action) (e .process) (e .time)
 
@@ -33,7 +33,7 @@ unfoldable pub logFrom : List Attempt → Recorded → List Event → List Attem
 logFrom log r [] = log
 logFrom log r (e ∷ es) = logFrom (attemptOf e (recordNext r e) ∷ log) (recordNext r e) es
 
--- helper: what the last step left, beside the log of all
+-- [5.120] [5.125] [5.130] what the last step left, beside the log of all
 pub record Tallied (log : List Attempt) (r : Recorded) : Type 0 where
   -- [5.120]
   pub counts : r .statistics .counts ≡ tallyOf log
@@ -44,7 +44,7 @@ pub record Tallied (log : List Attempt) (r : Recorded) : Type 0 where
 abbrev pub startOf : ℕ → ℕ → ℕ → ℕ → Recorded
 startOf n a b c = beside newStatistics (freshOf n a b c)
 
--- [5.120] [5.130] of every list es
+-- [5.120] [5.125] [5.130] of every list es
 abbrev pub EveryTally : Type 0
 EveryTally = (n a b c : ℕ) → Accepted (freshOf n a b c) → (es : List Event)
     → Tallied (logFrom [] (startOf n a b c) es) (recordAll (startOf n a b c) es)

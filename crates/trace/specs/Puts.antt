@@ -1,11 +1,11 @@
--- What the functions that put a text into a lent output ensure. For the proofs only. Assumes nothing.
+-- What the functions that put a text into a lent output ensure. Assumes nothing.
 use Prim.Native.Nat.{ℕ}
 use mathlib.Core.Path.{_≡_}
 use mathlib.Core.List.{List}
 use lib.ListN.{length}
 use lib.Seq.{sets}
 
--- `text` has been put into `old` from place `at` on, as much of it as there is room for: it is `new` now. `width` is how many
+-- helper: `text` has been put into `old` from place `at` on, as much of it as there is room for: it is `new` now. `width` is how many
 -- bytes the whole text has.
 pub record Put (old new : List ℕ) (at : ℕ) (text : List ℕ) (width : ℕ) : Type 0 where
   pub stored : new ≡ sets old at text

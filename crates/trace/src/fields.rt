@@ -11,10 +11,10 @@ ghost use Prim.Native.Nat.{_≤_};
 ghost use lib.Dec.{eqb, ltb};
 ghost use Rattle.model.specs.Readings.{startsWith, numberAt, wordAt};
 
-// [6.60] A time is below this.
+// [6.65] A time is below this.
 pub(crate) const TIME_BOUND: u64 = 10000000000000;
 
-// [6.60] Other numbers are below this.
+// [6.65] Other numbers are below this.
 pub(crate) const NUMBER_BOUND: u64 = 100000000;
 
 // s starts with w.
@@ -50,7 +50,7 @@ fn wide(x: u8) -> u64
     x as u64
 }
 
-// [6.60] A number below `bound`, up to the byte `end`. The bound on the bound keeps the next digit's value from overflowing.
+// [6.60] [6.65] A number below `bound`, up to the byte `end`. The bound on the bound keeps the next digit's value from overflowing.
 pub(crate) fn number_at(s: &[u8], bound: u64, end: u8) -> Field
     requires { ⌜ bound ≤ 10000000000000 ⌝ }
     ensures { λ r. ⌜ r ≡ numberAt bound end (now (s .entry)) ⌝ }

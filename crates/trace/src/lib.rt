@@ -48,7 +48,7 @@ fn unread(code: u64, line: u64) -> Reading
     reading_with(code, line, 0, 0, 0, 0)
 }
 
-// [6.90] [6.130] [6.140] [21.110] Reads a recording: its steps go to the three lists. A refused reading stores nothing.
+// [6.90] [6.130] [6.133] [6.136] [6.140] [21.110] Reads a recording: its steps go to the three lists. A refused reading stores nothing.
 pub fn read(text: &[u8], times: &mut [u64], processes: &mut [u64], actions: &mut [u64]) -> Reading
     ensures { λ r. ⌜ readGave r (lists (now (times .exit)) (now (processes .exit)) (now (actions .exit))) ≡ readOf (now (text .entry)) (lists (now (times .entry)) (now (processes .entry)) (now (actions .entry))) ⌝ }
 {
@@ -73,8 +73,8 @@ pub fn read(text: &[u8], times: &mut [u64], processes: &mut [u64], actions: &mut
     }
 }
 
-// [6.150] [6.170] [6.180] [21.110] Writes a recording of the steps in the three lists, as many as the shortest holds. A refused
-// writing stores nothing.
+// [6.150] [6.153] [6.156] [6.170] [6.180] [21.110] Writes a recording of the steps in the three lists, as many as the shortest holds.
+// A refused writing stores nothing.
 pub fn write(
     n: u64,
     a: u64,

@@ -13,7 +13,7 @@ pub(crate) enum Tally {
     Fault(u64, u64),
 }
 
-// [6.50] [6.90] How many steps s holds; or the refusal of its first line that is no step.
+// [6.50] [6.55] [6.90] How many steps s holds; or the refusal of its first line that is no step.
 pub(crate) fn count_events(s: &[u8]) -> Tally
     requires { ⌜ length (now s) ≤ 65536 ⌝ }
     ensures { λ r. ⌜ r ≡ tallyOf (bodyOf 4 (now (s .entry))) ⌝ }
@@ -32,7 +32,7 @@ pub(crate) fn count_events(s: &[u8]) -> Tally
     Tally::Steps(count)
 }
 
-// [6.130] Stores the steps of s.
+// [6.130] [6.136] Stores the steps of s.
 pub(crate) fn store_events(s: &[u8], times: &mut [u64], processes: &mut [u64], actions: &mut [u64])
     requires { ⌜ length (bodyOf 4 (now s) .events) ≤ length (now times) ⌝ }
     requires { ⌜ length (bodyOf 4 (now s) .events) ≤ length (now processes) ⌝ }
