@@ -49,7 +49,8 @@ EDITS = [
 def edited(files, edits):
     files = dict(files)
     for path, old, new in edits:
-        assert files[path].count(old) == 1, f"{path} has {files[path].count(old)} times {old!r}"
+        if files[path].count(old) != 1:
+            sys.exit(f"{path} has {files[path].count(old)} times {old!r}: edit docs/traceability_test.py too")
         files[path] = files[path].replace(old, new)
     return files
 
