@@ -28,7 +28,7 @@ Section = collections.namedtuple("Section", "title lines")
 Clause = collections.namedtuple("Clause", "number title lines section note")
 # What a comment can stand directly above, or a part of it; `head` is the contract of a function, with its signature.
 Item = collections.namedtuple("Item", "path line name kind public comment head")
-Trace = collections.namedtuple("Trace", "files sections clauses items")
+Repository = collections.namedtuple("Repository", "files sections clauses items")
 
 
 def is_looked_at(path):
@@ -37,16 +37,16 @@ def is_looked_at(path):
     return path.suffix in ENDINGS or (path.suffix == "" and (ROOT / path).read_bytes().startswith(b"#!"))
 
 
-def read_repository():
+def read_files():
     """The text of each file that is looked at, by its path."""
     paths = sorted(path.relative_to(ROOT) for path in ROOT.rglob("*"))
     return {path.as_posix(): (ROOT / path).read_text(encoding="utf8") for path in paths if is_looked_at(path)}
 
 
-def trace_of(files):
+def repository_of(files):
     sections = sections_of(files[SPECIFICATION])
     clauses = [clause for section in sections for clause in clauses_of(section)]
-    return Trace(files, sections, clauses, list(items_of(files)))
+    return Repository(files, sections, clauses, list(items_of(files)))
 
 
 # The specification
@@ -87,7 +87,7 @@ def title_of(line):
     return bold.group(1).rstrip(".,") if bold else ""
 
 
-def order(number):
+def as_numbers(number):
     return tuple(int(part) for part in number.split("."))
 
 
@@ -98,6 +98,7 @@ def fingerprint(lines):
 # Definitions, statements and contracts, with the comments directly above them
 
 
+# a definition at the start of a line, or an indented one, which a word before `pub` or `record` or `data` tells from a field
 ANTT = re.compile(r"(?:\s*(?:[a-z]+ )+pub|pub|\s*pub(?= record | data )) (?:record |data )?(?!mod )([^\s:({]+)")
 ANTT_PART = re.compile(r"  (?:pub )?([^\s:(){}]+) :")
 RT = re.compile(r'(pub(?:\(crate\))? )?(?:extern "C" )?(fn|struct|enum|const|type) (\w+)')
@@ -125,21 +126,20 @@ def rt_item(line, inside):
 
 
 def head_of(lines):
-    """A function up to the brace that opens its body."""
-    for end, line in enumerate(lines, 1):
-        if line == "{" or line.endswith(" {"):
-            return "\n".join(line.split("//")[0] for line in lines[:end])
-    return ""
+    """A function up to the brace that opens its body, without comments."""
+    code = [line.split("//")[0].rstrip() for line in lines]
+    end = next((number for number, line in enumerate(code) if line == "{" or line.endswith(" {")), len(code))
+    return "\n".join(code[:end + 1])
 
 
 def items_in(path, text):
-    find, mark = (antt_item, "--") if path.endswith(".antt") else (rt_item, "//")
+    item_at, slashes = (antt_item, "--") if path.endswith(".antt") else (rt_item, "//")
     lines, comment, inside = text.splitlines(), [], None
     for number, line in enumerate(lines, 1):
-        if line.strip().startswith(mark):
-            comment.append(line.strip()[len(mark):].strip())
+        if line.strip().startswith(slashes):
+            comment.append(line.strip()[len(slashes):].strip())
         elif not line.startswith("#["):
-            found = find(line, inside)
+            found = item_at(line, inside)
             if found:
                 name, kind, public = found
                 head = head_of(lines[number - 1:]) if kind == "fn" else ""
@@ -158,7 +158,7 @@ def items_of(files):
 
 
 def delivers(item):
-    """Definitions and statements, contracts, declared types, rows of a table; no constant, no function without a contract, no inner lemma."""
+    """Definitions, statements, declared types and their parts; contracts; rows of a table. No constant, bare function or inner lemma."""
     if item.kind == "fn":
         return "ensures" in item.head
     return item.kind in ("definition", "part", "row", "struct", "enum") and ("/proofs/" not in item.path or item.public)
@@ -180,8 +180,8 @@ def is_read(files, item):
 # What is looked at
 
 
-def check_sections(trace):
-    for section in trace.sections:
+def check_sections(repository):
+    for section in repository.sections:
         if not any("Renders " in line for line in section.lines[:4]):
             yield f"{SPECIFICATION}: section {section.title} does not say what it renders"
         for line in section.lines:
@@ -189,26 +189,26 @@ def check_sections(trace):
                 yield f"{SPECIFICATION}: section {section.title} has a line without a number: {line[:60]}"
 
 
-def check_numbers(trace):
-    for before, clause in zip(trace.clauses, trace.clauses[1:]):
-        if order(clause.number) == order(before.number):
+def check_numbers(repository):
+    for before, clause in zip(repository.clauses, repository.clauses[1:]):
+        if as_numbers(clause.number) == as_numbers(before.number):
             yield f"{SPECIFICATION}: [{clause.number}] stands twice"
-        elif order(clause.number) < order(before.number):
+        elif as_numbers(clause.number) < as_numbers(before.number):
             yield f"{SPECIFICATION}: [{clause.number}] stands after [{before.number}]"
-    for clause in trace.clauses:
+    for clause in repository.clauses:
         if clause.number.split(".")[0] != clause.section.split(".")[0]:
             yield f"{SPECIFICATION}: [{clause.number}] stands in section {clause.section}"
 
 
-def check_cited(trace):
-    for clause in trace.clauses:
-        if not clause.note and not any(cites(item, clause) for item in trace.items if delivers(item)):
+def check_cited(repository):
+    for clause in repository.clauses:
+        if not clause.note and not any(cites(item, clause) for item in repository.items if delivers(item)):
             yield f"{SPECIFICATION}: [{clause.number}] stands above no definition, statement or contract"
 
 
-def check_citations(trace):
-    known = {clause.number for clause in trace.clauses}
-    for path, text in trace.files.items():
+def check_citations(repository):
+    known = {clause.number for clause in repository.clauses}
+    for path, text in repository.files.items():
         for number, line in enumerate(text.splitlines(), 1):
             for citation in CITATION.findall(line):
                 if citation not in known:
@@ -217,52 +217,64 @@ def check_citations(trace):
                 yield f"{path}:{number}: {citation} is no citation"
 
 
-def check_definitions(trace):
-    for item in trace.items:
-        if is_read(trace.files, item) and not CITATION.search(item.comment) and not item.comment.startswith("helper:"):
+def check_definitions(repository):
+    for item in repository.items:
+        if is_read(repository.files, item) and not CITATION.search(item.comment) and not item.comment.startswith("helper:"):
             yield f"{item.path}:{item.line}: {item.name} cites no clause and is not marked as a helper"
 
 
+def check_promises(repository):
+    """No public function asks anything of its caller."""
+    for item in repository.items:
+        if item.kind == "fn" and item.public and re.search(r"\brequires\b", item.head):
+            yield f"{item.path}:{item.line}: {item.name} is public and has a requires"
+
+
 def imported_specs(text):
-    """The spec file that each name of a file of code comes from."""
-    found = re.findall(r"ghost use Rattle·(\w+)(?:·specs)?(?:\.specs)+\.(\w+)\.\{([^}]*)\}", text)
+    """The spec file that each name comes from."""
+    found = re.findall(r"^(?:ghost )?use Rattle·(\w+)(?:·specs)?(?:\.specs)+\.(\w+)\.\{([^}]*)\}", text, re.MULTILINE)
     return {name.strip(" «»"): f"crates/{crate}/specs/{file}.antt" for crate, file, names in found for name in names.split(",")}
 
 
-def check_contracts(trace):
-    """No public function asks anything of its caller, or speaks of what is for the proofs only."""
-    for item in trace.items:
-        if item.kind != "fn" or not item.public:
-            continue
-        if re.search(r"\brequires\b", item.head):
-            yield f"{item.path}:{item.line}: {item.name} is public and has a requires"
-        specs = imported_specs(trace.files[item.path])
-        for name in set(re.findall(r"[\w′]+", item.head)) & set(specs):
-            if is_for_proofs_only(trace.files, specs[name]):
-                yield f"{item.path}:{item.line}: {item.name} is public, and {name} of its contract is for the proofs only"
+def check_proofs_only(repository):
+    """No public contract, and no spec file that a customer reads, uses what is for the proofs only."""
+    for item in repository.items:
+        if item.kind == "fn" and item.public:
+            specs = imported_specs(repository.files[item.path])
+            for name in sorted(set(re.findall(r"[\w′]+", item.head)) & set(specs)):
+                if is_for_proofs_only(repository.files, specs[name]):
+                    yield f"{item.path}:{item.line}: {item.name} is public, and {name} of its contract is for the proofs only"
+    for path in dict.fromkeys(item.path for item in repository.items if is_read(repository.files, item)):
+        for name, specs in imported_specs(repository.files[path]).items():
+            if is_for_proofs_only(repository.files, specs):
+                yield f"{path}: a customer reads it, and {name} is for the proofs only"
 
 
-def check_table(trace):
-    properties = trace.files.get(PROPERTIES, "")
-    if properties.count(BEGIN) != 1 or properties.count(END) != 1:
+def has_marks(properties):
+    return properties.count(BEGIN) == properties.count(END) == 1
+
+
+def check_table(repository):
+    properties = repository.files.get(PROPERTIES, "")
+    if not has_marks(properties):
         yield f"{PROPERTIES}: the marks around its table do not stand just once"
-    elif properties != with_table(properties, trace):
+    elif properties != with_table(properties, repository):
         yield f"{PROPERTIES}: the table is not the one that docs/traceability.py writes"
 
 
-CHECKS = (check_sections, check_numbers, check_cited, check_citations, check_definitions, check_contracts, check_table)
+CHECKS = (check_sections, check_numbers, check_cited, check_citations, check_definitions, check_promises, check_proofs_only, check_table)
 
 
-def faults_of(trace):
-    return [fault for check in CHECKS for fault in check(trace)]
+def faults_of(repository):
+    return [fault for check in CHECKS for fault in check(repository)]
 
 
-def said_of(trace):
-    notes = [clause for clause in trace.clauses if clause.note]
-    definitions = [item for item in trace.items if is_read(trace.files, item)]
+def counts_of(repository):
+    notes = [clause for clause in repository.clauses if clause.note]
+    definitions = [item for item in repository.items if is_read(repository.files, item)]
     helpers = [item for item in definitions if not CITATION.search(item.comment)]
     return (
-        f"{len(trace.clauses)} clauses, {len(notes)} of them notes; {len(definitions)} public definitions that a customer reads,"
+        f"{len(repository.clauses)} clauses, {len(notes)} of them notes; {len(definitions)} public definitions that a customer reads,"
         f" {len(helpers)} of them helpers"
     )
 
@@ -270,54 +282,54 @@ def said_of(trace):
 # The table
 
 
-# what stands before the names of a kind
-BEFORE = collections.defaultdict(str, fn="contract of ", row="rows of ")
+# what stands before the names of functions, and of tables
+PREFIXES = {"fn": "contract of ", "row": "rows of "}
 
 
 def names_in(items):
-    """Each name once, those of a kind together."""
-    kinds = collections.defaultdict(list)
+    """Each name once, those with a prefix together."""
+    names = collections.defaultdict(dict)
     for item in items:
-        if f"`{item.name}`" not in kinds[BEFORE[item.kind]]:
-            kinds[BEFORE[item.kind]].append(f"`{item.name}`")
-    return ", ".join(before + ", ".join(names) for before, names in kinds.items() if names)
+        names[PREFIXES.get(item.kind, "")][f"`{item.name}`"] = True
+    return ", ".join(prefix + ", ".join(named) for prefix, named in names.items())
 
 
 def rows_of(clause, items):
     """A row for each file that delivers the clause."""
     delivering = [item for item in items if delivers(item) and cites(item, clause)]
     paths = dict.fromkeys(item.path for item in delivering)
-    rows = [f"{names_in(item for item in delivering if item.path == path)} | `{path}` |" for path in paths] or ["*(note)* | |"]
-    first = f"[{clause.number}] {clause.title} | `{fingerprint(clause.lines)}`"
+    rows = [f"{names_in(item for item in delivering if item.path == path)} | `{path}` |" for path in paths] or [" | |"]
+    note = " *(note)*" if clause.note else ""
+    first = f"[{clause.number}] {clause.title}{note} | `{fingerprint(clause.lines)}`"
     return [f"| {first} | {rows[0]}"] + [f"| | | {row}" for row in rows[1:]]
 
 
-def table_of(trace):
+def table_of(repository):
     lines = []
-    for section in trace.sections:
+    for section in repository.sections:
         lines += [f"### {section.title}, `{fingerprint(section.lines)}`", ""]
-        clauses = [clause for clause in trace.clauses if clause.section == section.title]
+        clauses = [clause for clause in repository.clauses if clause.section == section.title]
         if not all(clause.note for clause in clauses):
             lines += ["| clause | text | definition, statement or contract | file |", "|---|---|---|---|"]
-            lines += [row for clause in clauses for row in rows_of(clause, trace.items)] + [""]
+            lines += [row for clause in clauses for row in rows_of(clause, repository.items)] + [""]
     return "\n".join(lines)
 
 
-def with_table(properties, trace):
+def with_table(properties, repository):
     before, rest = properties.split(BEGIN)
-    return f"{before}{BEGIN}\n\n{table_of(trace)}\n{END}{rest.split(END)[1]}"
+    return f"{before}{BEGIN}\n\n{table_of(repository)}\n{END}{rest.split(END)[1]}"
 
 
 def main(arguments):
     if arguments not in (["check"], ["write"]):
         print(__doc__)
         return 2
-    trace = trace_of(read_repository())
-    faults = faults_of(trace)
-    if arguments == ["write"] and not any("the marks" in fault for fault in faults):
-        (ROOT / PROPERTIES).write_text(with_table(trace.files[PROPERTIES], trace), encoding="utf8")
-        faults = faults_of(trace_of(read_repository()))
-    print("\n".join(faults or [said_of(trace)]))
+    repository = repository_of(read_files())
+    if arguments == ["write"] and has_marks(repository.files.get(PROPERTIES, "")):
+        (ROOT / PROPERTIES).write_text(with_table(repository.files[PROPERTIES], repository), encoding="utf8")
+        repository = repository_of(read_files())
+    faults = faults_of(repository)
+    print("\n".join(faults or [counts_of(repository)]))
     return 1 if faults else 0
 
 

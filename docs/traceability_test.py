@@ -24,22 +24,64 @@ EDITS = [
     ("a clause's number falls", [(SPECIFICATION, "\n- [2.30] ", "\n- [2.15] ")], "[2.15] stands after [2.20]"),
     ("a clause stands in another section", [(SPECIFICATION, "\n- [2.130] ", "\n- [3.130] ")], "[3.130] stands in section 2."),
     ("a clause has no number", [(SPECIFICATION, "\n- [2.60] ", "\n- **New.**\n- [2.60] ")], "has a line without a number"),
-    ("a section does not say what it renders", [(SPECIFICATION, "Renders *The running", "As *The running")], "section 5. Summary does not say"),
+    (
+        "a section does not say what it renders",
+        [(SPECIFICATION, "Renders *The running", "As *The running")],
+        "section 5. Summary does not say",
+    ),
     # citations
     ("a clause comes without a citation", [(SPECIFICATION, "\n- [2.60] ", NEW)], "[2.55] stands above no"),
-    ("it is cited inside a function only", [(SPECIFICATION, "\n- [2.60] ", NEW), (STEP, "    let slot = slot_of", "    // [2.55]\n    let slot = slot_of")], "[2.55] stands above no"),
-    ("it is cited above a constant only", [(SPECIFICATION, "\n- [2.60] ", NEW), ("crates/trace/src/words.rt", "// [3.40]", "// [2.55]")], "[2.55] stands above no"),
+    (
+        "it is cited inside a function only",
+        [
+            (SPECIFICATION, "\n- [2.60] ", NEW),
+            (STEP, "    let slot = slot_of", "    // [2.55]\n    let slot = slot_of"),
+        ],
+        "[2.55] stands above no",
+    ),
+    (
+        "it is cited above a constant only",
+        [
+            (SPECIFICATION, "\n- [2.60] ", NEW),
+            ("crates/trace/src/words.rt", "// [3.40]", "// [2.55]"),
+        ],
+        "[2.55] stands above no",
+    ),
     ("a clause's only citation goes", [(WHOLES, "-- [7.80]", "--")], "[7.80] stands above no"),
-    ("a citation does not stand directly above", [(WHOLES, "\nabbrev pub EmptyCase", "\n\nabbrev pub EmptyCase")], "[7.80] stands above no"),
+    (
+        "a citation does not stand directly above",
+        [(WHOLES, "\nabbrev pub EmptyCase", "\n\nabbrev pub EmptyCase")],
+        "[7.80] stands above no",
+    ),
     ("a citation is of no clause", [(ANSWERS, "-- [4.4]\n", "-- [4.44]\n")], "[4.44] is no clause"),
     ("a document cites no clause", [("README.md", "[7.60]", "[7.61]")], "README.md:"),
     ("two clauses in one citation", [(ANSWERS, "-- [4.4]\n", "-- [4.4, 4.5]\n")], "is no citation"),
     # definitions and contracts
     ("a definition neither cites nor is a helper", [(ANSWERS, "-- [4.4]\n", "-- back in time\n")], "backward cites no clause"),
     ("so does an indented one", [(ANSWERS, "-- [4.4]\n", "  abbrev pub inner : ℕ\n-- [4.4]\n")], "inner cites no clause"),
-    ("a public contract rests on what is for the proofs only", [(PUTS, "Assumes nothing.", "For the proofs only.")], "Put of its contract is for the proofs only"),
-    ("a public function asks for something", [(STEP, "    ensures { λ r. ⌜ r ≡ freshOf", "    requires { ⌜ 1 ≤ n ⌝ }\n    ensures { λ r. ⌜ r ≡ freshOf")], "fresh is public and has a requires"),
-    ("it does so on the line of its signature", [(STEP, "c: u64) -> Outcome\n", "c: u64) -> Outcome requires { ⌜ 1 ≤ n ⌝ }\n")], "fresh is public and has a requires"),
+    (
+        "a public contract rests on what is for the proofs only",
+        [(PUTS, "Assumes nothing.", "For the proofs only.")],
+        "Put of its contract is for the proofs only",
+    ),
+    (
+        "so does a file that a customer reads",
+        [
+            ("crates/trace/specs/Passes.antt", "use Prim", "use Rattle.funnelfawn.specs.Loading.{Loads}\nuse Prim"),
+            ("crates/trace/specs/Passes.antt", "For the proofs only.", ""),
+        ],
+        "Loads is for the proofs only",
+    ),
+    (
+        "a public function asks for something",
+        [(STEP, "    ensures { λ r. ⌜ r ≡ freshOf", "    requires { ⌜ 1 ≤ n ⌝ }\n    ensures { λ r. ⌜ r ≡ freshOf")],
+        "fresh is public and has a requires",
+    ),
+    (
+        "it does so on the line of its signature",
+        [(STEP, "c: u64) -> Outcome\n", "c: u64) -> Outcome requires { ⌜ 1 ≤ n ⌝ }\n")],
+        "fresh is public and has a requires",
+    ),
     # PROPERTIES
     ("its table lacks a heading", [(PROPERTIES, "### 3. Actions", "")], STALE),
     ("its marks are gone", [(PROPERTIES, BEGIN, ""), (PROPERTIES, END, "")], "the marks around its table"),
@@ -56,10 +98,10 @@ def edited(files, edits):
 
 
 def main():
-    files = traceability.read_repository()
+    files = traceability.read_files()
     wrong = 0
     for what, edits, reason in EDITS:
-        faults = traceability.faults_of(traceability.trace_of(edited(files, edits)))
+        faults = traceability.faults_of(traceability.repository_of(edited(files, edits)))
         if not any(reason in fault for fault in faults):
             print(f"{what}: nothing says {reason!r}")
             wrong += 1

@@ -14,7 +14,7 @@ pub const WORDS: [&str; 9] = ["wait", "try", "test", "set", "check", "crit", "ex
 const VALUE_NAMES: &str = "windows,a,b,c";
 const STEP_NAMES: &str = "time,window,act";
 
-/// [6.60]
+/// [6.65]
 const TIME_DIGITS: usize = 13;
 const OTHER_DIGITS: usize = 8;
 
@@ -131,7 +131,7 @@ fn fields<const COUNT: usize>(line: &[u8]) -> Option<[&[u8]; COUNT]> {
     fields.try_into().ok()
 }
 
-/// [6.60]
+/// [6.60] [6.65]
 fn number(field: &[u8], most_digits: usize) -> Option<u64> {
     let leading_zero = field.len() > 1 && field[0] == b'0';
     if field.is_empty() || field.len() > most_digits || leading_zero {
@@ -147,7 +147,7 @@ fn number(field: &[u8], most_digits: usize) -> Option<u64> {
     Some(value)
 }
 
-/// [6.130] [6.140] The reader with its three lent lists.
+/// [6.130] to [6.140]: the reader with its three lent lists.
 pub fn read_into(text: &[u8], times: &mut [u64], windows: &mut [u64], acts: &mut [u64]) -> (Answer, Values) {
     let recording = match read(text) {
         Ok(recording) => recording,
@@ -165,7 +165,7 @@ pub fn read_into(text: &[u8], times: &mut [u64], windows: &mut [u64], acts: &mut
     (answer(ACCEPTED, 0, recording.steps.len() as u64), recording.values)
 }
 
-/// [6.150] [6.180] The writer.
+/// [6.150] to [6.156], [6.180]: the writer.
 pub fn write(values: Values, times: &[u64], windows: &[u64], acts: &[u64], output: &mut [u8]) -> Answer {
     let lists = times.iter().zip(windows).zip(acts);
     let steps: Vec<Step> = lists.map(|((&time, &window), &act)| Step { time, window, act }).collect();

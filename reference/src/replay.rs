@@ -16,7 +16,7 @@ pub fn replay(text: &[u8]) -> String {
     output
 }
 
-/// [7.40]
+/// [7.40] [7.45]
 fn run(recording: &Recording, output: &mut String) {
     let (_, mut table) = fresh(recording.values);
     for (line, recorded) in (FIRST_STEP..).zip(&recording.steps) {

@@ -75,7 +75,7 @@ abbrev pub recordedLent : Recorded → List ℕ → List ℕ → LentBoth
 recordedLent r table summary =
     recordGave (r .outcome .answer) (over (stateNumbers (r .outcome .state)) table) (over (statisticsNumbers (r .statistics)) summary)
 
--- [9.35] [9.80] `funnelfawn_record`: 1 as above, and 2 where the summary's numbers are too few; the rest is the recorded step's
+-- [9.20] [9.35] [9.80] `funnelfawn_record`: 1 as above, and 2 where the summary's numbers are too few; the rest is the recorded step's
 unfoldable pub lentRecord : List ℕ → List ℕ → ℕ → ℕ → ℕ → LentBoth
 lentRecord table summary act p m =
     cond (not (isSoundTable table)) (recordGave (answerOf 1 0 0) table summary)

@@ -16,13 +16,13 @@ abbrev pub Differs : List ℕ → List ℕ → Type 0
 Differs start text = (more : List ℕ) → text ≢ start ++ more
 
 -- [6.195] [6.90] [6.110] The number of a refusal and its line, each with what it says of the text; what would be refused before it
--- is ruled out.
+-- is ruled out, but for nine digits on line 2, which 11 and 12 leave to `afterValues`.
 pub data Fault (text : List ℕ) : ℕ → ℕ → Type 0 where
   -- [4.15]
   long : textLimit < length text → Fault text 15 0
   -- [4.13] [6.20] [6.15] [6.100] line 1
   names : length text ≤ textLimit → Differs valueNames text → Fault text 13 1
-  -- [4.14] [6.30] [6.15] [6.100] [6.120] line 2
+  -- [4.14] [6.30] [6.15] [6.100] line 2
   values : (rest : List ℕ) → length text ≤ textLimit → text ≡ valueNames ++ rest
       → ((n a b c : ℕ) → n < numberBound → a < numberBound → b < numberBound → c < numberBound → Differs (valuesText n a b c) rest)
       → Fault text 14 2

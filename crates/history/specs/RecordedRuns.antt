@@ -47,7 +47,7 @@ recordedRunGave r answers = record { recorded = r; answers = answers }
 abbrev pub started : Recorded → Recorded → Recorded
 started r t = record { outcome = ending (r .outcome) (t .outcome .state); statistics = t .statistics }
 
--- [8.160] [8.164] r is the fresh table beside the new summary
+-- [8.160] [8.162] [8.164] r is the fresh table beside the new summary
 abbrev pub recordedRunFrom : Recorded → List Event → List Tuple → RecordedRun
 recordedRunFrom r es answers = recordedRunGave (started r (recordAll r es)) (over (map answerRow (recordsOf r es)) answers)
 

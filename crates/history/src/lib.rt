@@ -71,8 +71,9 @@ fn make_turn(
     next
 }
 
-// [8.40] [8.130] [8.135] [8.150] [8.158] [21.110] A whole list of calls from a fresh table. The answer is that of `fresh`, the state that of the last
-// call. Each call's summary is lent in its row, brought up to date there, and its answer stored; the contract is demand 3.
+// [8.40] [8.130] [8.135] [8.150] [8.152] [8.154] [8.156] [8.158] [21.110] A whole list of calls from a fresh table. The answer is that
+// of `fresh`, the state that of the last call. Each call's summary is lent in its row, brought up to date there, and its answer stored;
+// the contract is demand 3.
 pub fn run(
     n: u64,
     a: u64,
@@ -121,8 +122,8 @@ fn record_turn(last: Recorded, acts: &[[u64; 3]], answers: &mut [[u64; 3]], i: u
     made
 }
 
-// [5.120] [5.125] [5.130] [8.160] [8.164] [21.110] Recorded steps from a fresh table, all lent one summary that is new at first. The answer is that of
-// `fresh`, the state and the summary those after the last step; the contract has the tally of the acts and their answers.
+// [5.120] [5.125] [5.130] [8.160] [8.162] [8.164] [21.110] Recorded steps from a fresh table, all lent one summary that is new at first.
+// The answer is that of `fresh`, the state and the summary those after the last step; the contract has the tally of the acts and their answers.
 pub fn run_recorded(
     n: u64,
     a: u64,

@@ -7,6 +7,7 @@ ghost use mathlib.Core.List.{[], _∷_};
 ghost use Rattle.model.specs.Encodings.{countsNumbers};
 ghost use Rattle.history.specs.Lists.{summaryOf};
 
+// [8.152]
 pub fn summary_in(counts: [u64; 5], tries: [u64; 96]) -> Statistics
     ensures { λ r. ⌜ r ≡ summaryOf counts tries ⌝ }
 {
@@ -22,6 +23,7 @@ pub fn summary_in(counts: [u64; 5], tries: [u64; 96]) -> Statistics
     }
 }
 
+// [8.152]
 pub fn tuple_of(counts: Counts) -> [u64; 5]
     ensures { λ r. ⌜ r ≡ countsNumbers counts ⌝ }
 {
@@ -34,6 +36,7 @@ pub fn tuple_of(counts: Counts) -> [u64; 5]
     ]
 }
 
+// [8.154]
 pub fn answer_row(answer: Answer) -> [u64; 3]
     ensures { λ r. ⌜ r ≡ answer .code ∷ answer .process ∷ answer .time ∷ [] ⌝ }
 {

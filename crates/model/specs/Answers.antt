@@ -71,7 +71,8 @@ criticalOf s = criticalFrom 1 (s .processes)
 abbrev pub accepts : State → Outcome
 accepts s = answers 0 (criticalOf s) (s .clock) s
 
--- [3.45] [4.80] [4.83] [4.110] [4.1] one condition a line; a refusal gives the state back
+-- [3.45] [4.80] [4.83] [4.110] [4.1] [4.4] [4.5] [4.6] [4.7] [4.8] [4.9] [4.10] one condition a line, with what the answer carries; a
+-- refusal gives the state back
 unfoldable pub stepOf : State → ℕ → ℕ → ℕ → Outcome
 stepOf s act p m =
     cond (not (soundOf s)) (answers 1 0 0 s)
@@ -88,7 +89,7 @@ stepOf s act p m =
 abbrev pub blank : State
 blank = initial 0 0 0 0
 
--- [2.65] [4.90] [4.11] [4.12] [4.70]
+-- [2.65] [4.90] [4.100] [4.11] [4.12] [4.70]
 unfoldable pub freshOf : ℕ → ℕ → ℕ → ℕ → Outcome
 freshOf n a b c =
     cond (not (countStands n)) (answers 11 0 0 blank)

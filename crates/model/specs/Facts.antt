@@ -13,7 +13,7 @@ use Rattle.model.specs.States.{limitOf, trying, entryOf}
 abbrev pub Accepted : Outcome → Type 0
 Accepted o = o .answer .code ≡ 0
 
--- [2.70] process i, from 1, is critical
+-- helper: process i, from 1, is critical
 pub record IsCritical (s : State) (i : ℕ) : Type 0 where
   pub from : 1 ≤ i
   pub at : entryOf s i .location ≡ Critical

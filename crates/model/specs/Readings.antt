@@ -54,7 +54,7 @@ abbrev pub opened : {A : Type 0} → Field → A → (ℕ → ℕ → A) → A
 opened Bad refusal next = refusal
 opened (Value v k) refusal next = next v k
 
--- [6.50] [6.80] [6.125] [4.14] the step at the start of a text, or the refusal of that line
+-- [6.50] [6.80] [6.125] [4.14] [21.100] the step at the start of a text, or the refusal of that line
 unfoldable pub eventAt : ℕ → List ℕ → Row
 eventAt line s =
     opened (numberAt timeBound comma s) (Unread 14 line) (λ time i.
@@ -62,7 +62,7 @@ eventAt line s =
     opened (wordAt (drop j (drop i s))) (Unread 14 line) (λ action k.
     Step time process action (i + j + k))))
 
--- [6.30] [6.80] [4.14] the values of line 2 at the start of a text
+-- [6.30] [6.80] [4.14] [21.100] the values of line 2 at the start of a text
 unfoldable pub valuesAt : List ℕ → Head
 valuesAt s =
     opened (numberAt numberBound comma s) (Refused 14 2) (λ n i.
@@ -83,7 +83,8 @@ afterValues text (Values n a b c k) =
     (cond (not (startsWith eventNames (drop (length valueNames + k) text))) (Refused 13 3)
     (Values n a b c (length valueNames + k + length eventNames))))
 
--- [6.90] [6.100] [6.15] [6.20] [4.13] [4.15] n, a, b, c and how many bytes the first three lines take, or the first refusal
+-- [6.90] [6.100] [6.110] [6.15] [6.20] [4.13] [4.15] [21.100] n, a, b, c and how many bytes the first three lines take, or the first
+-- refusal
 unfoldable pub headOf : List ℕ → Head
 headOf text =
     cond (ltb textLimit (length text)) (Refused 15 0)
@@ -119,7 +120,7 @@ pub data Trace : Type 0 where
   refused : ℕ → ℕ → Trace
   trace : ℕ → ℕ → ℕ → ℕ → List Event → Trace
 
--- [6.90] [4.14] n, a, b, c with the steps, or the refusal of a line
+-- [6.90] [6.110] [4.14] n, a, b, c with the steps, or the refusal of a line
 abbrev pub ofBody : ℕ → ℕ → ℕ → ℕ → Body → Trace
 ofBody n a b c body = cond (eqb (body .fault) 0) (trace n a b c (body .events)) (refused 14 (body .fault))
 
@@ -184,11 +185,11 @@ readGave r l = record { reading = r; kept = l }
 abbrev pub readingOf : ℕ → ℕ → ℕ → ℕ → ℕ → ℕ → Reading
 readingOf code time n a b c = record { answer = answerOf code 0 time; n = n; a = a; b = b; c = c }
 
--- [6.140] [6.110]
+-- [6.140] [6.110] [4.110]
 abbrev pub unread : ℕ → ℕ → Lists → Read
 unread code line l = readGave (readingOf code line 0 0 0 0) l
 
--- [6.90] [6.130] [6.133] [4.16] [4.70] 16 after all others; then the steps, and how many there are
+-- [6.90] [6.110] [6.130] [6.133] [4.16] [4.70] 16 after all others; then the steps, and how many there are
 abbrev pub into : Lists → Trace → Read
 into l (refused code line) = unread code line l
 into l (trace n a b c events) =

@@ -29,7 +29,7 @@ runText line s (e ∷ es) =
 abbrev pub faultLine : ℕ → ℕ → ℕ
 faultLine code line = cond (eqb code 11 || eqb code 12) 2 line
 
--- [7.30] [7.40] [7.25] what follows the first line
+-- [7.30] [7.40] [7.45] what follows the first line
 abbrev pub reportLines : Trace → List ℕ
 reportLines (refused code line) = valuesText (faultLine code line) code 0 0
 reportLines (trace n a b c events) = runText 4 (freshOf n a b c .state) events

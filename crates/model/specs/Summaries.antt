@@ -33,7 +33,7 @@ newStatistics = statisticsOf (countsOf 0 0 0 0 0) (replicate 96 0)
 
 -- Soundness. The sums are those of numbers without an end: none wraps.
 
--- [5.60] the most actions that a summary counts
+-- [5.40] [5.60] the most actions that a summary counts
 abbrev pub mostActs : ℕ
 mostActs = 1_000_000_000_000
 
@@ -106,7 +106,7 @@ beside x o = record { outcome = o; statistics = x }
 abbrev pub counting : Statistics → ℕ → ℕ → ℕ → Outcome → Recorded
 counting x act p m o = beside (noted x (o .answer .code) act p m) o
 
--- [5.30] [5.105] [5.110] [4.80] [4.110] one condition a line; 1, 2 and 3 give the summary back
+-- [5.30] [5.105] [5.110] [4.80] [4.110] [4.1] [4.2] [4.3] one condition a line; 1, 2 and 3 give the summary back
 unfoldable pub recordedOf : State → Statistics → ℕ → ℕ → ℕ → Recorded
 recordedOf s x act p m =
     cond (not (soundOf s)) (beside x (answers 1 0 0 s))

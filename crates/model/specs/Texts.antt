@@ -67,7 +67,7 @@ pub record Event : Type 0 where
 abbrev pub valueNames : List ℕ
 valueNames = bytes "windows,a,b,c\n"
 
--- [6.30] also a line of four numbers of a report
+-- [6.30] [7.25] four numbers on a line
 unfoldable pub valuesText : ℕ → ℕ → ℕ → ℕ → List ℕ
 valuesText n a b c = numberText comma n ++ (numberText comma a ++ (numberText comma b ++ numberText newline c))
 

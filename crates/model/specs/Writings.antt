@@ -41,7 +41,7 @@ pub record Written : Type 0 where
 abbrev pub writeGave : Answer → List ℕ → Written
 writeGave r out = record { answer = r; out = out }
 
--- [6.180]
+-- [6.180] [4.110]
 abbrev pub unwritten : ℕ → ℕ → List ℕ → Written
 unwritten code line out = writeGave (answerOf code 0 line) out
 
@@ -49,11 +49,11 @@ unwritten code line out = writeGave (answerOf code 0 line) out
 abbrev pub written : List ℕ → List ℕ → Written
 written text out = writeGave (answerOf 0 0 (length text)) (over text out)
 
--- [4.16] a text in an output that may be too short for it
+-- [4.16] [4.110] a text in an output that may be too short for it
 unfoldable pub fitted : List ℕ → List ℕ → Written
 fitted text out = cond (ltb (length out) (length text)) (unwritten 16 0 out) (written text out)
 
--- [6.170] [6.153] [6.180] one condition a line
+-- [6.170] [6.153] [6.180] [4.11] [4.12] [4.14] [4.15] one condition a line
 unfoldable pub writeOf : ℕ → ℕ → ℕ → ℕ → List Event → List ℕ → Written
 writeOf n a b c events out =
     cond (not (countStands n)) (unwritten 11 0 out)

@@ -1,5 +1,5 @@
 // The declared types of the lock. What they mean, and every definition that a contract cites, stands in `specs/`,
-// one to three files for each section of the specification; this crate has no function.
+// one to three files for each of sections 2 to 9 of the specification; this crate has no function.
 
 // [2.70] [2.80] [21.20] Where a process is; the timed locations carry the time since which it is there.
 pub enum Location {
@@ -66,7 +66,7 @@ pub enum Row {
     Unread(u64, u64),
 }
 
-// [6.90] [21.100] The first lines of a trace: n, a, b, c, and how many bytes they take; or a refusal's code and line.
+// [6.20] [6.30] [6.40] [21.100] The first lines of a trace: n, a, b, c, and how many bytes they take; or a refusal's code and line.
 pub enum Head {
     Values(u64, u64, u64, u64, usize),
     Refused(u64, u64),

@@ -75,7 +75,7 @@ fn put_run(out: &mut [u8], first: State, times: &[u64], processes: &[u64], actio
     size
 }
 
-// [7.20] [7.30] [7.40] Puts the report, as much of it as there is room for, and answers how many bytes it has.
+// [7.20] [7.30] [7.40] [7.45] Puts the report, as much of it as there is room for, and answers how many bytes it has.
 fn put_report(text: &[u8], out: &mut [u8]) -> usize
     ensures { λ r. ⌜ Put (now (out .entry)) (now (out .exit)) 0 (reportText (now (text .entry))) r ⌝ }
     ensures { λ r. ⌜ r ≤ 687734 ⌝ }

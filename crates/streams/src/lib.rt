@@ -119,7 +119,7 @@ pub fn read_text(fd: i32, text: &mut [u8]) -> Input
     }
 }
 
-// [7.15] Puts the report of a text into an output with room for any, and answers how many bytes it has.
+// [7.10] [7.55] Puts the report of a text into an output with room for any, and answers how many bytes it has.
 fn render(text: &[u8], out: &mut [u8]) -> usize
     requires { ⌜ length (now out) ≡ 687734 ⌝ }
     ensures { λ r. ⌜ Counts r (now (out .exit)) ⌝ }

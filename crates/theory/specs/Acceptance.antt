@@ -54,7 +54,7 @@ pub data Effect (p m : ℕ) : ℕ → ℕ → Location → ℕ → Type 0 where
   -- [3.8]
   rem : {w : ℕ} → Effect p m 8 w Remainder w
 
--- [3.0] a wait, which is of no process
+-- [3.0] [3.80] a wait, which is of no process
 pub record Waits (act p : ℕ) : Type 0 where
   pub wait : act ≡ 0
   pub nobody : p ≡ 0

@@ -56,6 +56,6 @@ pub record RecordedTells (s : State) (x : Statistics) (act p m : ℕ) (r : Recor
   -- [5.70] [5.80] [5.90] an accepted act is counted
   pub accepted : r .outcome .answer .code ≡ 0 → r .statistics ≡ acceptedCounted x act p m
 
--- [5.30] [5.100] [5.110] of any table and any summary, sound or not
+-- [5.30] [5.70] [5.80] [5.90] [5.100] [5.105] [5.110] of any table and any summary, sound or not
 abbrev pub RecordedIsPlain : Type 0
 RecordedIsPlain = (s : State) (x : Statistics) (act p m : ℕ) → RecordedTells s x act p m (recordedOf s x act p m)

@@ -35,7 +35,7 @@ logFrom log r (e ∷ es) = logFrom (attemptOf e (recordNext r e) ∷ log) (recor
 
 -- [5.120] [5.125] [5.130] what the last step left, beside the log of all
 pub record Tallied (log : List Attempt) (r : Recorded) : Type 0 where
-  -- [5.120]
+  -- [5.120] [5.125]
   pub counts : r .statistics .counts ≡ tallyOf log
   -- [5.130]
   pub balance : r .statistics .counts .entries ≡ r .statistics .counts .exits + criticalCount (r .outcome .state .processes)

@@ -46,7 +46,7 @@ fn put_digits(out: &mut [u8], at: usize, v: u64) -> usize
     k + 1
 }
 
-// A number and the byte that ends it.
+// [6.60] A number and the byte that ends it.
 pub fn put_number(out: &mut [u8], at: usize, v: u64, end: u8) -> usize
     ensures { λ r. ⌜ Put (now (out .entry)) (now (out .exit)) at (numberText end v) r ⌝ }
 {

@@ -13,7 +13,7 @@ ghost use Rattle.model.specs.Writings.{eventsOf, formlessOf};
 ghost use Rattle.trace.specs.Puts.{Put};
 ghost use Rattle.trace.specs.Passes.{PutSized};
 
-// [4.15] How many bytes a text has; or that they are more than 65,536.
+// [4.15] [21.100] How many bytes a text has; or that they are more than 65,536.
 pub(crate) enum Size {
     Bytes(usize),
     Long,
