@@ -7,7 +7,7 @@ from traceability import BEGIN, END, PROPERTIES, SPECIFICATION
 
 ANSWERS = "crates/model/specs/Answers.antt"
 WHOLES = "crates/grammar/specs/Wholes.antt"
-STEP = "crates/fischer/src/lib.rt"
+STEP = "crates/machine/src/lib.rt"
 PUTS = "crates/trace/specs/Puts.antt"
 NEW = "\n- [2.55] **New.**\n- [2.60] "
 STALE = "the table is not the one"

@@ -2,6 +2,6 @@
 fn main() {
     let case = workload::chosen();
     // a wait at the clock's own time, which changes nothing
-    let first = fischer::step(workload::state_of(case), 0, 0, 0);
+    let first = machine::step(workload::state_of(case), 0, 0, 0);
     workload::run(case, first.state);
 }

@@ -104,7 +104,7 @@ pub fn call(state: State, row: Row) -> Outcome
     ensures { λ r. ⌜ r ≡ outcomeOf state row ⌝ }
 {
     if row[0] == 0 {
-        return fischer::fresh(row[1], row[2], row[3], row[4]);
+        return machine::fresh(row[1], row[2], row[3], row[4]);
     }
-    fischer::step(state, row[1], row[2], row[3])
+    machine::step(state, row[1], row[2], row[3])
 }

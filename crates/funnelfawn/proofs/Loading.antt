@@ -18,10 +18,10 @@ use Rattle.model.specs.States.{idle, stageOf, limitOf, entrySound, entriesSound
 use Rattle.model.specs.Encodings.{headerLength, stride, tableLength, processesIn, stateIn, isEntry, areEntries}
 use Rattle.model.proofs.Lists.{drop-at, drop-end}
 use Rattle.model.proofs.Tests.{tests, if-eq, by-cond}
-use Rattle.fischer.specs.declared.limits.Numbers.{Numbers}
-use Rattle.fischer.specs.Survey.{numbersOf, bare, numbersStand}
-use Rattle.fischer.proofs.Pass.{sound-parts}
-use Rattle.fischer.proofs.Entries.{idle-sound}
+use Rattle.machine.specs.declared.limits.Numbers.{Numbers}
+use Rattle.machine.specs.Survey.{numbersOf, bare, numbersStand}
+use Rattle.machine.proofs.Pass.{sound-parts}
+use Rattle.machine.proofs.Entries.{idle-sound}
 use Rattle.funnelfawn.specs.Loading.{areIdle, Loads}
 use Rattle.funnelfawn.proofs.Lists.{fill-at}
 

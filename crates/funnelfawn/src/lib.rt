@@ -5,9 +5,9 @@ mod tables;
 
 use crate::summaries::SUMMARY;
 use crate::tables::TABLE;
-use fischer::answers::answer_with;
-use fischer::fresh;
-use fischer::step;
+use machine::answers::answer_with;
+use machine::fresh;
+use machine::step;
 use model::Answer;
 use model::Reading;
 use report::report;

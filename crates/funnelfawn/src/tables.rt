@@ -1,13 +1,13 @@
 // A table of windows in lent numbers: n, a, b, c, clock, word, and then of each window its place and its arrival. A table is read
 // whole, for `step` takes it by value; of an accepted act only what may have changed is written.
-use fischer::limits::Numbers;
-use fischer::limits::numbers_stand;
-use fischer::stages::LEAVING;
-use fischer::stages::REMAINDER;
-use fischer::stages::location_at;
-use fischer::stages::since_of;
-use fischer::stages::stage_of;
-use fischer::survey::entry_stands;
+use machine::limits::Numbers;
+use machine::limits::numbers_stand;
+use machine::stages::LEAVING;
+use machine::stages::REMAINDER;
+use machine::stages::location_at;
+use machine::stages::since_of;
+use machine::stages::stage_of;
+use machine::survey::entry_stands;
 use model::Location;
 use model::Process;
 use model::State;
@@ -19,7 +19,7 @@ ghost use lib.Dec.{eqb};
 ghost use Rattle.model.specs.Stages.{remainder};
 ghost use Rattle.model.specs.States.{entrySound, locationAt};
 ghost use Rattle.model.specs.Encodings.{headerLength, stride, tableLength, isEntry, stateIn, stateNumbers};
-ghost use Rattle.fischer.specs.Survey.{bare, numbersOf};
+ghost use Rattle.machine.specs.Survey.{bare, numbersOf};
 ghost use Rattle.funnelfawn.specs.Loading.{areIdle, Loads, placedAt, stored};
 
 // [9.10] the numbers before the entries

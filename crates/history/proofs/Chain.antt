@@ -26,8 +26,8 @@ use Rattle.theory.specs.Demand3.{Demand3}
 use Rattle.theory.specs.Tallies.{recordNext, recordAll, attemptOf, logFrom, Tallied, startOf}
 use Rattle.theory.proofs.Demand3.{every-list}
 use Rattle.theory.proofs.Tallies.{every-tally}
-use Rattle.fischer.proofs.fresh.Reads as fresh-reads
-use Rattle.fischer.proofs.step.Reads as step-reads
+use Rattle.machine.proofs.fresh.Reads as fresh-reads
+use Rattle.machine.proofs.step.Reads as step-reads
 use Rattle.statistics.proofs.record.Reads as record-reads
 use Rattle.statistics.proofs.record_step as record-step
 

@@ -4,3 +4,5 @@ pub mod Locations
 pub mod Soundness
 pub mod Given
 pub mod Encodings
+pub mod Folds
+pub mod Rows

@@ -14,8 +14,8 @@ use Rattle.model.proofs.Tests.{by-test, and-true-iff, tests}
 use Rattle.model.proofs.Locations.{stage-location}
 
 pub record SoundNumbers (s : State) : Type 0 where
-  pub count : s .n ≤ 96
-  pub limit : s .b ≤ 10_000_000
+  pub count : s .parameters .n ≤ 96
+  pub limit : s .parameters .b ≤ 10_000_000
   pub clock : s .clock ≤ lastTime
 
 pub sound-numbers : (s : State) → soundOf s ≡ true → SoundNumbers s
@@ -26,7 +26,7 @@ sound-numbers s e = omega (arith, simp tests at e)
 entry-past : (s : State) (i : ℕ) (q : Process) → entrySound s i q ≡ true → sinceOf (q .location) ≤ s .clock
 entry-past s i q e =
     let h = simp tests at e in
-    by-test (leb i (s .n)) (λ t. h .0 (leb-true _ _ t) .0)
+    by-test (leb i (s .parameters .n)) (λ t. h .0 (leb-true _ _ t) .0)
     (λ t. omega (arith, ap sinceOf (stage-location (q .location) (h .1 (leb-false _ _ t)))))
 
 entries-past : (s : State) (i : ℕ) (qs : List Process) → entriesSound s i qs ≡ true

@@ -10,7 +10,8 @@ use Rattle.model.specs.declared.Location.the-variants.{Remainder, Testin
 use Rattle.model.specs.declared.Process.{Process}
 use Rattle.model.specs.declared.State.{State}
 use Rattle.model.specs.declared.Transition.{Transition}
-use Rattle.model.specs.Stages.{remainder, testing, setting, checking, entering, critical, resetting, leaving}
+use Rattle.model.specs.Acts.{waitAct, tryAct, testAct, setAct, checkAct, critAct, exitAct, resetAct, remAct, leaves}
+use Rattle.model.specs.States.{entry}
 
 -- The table, row by row
 
@@ -20,7 +21,7 @@ row from to word = record { from = from; to = to; word = word }
 
 -- [3.1] [3.60]
 abbrev pub tryRow : State → ℕ → ℕ → Transition
-tryRow s p m = row remainder (Testing m) (s .word)
+tryRow s p m = row (leaves tryAct) (Testing m) (s .word)
 
 -- [3.2] [3.60] where it leads
 abbrev pub afterTest : ℕ → ℕ → Location
@@ -28,11 +29,11 @@ afterTest word m = cond (eqb word 0) (Setting m) (Testing m)
 
 -- [3.2]
 abbrev pub testRow : State → ℕ → ℕ → Transition
-testRow s p m = row testing (afterTest (s .word) m) (s .word)
+testRow s p m = row (leaves testAct) (afterTest (s .word) m) (s .word)
 
 -- [3.3] [3.60]
 abbrev pub setRow : State → ℕ → ℕ → Transition
-setRow s p m = row setting (Checking m) p
+setRow s p m = row (leaves setAct) (Checking m) p
 
 -- [3.4] [3.60] where it leads
 abbrev pub afterCheck : ℕ → ℕ → ℕ → Location
@@ -40,41 +41,41 @@ afterCheck word p m = cond (eqb word p) (Entering m) (Testing m)
 
 -- [3.4]
 abbrev pub checkRow : State → ℕ → ℕ → Transition
-checkRow s p m = row checking (afterCheck (s .word) p m) (s .word)
+checkRow s p m = row (leaves checkAct) (afterCheck (s .word) p m) (s .word)
 
 -- [3.5]
 abbrev pub critRow : State → ℕ → ℕ → Transition
-critRow s p m = row entering Critical (s .word)
+critRow s p m = row (leaves critAct) Critical (s .word)
 
 -- [3.6] [3.60]
 abbrev pub exitRow : State → ℕ → ℕ → Transition
-exitRow s p m = row critical (Resetting m) (s .word)
+exitRow s p m = row (leaves exitAct) (Resetting m) (s .word)
 
 -- [3.7] [3.60]
 abbrev pub resetRow : State → ℕ → ℕ → Transition
-resetRow s p m = row resetting (Leaving m) 0
+resetRow s p m = row (leaves resetAct) (Leaving m) 0
 
 -- [3.8]
 abbrev pub remRow : State → ℕ → ℕ → Transition
-remRow s p m = row leaving Remainder (s .word)
+remRow s p m = row (leaves remAct) Remainder (s .word)
 
 -- [3.40] the row of an action from 1 to 8
 unfoldable pub transitionOf : State → ℕ → ℕ → ℕ → Transition
 transitionOf s act p m =
-    cond (eqb act 1) (tryRow s p m)
-    (cond (eqb act 2) (testRow s p m)
-    (cond (eqb act 3) (setRow s p m)
-    (cond (eqb act 4) (checkRow s p m)
-    (cond (eqb act 5) (critRow s p m)
-    (cond (eqb act 6) (exitRow s p m)
-    (cond (eqb act 7) (resetRow s p m)
+    cond (eqb act tryAct) (tryRow s p m)
+    (cond (eqb act testAct) (testRow s p m)
+    (cond (eqb act setAct) (setRow s p m)
+    (cond (eqb act checkAct) (checkRow s p m)
+    (cond (eqb act critAct) (critRow s p m)
+    (cond (eqb act exitAct) (exitRow s p m)
+    (cond (eqb act resetAct) (resetRow s p m)
     (remRow s p m)))))))
 
 -- What an accepted action makes of the state
 
 -- [3.50] [3.70] the state at the time m, with another word and other entries
 abbrev pub changed : State → ℕ → ℕ → List Process → State
-changed s m w qs = record { n = s .n; a = s .a; b = s .b; c = s .c; clock = m; word = w; processes = qs }
+changed s m w qs = record { parameters = s .parameters; clock = m; word = w; processes = qs }
 
 -- [3.0]
 abbrev pub waited : State → ℕ → State
@@ -82,7 +83,7 @@ waited s m = changed s m (s .word) (s .processes)
 
 -- [3.70] the entries with process p in another location
 abbrev pub placed : State → ℕ → Location → List Process
-placed s p l = set (s .processes) (p - 1) (record { location = l })
+placed s p l = set (s .processes) (p - 1) (entry l)
 
 -- [3.70] the state after the row t of process p
 abbrev pub moved : State → ℕ → ℕ → Transition → State
@@ -90,4 +91,4 @@ moved s p m t = changed s m (t .word) (placed s p (t .to))
 
 -- [3.70] the state after an accepted action
 unfoldable pub effect : State → ℕ → ℕ → ℕ → State
-effect s act p m = cond (eqb act 0) (waited s m) (moved s p m (transitionOf s act p m))
+effect s act p m = cond (eqb act waitAct) (waited s m) (moved s p m (transitionOf s act p m))

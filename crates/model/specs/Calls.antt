@@ -2,13 +2,14 @@
 -- Assumes nothing.
 use Prim.Native.Nat.{ℕ}
 use mathlib.Core.Bool.{Bool, cond}
-use mathlib.Core.List.{List, [], _∷_}
+use mathlib.Core.List.{List}
 use Rattle.model.specs.declared.State.{State}
 use Rattle.model.specs.declared.Outcome.{Outcome}
 use Rattle.model.specs.declared.Statistics.{Statistics}
 use Rattle.model.specs.declared.Recorded.{Recorded}
 use Rattle.model.specs.Answers.{stepOf}
 use Rattle.model.specs.Summaries.{beside, recordedOf}
+use Rattle.model.specs.Folds.{endBy, resultsBy}
 
 -- [8.20] [8.30] A step without a summary has one too, and leaves it alone.
 pub record Call : Type 0 where
@@ -32,12 +33,14 @@ outcomeOf s d = callOf s d .outcome
 abbrev pub tableOf : State → Call → State
 tableOf s d = outcomeOf s d .state
 
+-- helper: the state that a call hands on to the next
+abbrev pub handedOn : Recorded → State
+handedOn r = r .outcome .state
+
 -- [8.50] the plain state after a list
-unfoldable pub runOf : State → List Call → State
-runOf s [] = s
-runOf s (d ∷ ds) = runOf (tableOf s d) ds
+abbrev pub runOf : State → List Call → State
+runOf s ds = endBy callOf handedOn s ds
 
 -- [8.55] what each call of a list gives back, judged in the plain state
-unfoldable pub resultsOf : State → List Call → List Recorded
-resultsOf s [] = []
-resultsOf s (d ∷ ds) = callOf s d ∷ resultsOf (tableOf s d) ds
+abbrev pub resultsOf : State → List Call → List Recorded
+resultsOf s ds = resultsBy callOf handedOn s ds

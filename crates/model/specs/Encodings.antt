@@ -6,12 +6,14 @@ use mathlib.Core.List.{List, [], _∷_, _++_}
 use lib.ListN.{length, getD, take, drop}
 use lib.Dec.{leb, eqb}
 use Rattle.model.specs.declared.Process.{Process}
+use Rattle.model.specs.declared.Parameters.{Parameters}
 use Rattle.model.specs.declared.State.{State}
 use Rattle.model.specs.declared.Counts.{Counts}
 use Rattle.model.specs.declared.Statistics.{Statistics}
 use Rattle.model.specs.Stages.{leaving}
-use Rattle.model.specs.States.{stageOf, sinceOf, soundOf, locationAt}
+use Rattle.model.specs.States.{entry, stageOf, sinceOf, soundOf, locationAt}
 use Rattle.model.specs.Summaries.{countsOf, statisticsOf}
+use Rattle.model.specs.Readings.{parametersIn}
 
 -- A table, the numbers of a state
 
@@ -27,7 +29,7 @@ stride = 2
 abbrev pub tableLength : ℕ
 tableLength = headerLength + stride * 96
 
--- [9.10] where the clock stands
+-- [9.10] where the clock stands, after the parameters
 abbrev pub clockPlace : ℕ
 clockPlace = 4
 
@@ -40,9 +42,13 @@ unfoldable pub processNumbers : List Process → List ℕ
 processNumbers [] = []
 processNumbers (q ∷ qs) = stageOf (q .location) ∷ sinceOf (q .location) ∷ processNumbers qs
 
+-- [9.10] the numbers of the parameters
+abbrev pub parametersNumbers : Parameters → List ℕ
+parametersNumbers k = k .n ∷ k .a ∷ k .b ∷ k .c ∷ []
+
 -- [9.10]
 unfoldable pub stateNumbers : State → List ℕ
-stateNumbers s = s .n ∷ s .a ∷ s .b ∷ s .c ∷ s .clock ∷ s .word ∷ processNumbers (s .processes)
+stateNumbers s = parametersNumbers (s .parameters) ++ (s .clock ∷ s .word ∷ processNumbers (s .processes))
 
 -- The state that numbers tell
 
@@ -50,16 +56,13 @@ stateNumbers s = s .n ∷ s .a ∷ s .b ∷ s .c ∷ s .clock ∷ s .word ∷ pr
 unfoldable pub processesIn : List ℕ → List Process
 processesIn [] = []
 processesIn (stage ∷ []) = []
-processesIn (stage ∷ since ∷ rest) = record { location = locationAt stage since } ∷ processesIn rest
+processesIn (stage ∷ since ∷ rest) = entry (locationAt stage since) ∷ processesIn rest
 
 -- [9.10] of just the numbers of a table
 unfoldable pub stateIn : List ℕ → State
 stateIn l =
     record {
-      n = getD l 0 0;
-      a = getD l 1 0;
-      b = getD l 2 0;
-      c = getD l 3 0;
+      parameters = parametersIn l;
       clock = getD l clockPlace 0;
       word = getD l wordPlace 0;
       processes = processesIn (drop headerLength l);

@@ -44,4 +44,4 @@ pub data Deadline (a c : ℕ) : Location → ℕ → Type 0 where
 -- [2.90] process i, from 1, has the deadline d
 pub record HasDeadline (s : State) (i d : ℕ) : Type 0 where
   pub from : 1 ≤ i
-  pub is : Deadline (limitOf s i) (s .c) (entryOf s i .location) d
+  pub is : Deadline (limitOf s i) (s .parameters .c) (entryOf s i .location) d

@@ -1,11 +1,14 @@
 pub mod Stages
+pub mod Acts
 pub mod States
 pub mod Actions
 pub mod Answers
 pub mod Facts
+pub mod Folds
 pub mod Texts
 pub mod Readings
 pub mod Writings
+pub mod Executions
 pub mod Reports
 pub mod Summaries
 pub mod Calls

@@ -1,14 +1,12 @@
 -- Section 7 of the specification: what `replay` prints, and `reportOf`, all that a report gives back. Assumes nothing.
 use Prim.Native.Nat.{ℕ, _+_}
-use mathlib.Core.Bool.{cond, _||_}
 use mathlib.Core.List.{List, [], _∷_, _++_}
-use lib.Dec.{eqb}
-use Rattle.model.specs.declared.State.{State}
 use Rattle.model.specs.declared.Answer.{Answer}
-use Rattle.model.specs.Answers.{stepOf, freshOf}
-use Rattle.model.specs.Texts.{bytes, Event, valuesText}
+use Rattle.model.specs.Answers.{answerNumbers}
+use Rattle.model.specs.Texts.{bytes, numbersText}
 use Rattle.model.specs.Readings.{Trace, refused, trace, traceOf}
 use Rattle.model.specs.Writings.{Written, fitted}
+use Rattle.model.specs.Executions.{answersFrom}
 
 -- [7.20]
 abbrev pub answerNames : List ℕ
@@ -16,23 +14,17 @@ answerNames = bytes "line,answer,window,moment\n"
 
 -- [7.40] [7.25] the line for a step
 abbrev pub answerText : ℕ → Answer → List ℕ
-answerText line r = valuesText line (r .code) (r .process) (r .time)
+answerText line r = numbersText line (answerNumbers r)
 
--- [7.40] [7.45] the lines for the steps from a state on
-unfoldable pub runText : ℕ → State → List Event → List ℕ
-runText line s [] = []
-runText line s (e ∷ es) =
-    answerText line (stepOf s (e .action) (e .process) (e .time) .answer)
-    ++ runText (line + 1) (stepOf s (e .action) (e .process) (e .time) .state) es
+-- [7.40] the lines for the answers to steps of which the first has this line
+unfoldable pub answersText : ℕ → List Answer → List ℕ
+answersText line [] = []
+answersText line (r ∷ rs) = answerText line r ++ answersText (line + 1) rs
 
--- [7.35]
-abbrev pub faultLine : ℕ → ℕ → ℕ
-faultLine code line = cond (eqb code 11 || eqb code 12) 2 line
-
--- [7.30] [7.40] [7.45] what follows the first line
+-- [7.30] [7.35] [7.40] [7.45] what follows the first line
 abbrev pub reportLines : Trace → List ℕ
-reportLines (refused code line) = valuesText (faultLine code line) code 0 0
-reportLines (trace n a b c events) = runText 4 (freshOf n a b c .state) events
+reportLines (refused code line) = numbersText line (code ∷ 0 ∷ 0 ∷ [])
+reportLines (trace line k events) = answersText line (answersFrom k events)
 
 -- [7.15] [7.20] the whole report
 unfoldable pub reportText : List ℕ → List ℕ

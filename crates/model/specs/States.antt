@@ -8,18 +8,33 @@ use lib.Dec.{leb, ltb, eqb}
 use Rattle.model.specs.declared.Location.{Location}
 use Rattle.model.specs.declared.Location.the-variants.{Remainder, Testing, Setting, Checking, Entering, Critical, Resetting, Leaving}
 use Rattle.model.specs.declared.Process.{Process}
+use Rattle.model.specs.declared.Parameters.{Parameters}
 use Rattle.model.specs.declared.State.{State}
 use Rattle.model.specs.Stages.{remainder, testing, setting, checking, entering, critical, resetting, leaving}
 
--- Numbers
+-- Parameters
+
+-- [2.10] of the numbers
+abbrev pub parametersOf : ℕ → ℕ → ℕ → ℕ → Parameters
+parametersOf n a b c = record { n = n; a = a; b = b; c = c }
+
+-- [4.100] [6.140] all of them 0, where there are none
+abbrev pub noParameters : Parameters
+noParameters = parametersOf 0 0 0 0
 
 -- [2.20]
-abbrev pub countStands : ℕ → Bool
-countStands n = leb 1 n && leb n 96
+abbrev pub countStands : Parameters → Bool
+countStands k = leb 1 (k .n) && leb (k .n) 96
 
 -- [2.30]
-abbrev pub limitsStand : ℕ → ℕ → ℕ → Bool
-limitsStand a b c = leb 1 a && ltb a b && leb b c && leb c 10_000_000
+abbrev pub limitsStand : Parameters → Bool
+limitsStand k = leb 1 (k .a) && ltb (k .a) (k .b) && leb (k .b) (k .c) && leb (k .c) 10_000_000
+
+-- [2.20] [2.30] both
+abbrev pub parametersStand : Parameters → Bool
+parametersStand k = countStands k && limitsStand k
+
+-- Numbers
 
 -- [2.40] the clock's end
 abbrev pub lastTime : ℕ
@@ -33,13 +48,17 @@ clockStands t = leb t lastTime
 abbrev pub wordStands : ℕ → ℕ → Bool
 wordStands n w = leb w n
 
+-- [2.10] the entry of a process that has come to a location
+abbrev pub entry : Location → Process
+entry l = record { location = l }
+
 -- [2.60] an entry in the remainder
 abbrev pub idle : Process
-idle = record { location = Remainder }
+idle = entry Remainder
 
--- [2.60] a fresh state, with any numbers for n, a, b, c
-abbrev pub initial : ℕ → ℕ → ℕ → ℕ → State
-initial n a b c = record { n = n; a = a; b = b; c = c; clock = 0; word = 0; processes = replicate 96 idle }
+-- [2.60] a fresh state, with any parameters
+abbrev pub initial : Parameters → State
+initial k = record { parameters = k; clock = 0; word = 0; processes = replicate 96 idle }
 
 -- Locations
 
@@ -79,8 +98,12 @@ sinceOf (Leaving t) = t
 -- Times: process i has the entry q
 
 -- [2.90] the bound a of process i
-unfoldable pub limitOf : State → ℕ → ℕ
-limitOf s i = s .a
+unfoldable pub limitIn : Parameters → ℕ → ℕ
+limitIn k i = k .a
+
+-- [2.90] in a state
+abbrev pub limitOf : State → ℕ → ℕ
+limitOf s i = limitIn (s .parameters) i
 
 -- [2.90] whether an entry has a deadline
 abbrev pub bounded : State → Process → Bool
@@ -88,11 +111,11 @@ bounded s q = timed (q .location)
 
 -- [2.90] [2.95] the deadline of an entry that has one
 abbrev pub deadline : State → ℕ → Process → ℕ
-deadline s i q = sinceOf (q .location) + cond (eqb (stageOf (q .location)) checking) (s .c) (limitOf s i)
+deadline s i q = sinceOf (q .location) + cond (eqb (stageOf (q .location)) checking) (s .parameters .c) (limitOf s i)
 
 -- [2.100]
 abbrev pub release : State → Process → ℕ
-release s q = sinceOf (q .location) + cond (eqb (stageOf (q .location)) checking) (s .b) 0
+release s q = sinceOf (q .location) + cond (eqb (stageOf (q .location)) checking) (s .parameters .b) 0
 
 -- [4.8] [2.120] the deadline, if there is one, is before the time m
 abbrev pub late : State → ℕ → ℕ → Process → Bool
@@ -114,7 +137,7 @@ trying (Leaving t) = false
 -- [2.120] of the entry q of process i
 abbrev pub entrySound : State → ℕ → Process → Bool
 entrySound s i q =
-    cond (leb i (s .n)) (leb (sinceOf (q .location)) (s .clock) && not (late s (s .clock) i q))
+    cond (leb i (s .parameters .n)) (leb (sinceOf (q .location)) (s .clock) && not (late s (s .clock) i q))
     (eqb (stageOf (q .location)) remainder)
 
 -- [2.120] of the entries from process i on
@@ -122,10 +145,10 @@ unfoldable pub entriesSound : State → ℕ → List Process → Bool
 entriesSound s i [] = true
 entriesSound s i (q ∷ qs) = entrySound s i q && entriesSound s (i + 1) qs
 
--- [2.120] [2.130] the numbers in the order of their clauses, the entries, and no more
+-- [2.120] [2.130] parameters, clock and word in the order of their clauses, the entries, and no more
 unfoldable pub soundOf : State → Bool
 soundOf s =
-    countStands (s .n) && limitsStand (s .a) (s .b) (s .c) && clockStands (s .clock) && wordStands (s .n) (s .word)
+    parametersStand (s .parameters) && clockStands (s .clock) && wordStands (s .parameters .n) (s .word)
     && entriesSound s 1 (s .processes)
 
 -- Entries

@@ -10,6 +10,7 @@ use Rattle.model.specs.declared.Outcome.{Outcome}
 use Rattle.model.specs.declared.Counts.{Counts}
 use Rattle.model.specs.declared.Statistics.{Statistics}
 use Rattle.model.specs.declared.Recorded.{Recorded}
+use Rattle.model.specs.Acts.{tryAct, critAct, exitAct}
 use Rattle.model.specs.States.{lastTime, soundOf}
 use Rattle.model.specs.Answers.{answers, stepOf}
 
@@ -74,15 +75,19 @@ oneExit k = countsOf (k .accepted + 1) (k .refused) (k .entries) (k .exits + 1) 
 
 -- [5.70] [5.90] the counts after an accepted action at the time m of a process with the try time `tried`
 abbrev pub countsAfter : Counts → ℕ → ℕ → ℕ → Counts
-countsAfter k act m tried = cond (eqb act 5) (oneEntry k (m - tried)) (cond (eqb act 6) (oneExit k) (oneAccepted k))
+countsAfter k act m tried = cond (eqb act critAct) (oneEntry k (m - tried)) (cond (eqb act exitAct) (oneExit k) (oneAccepted k))
 
 -- [5.10] the try time of process p
 abbrev pub triedAt : Statistics → ℕ → ℕ
 triedAt x p = getD (x .tries) (p - 1) 0
 
--- [5.80]
+-- [5.80] the try time of the acting process after its action
+abbrev pub triedAfter : ℕ → ℕ → ℕ → ℕ
+triedAfter tried act m = cond (eqb act tryAct) m (cond (eqb act critAct) 0 tried)
+
+-- [5.80] the try times after an action of process p; a wait is of process 0, and changes none
 abbrev pub triesAfter : List ℕ → ℕ → ℕ → ℕ → List ℕ
-triesAfter l act p m = cond (eqb act 1) (set l (p - 1) m) (cond (eqb act 5) (set l (p - 1) 0) l)
+triesAfter l act p m = set l (p - 1) (triedAfter (getD l (p - 1) 0) act m)
 
 -- [5.70] [5.80] [5.90] the summary after an accepted action
 unfoldable pub acceptedCounted : Statistics → ℕ → ℕ → ℕ → Statistics

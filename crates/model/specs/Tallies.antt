@@ -6,6 +6,7 @@ use mathlib.Core.List.{List, [], _∷_}
 use lib.Dec.{leb, eqb}
 use Rattle.model.specs.declared.Counts.{Counts}
 use Rattle.model.specs.declared.Process.{Process}
+use Rattle.model.specs.Acts.{tryAct, critAct, exitAct}
 use Rattle.model.specs.Stages.{critical}
 use Rattle.model.specs.States.{stageOf}
 use Rattle.model.specs.Summaries.{countsOf}
@@ -33,15 +34,15 @@ isRefused e = leb 4 (e .code) && leb (e .code) 10
 
 -- [5.125] an accepted try of process p
 abbrev pub isTry : ℕ → Attempt → Bool
-isTry p e = isAccepted e && eqb (e .action) 1 && eqb (e .process) p
+isTry p e = isAccepted e && eqb (e .action) tryAct && eqb (e .process) p
 
 -- [5.120] an accepted crit
 abbrev pub isEntry : Attempt → Bool
-isEntry e = isAccepted e && eqb (e .action) 5
+isEntry e = isAccepted e && eqb (e .action) critAct
 
 -- [5.120] an accepted exit
 abbrev pub isExit : Attempt → Bool
-isExit e = isAccepted e && eqb (e .action) 6
+isExit e = isAccepted e && eqb (e .action) exitAct
 
 -- The tally of a log, which has the last attempt first
 

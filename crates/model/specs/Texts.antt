@@ -7,6 +7,7 @@ use mathlib.Core.Bool.{Bool, true, false, _&&_}
 use mathlib.Core.List.{List, [], _∷_, _++_}
 use lib.Dec.{ltb}
 use lib.ListN.{length, getD}
+use Rattle.model.specs.declared.Parameters.{Parameters}
 
 -- [6.10] the bytes of a quoted text, in ASCII
 abbrev pub bytes : String → List ℕ
@@ -63,13 +64,22 @@ pub record Event : Type 0 where
   pub process : ℕ
   pub action : ℕ
 
+-- helper: of its parts
+abbrev pub event : ℕ → ℕ → ℕ → Event
+event time process action = record { time = time; process = process; action = action }
+
+-- [6.30] [7.25] a line of numbers, v and then the others, with commas between them
+unfoldable pub numbersText : ℕ → List ℕ → List ℕ
+numbersText v [] = numberText newline v
+numbersText v (w ∷ ws) = numberText comma v ++ numbersText w ws
+
 -- [6.20]
 abbrev pub valueNames : List ℕ
 valueNames = bytes "windows,a,b,c\n"
 
--- [6.30] [7.25] four numbers on a line
-unfoldable pub valuesText : ℕ → ℕ → ℕ → ℕ → List ℕ
-valuesText n a b c = numberText comma n ++ (numberText comma a ++ (numberText comma b ++ numberText newline c))
+-- [6.30]
+unfoldable pub valuesText : Parameters → List ℕ
+valuesText k = numbersText (k .n) (k .a ∷ k .b ∷ k .c ∷ [])
 
 -- [6.40]
 abbrev pub eventNames : List ℕ
@@ -81,9 +91,13 @@ eventText e = numberText comma (e .time) ++ (numberText comma (e .process) ++ wo
 
 -- Whole texts
 
--- [6.20] [6.30] [6.40] the first three lines
-unfoldable pub headText : ℕ → ℕ → ℕ → ℕ → List ℕ
-headText n a b c = valueNames ++ (valuesText n a b c ++ eventNames)
+-- [6.20] [6.30] [6.40] the first lines
+unfoldable pub headText : Parameters → List ℕ
+headText k = valueNames ++ (valuesText k ++ eventNames)
+
+-- [6.50] the line of the first step, after the first lines
+unfoldable pub firstLine : Parameters → ℕ
+firstLine k = 4
 
 -- [6.50] the lines of the steps
 unfoldable pub eventsText : List Event → List ℕ
@@ -91,8 +105,8 @@ eventsText [] = []
 eventsText (e ∷ es) = eventText e ++ eventsText es
 
 -- [6.153] the text of a trace
-abbrev pub traceText : ℕ → ℕ → ℕ → ℕ → List Event → List ℕ
-traceText n a b c events = headText n a b c ++ eventsText events
+abbrev pub traceText : Parameters → List Event → List ℕ
+traceText k events = headText k ++ eventsText events
 
 -- [4.15] the most bytes of a text
 abbrev pub textLimit : ℕ

@@ -4,10 +4,11 @@ use mathlib.Core.Bool.{cond, not}
 use mathlib.Core.List.{List, [], _∷_}
 use lib.Dec.{ltb, eqb}
 use lib.ListN.{length}
+use Rattle.model.specs.declared.Parameters.{Parameters}
 use Rattle.model.specs.declared.Answer.{Answer}
 use Rattle.model.specs.States.{countStands, limitsStand}
 use Rattle.model.specs.Answers.{answerOf}
-use Rattle.model.specs.Texts.{Event, traceText, textLimit, hasForm}
+use Rattle.model.specs.Texts.{Event, event, firstLine, traceText, textLimit, hasForm}
 use Rattle.model.specs.Readings.{Lists, over}
 
 -- [6.150] one step for each place that all three lists have
@@ -15,20 +16,16 @@ unfoldable pub eventsIn : List ℕ → List ℕ → List ℕ → List Event
 eventsIn [] ps qs = []
 eventsIn (t ∷ ts) [] qs = []
 eventsIn (t ∷ ts) (p ∷ ps) [] = []
-eventsIn (t ∷ ts) (p ∷ ps) (q ∷ qs) = record { time = t; process = p; action = q } ∷ eventsIn ts ps qs
+eventsIn (t ∷ ts) (p ∷ ps) (q ∷ qs) = event t p q ∷ eventsIn ts ps qs
 
 -- [6.150]
 abbrev pub eventsOf : Lists → List Event
 eventsOf l = eventsIn (l .times) (l .processes) (l .actions)
 
--- [6.170] the line of the first step without a form, where the first has `line`; 0 if there is none
+-- [6.170] [4.14] the line of the first step without a form, where the first has `line`; 0 if there is none
 unfoldable pub formlessFrom : ℕ → List Event → ℕ
 formlessFrom line [] = 0
 formlessFrom line (e ∷ es) = cond (hasForm e) (formlessFrom (line + 1) es) line
-
--- [6.170] [4.14]
-abbrev pub formlessOf : List Event → ℕ
-formlessOf events = formlessFrom 4 events
 
 -- What a writing gives back
 
@@ -54,10 +51,10 @@ unfoldable pub fitted : List ℕ → List ℕ → Written
 fitted text out = cond (ltb (length out) (length text)) (unwritten 16 0 out) (written text out)
 
 -- [6.170] [6.153] [6.180] [4.11] [4.12] [4.14] [4.15] one condition a line
-unfoldable pub writeOf : ℕ → ℕ → ℕ → ℕ → List Event → List ℕ → Written
-writeOf n a b c events out =
-    cond (not (countStands n)) (unwritten 11 0 out)
-    (cond (not (limitsStand a b c)) (unwritten 12 0 out)
-    (cond (not (eqb (formlessOf events) 0)) (unwritten 14 (formlessOf events) out)
-    (cond (ltb textLimit (length (traceText n a b c events))) (unwritten 15 0 out)
-    (fitted (traceText n a b c events) out))))
+unfoldable pub writeOf : Parameters → List Event → List ℕ → Written
+writeOf k events out =
+    cond (not (countStands k)) (unwritten 11 0 out)
+    (cond (not (limitsStand k)) (unwritten 12 0 out)
+    (cond (not (eqb (formlessFrom (firstLine k) events) 0)) (unwritten 14 (formlessFrom (firstLine k) events) out)
+    (cond (ltb textLimit (length (traceText k events))) (unwritten 15 0 out)
+    (fitted (traceText k events) out))))

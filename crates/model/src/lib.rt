@@ -18,14 +18,20 @@ pub struct Process {
     pub location: Location,
 }
 
-// [2.10] [21.50] Process p, from 1, has the entry at place p - 1.
-pub struct State {
+// [2.10] What a lock is made with and keeps. Its fields lie as in C, as those of an `Answer` and of a `Reading` do, for `funnelfawn`.
+#[repr(C)]
+pub struct Parameters {
     // how many of the entries are processes
     pub n: u64,
     // the limits: a step takes at most a, but a check at least b and at most c
     pub a: u64,
     pub b: u64,
     pub c: u64,
+}
+
+// [2.10] [21.50] Process p, from 1, has the entry at place p - 1.
+pub struct State {
+    pub parameters: Parameters,
     pub clock: u64,
     // the shared word: 0 where it is free, else a process
     pub word: u64,
@@ -40,7 +46,7 @@ pub struct Transition {
     pub word: u64,
 }
 
-// [4.50] An answer. Its fields lie as in C, as those of a `Reading` do, for `funnelfawn`.
+// [4.50] An answer.
 #[repr(C)]
 pub struct Answer {
     pub code: u64,
@@ -66,20 +72,30 @@ pub enum Row {
     Unread(u64, u64),
 }
 
-// [6.20] [6.30] [6.40] [21.100] The first lines of a trace: n, a, b, c, and how many bytes they take; or a refusal's code and line.
-pub enum Head {
-    Values(u64, u64, u64, u64, usize),
-    Refused(u64, u64),
+// [6.30] [21.10] A line of numbers, four at most: they stand first, zeros after them, and `size` is how many bytes the line takes; or a
+// refusal's code, which is not 0, and line.
+pub struct Line {
+    pub code: u64,
+    pub line: u64,
+    pub numbers: [u64; 4],
+    pub size: usize,
 }
 
-// [6.130] What a reading answers; n, a, b, c are 0 where it is refused.
+// [6.20] [6.30] [6.40] [6.50] What is found of a text: its parameters, the line of its first step, and a size, that of the first lines in
+// bytes or that of all in steps; or a refusal's code, which is not 0, and the line that it is reported at. It is no enum, which could not
+// hold an array: parameters may come to hold one.
+pub struct Scan {
+    pub code: u64,
+    pub line: u64,
+    pub parameters: Parameters,
+    pub size: usize,
+}
+
+// [6.130] What a reading answers; the parameters are 0 where it is refused.
 #[repr(C)]
 pub struct Reading {
     pub answer: Answer,
-    pub n: u64,
-    pub a: u64,
-    pub b: u64,
-    pub c: u64,
+    pub parameters: Parameters,
 }
 
 // [5.10] The counts of a summary, and the longest wait.

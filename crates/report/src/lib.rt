@@ -1,8 +1,8 @@
 // The whole text that `replay` prints, as a function from bytes to bytes: a recording is read, and each of its steps runs
 // from a fresh table on.
-use fischer::answers::answer_with;
-use fischer::fresh;
-use fischer::step;
+use machine::answers::answer_with;
+use machine::fresh;
+use machine::step;
 use model::Answer;
 use model::State;
 use trace::puts::put_text;

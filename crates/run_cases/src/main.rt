@@ -1,9 +1,9 @@
 // Runs the table of cases, each call at the state that the one before it gave back, and prints what came of each row:
 // the answer, then the clock, the word, and place and arrival of windows 1 and 2 of the table given back.
 use cases::Row;
-use fischer::stages::since_of;
-use fischer::stages::stage_of;
 use libc::STDOUT_FILENO;
+use machine::stages::since_of;
+use machine::stages::stage_of;
 use model::Outcome;
 use model::Process;
 
@@ -56,7 +56,7 @@ fn main() {
     print_names();
     let rows = cases::table();
     // the state before the first row, which is a fresh one and has no use for it
-    let made = fischer::fresh(0, 0, 0, 0);
+    let made = machine::fresh(0, 0, 0, 0);
     let mut state = made.state;
     for i in 0..rows.len() {
         let row = rows[i];

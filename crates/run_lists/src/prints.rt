@@ -1,8 +1,8 @@
 // What comes of a list of calls, printed: numbers between commas.
-use fischer::stages::since_of;
-use fischer::stages::stage_of;
 use history::rows::tuple_of;
 use libc::STDOUT_FILENO;
+use machine::stages::since_of;
+use machine::stages::stage_of;
 use model::Process;
 use model::State;
 use model::Statistics;

@@ -1,7 +1,9 @@
 // The work of the benchmarks: the state that a case starts from, the act of each of its steps, and the loop that makes them.
 // `bench/cases.rs` has the same cases in Rust.
 use libc::STDOUT_FILENO;
+use machine::entry_at;
 use model::Location;
+use model::Parameters;
 use model::Process;
 use model::State;
 use std::num::wrapping_add_u64;
@@ -63,19 +65,22 @@ fn turn_of(case: u64, round: u64) -> u64 {
 }
 
 fn came_at(time: u64) -> Process {
-    Process {
-        location: Location::Testing(time),
-    }
+    entry_at(Location::Testing(time))
 }
 
 pub fn state_of(case: u64) -> State {
-    let made = fischer::fresh(count_of(case), 5, 8, 12);
+    let made = machine::fresh(Parameters {
+        n: count_of(case),
+        a: 5,
+        b: 8,
+        c: 12,
+    });
     let mut state = made.state;
     if case == LATE {
         state.processes[0] = came_at(0);
     }
     if case == UNSOUND_COUNT {
-        state.n = 97;
+        state.parameters.n = 97;
     }
     if case == UNSOUND_FIRST {
         state.processes[0] = came_at(9);
@@ -129,7 +134,7 @@ pub fn run(case: u64, start: State) {
     let mut sum: u64 = 0;
     for i in 0..2000 {
         let act = act_of(case, i);
-        let outcome = fischer::step(state, act.action, act.process, act.time);
+        let outcome = machine::step(state, act.action, act.process, act.time);
         let answer = outcome.answer;
         sum = wrapping_add_u64(sum, answer.code);
         sum = wrapping_add_u64(sum, answer.process);

@@ -7,8 +7,8 @@ use native.Mathlib.Omega.{arith}
 use lib.ListN.{getD, drop}
 use borrow.Author.Tests.{not-true, not-false}
 use Rattle.model.specs.Encodings.{headerLength, stride, stateIn}
-use Rattle.fischer.specs.declared.limits.Numbers.{Numbers}
-use Rattle.fischer.specs.Survey.{numbersOf, numbersStand}
+use Rattle.machine.specs.declared.limits.Numbers.{Numbers}
+use Rattle.machine.specs.Survey.{numbersOf, numbersStand}
 use Rattle.funnelfawn.specs.Loading.{areIdle}
 use Rattle.funnelfawn.proofs.Loading.{EntriesRead, stand-most, none-read, numbers-fault, entry-read, entry-fault, all-loads, above-fault, fault-loads}
 use Rattle.funnelfawn.proofs.tables.load.Statement.{statement}

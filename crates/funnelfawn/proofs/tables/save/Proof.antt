@@ -1,7 +1,7 @@
 -- `funnelfawn::tables::save` meets its contract: three pairs of numbers, and then the entries one by one. Assumes nothing.
 use borrow.Author.Needs.{needs}
 use Prim.Native.Nat.{_-_}
-use Rattle.fischer.proofs.Laws.{length-mapped}
+use Rattle.machine.proofs.Laws.{length-mapped}
 use Rattle.funnelfawn.proofs.Saving.{EntriesWritten, header-written, entry-written, all-written}
 use Rattle.funnelfawn.proofs.tables.save.Statement.{statement}
 use Rattle.funnelfawn.proofs.tables.save.Tie as tie

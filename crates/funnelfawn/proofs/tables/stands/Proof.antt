@@ -8,9 +8,9 @@ use borrow.Author.Tests.{ne-eqb, not-true, not-false}
 use lib.Dec.{eqb}
 use Rattle.model.specs.States.{idle, entrySound, locationAt}
 use Rattle.model.proofs.Tests.{if-eq}
-use Rattle.fischer.specs.declared.limits.Numbers.{Numbers}
-use Rattle.fischer.specs.Survey.{bare}
-use Rattle.fischer.proofs.Entries.{idle-sound}
+use Rattle.machine.specs.declared.limits.Numbers.{Numbers}
+use Rattle.machine.specs.Survey.{bare}
+use Rattle.machine.proofs.Entries.{idle-sound}
 use Rattle.funnelfawn.proofs.tables.stands.Statement.{statement}
 use Rattle.funnelfawn.proofs.tables.stands.Tie as tie
 

@@ -21,8 +21,8 @@ use Rattle.trace.proofs.lines.head_of.Statement.{statement}
 use Rattle.trace.proofs.lines.head_of.Tie as tie
 use Rattle.trace.proofs.lines.head_of.Reads as reads
 use Rattle.trace.proofs.lines.head_of.Lts as lts
-use Rattle.fischer.proofs.limits.count_stands.Reads as count-stands-reads
-use Rattle.fischer.proofs.limits.limits_stand.Reads as limits-stand-reads
+use Rattle.machine.proofs.limits.count_stands.Reads as count-stands-reads
+use Rattle.machine.proofs.limits.limits_stand.Reads as limits-stand-reads
 use Rattle.trace.proofs.fields.starts_with.Reads as starts-with-reads
 use Rattle.trace.proofs.lines.values_at.Reads as values-at-reads
 

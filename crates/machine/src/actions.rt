@@ -1,0 +1,58 @@
+// The acts table: the numbers of the acts that are told apart outside their rows, and the rows as values.
+use crate::stages::REMAINDER;
+use model::Location;
+use model::Transition;
+ghost use mathlib.Core.Path.{_≡_};
+ghost use Rattle.model.specs.Actions.{«row», afterTest, afterCheck};
+
+pub const WAIT: u64 = 0;
+
+pub const TRY: u64 = 1;
+
+pub(crate) const CHECK: u64 = 4;
+
+pub const CRIT: u64 = 5;
+
+pub const EXIT: u64 = 6;
+
+pub(crate) const REM: u64 = 8;
+
+// [3.40] the last act
+pub(crate) const LAST_ACT: u64 = REM;
+
+pub(crate) fn row(from: u64, to: Location, word: u64) -> Transition
+    ensures { λ r. ⌜ r ≡ «row» from to word ⌝ }
+{
+    Transition {
+        from: from,
+        to: to,
+        word: word,
+    }
+}
+
+// For an act that has no row: a wait, which leaves no place, and an unknown one, which is refused.
+pub(crate) fn no_row(word: u64) -> Transition {
+    row(REMAINDER, Location::Remainder, word)
+}
+
+// [3.2] Where a test leads.
+pub(crate) fn tested(word: u64, time: u64) -> Location
+    ensures { λ r. ⌜ r ≡ afterTest word time ⌝ }
+{
+    if word == 0 {
+        Location::Setting(time)
+    } else {
+        Location::Testing(time)
+    }
+}
+
+// [3.4] Where a check leads.
+pub(crate) fn checked(word: u64, process: u64, time: u64) -> Location
+    ensures { λ r. ⌜ r ≡ afterCheck word process time ⌝ }
+{
+    if word == process {
+        Location::Entering(time)
+    } else {
+        Location::Testing(time)
+    }
+}

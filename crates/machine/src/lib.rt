@@ -1,0 +1,165 @@
+// Fischer's timed mutual exclusion as a step machine: `fresh` makes a state, `step` takes one action in it.
+// Both take any numbers and any state, and answer what `freshOf` and `stepOf` of the model say.
+pub mod actions;
+pub mod answers;
+pub mod limits;
+pub mod stages;
+pub mod survey;
+
+use crate::actions::WAIT;
+use crate::actions::checked;
+use crate::actions::no_row;
+use crate::actions::row;
+use crate::actions::tested;
+use crate::answers::judge;
+use crate::limits::numbers_stand;
+use crate::stages::CHECKING;
+use crate::stages::CRITICAL;
+use crate::stages::ENTERING;
+use crate::stages::LEAVING;
+use crate::stages::REMAINDER;
+use crate::stages::RESETTING;
+use crate::stages::SETTING;
+use crate::stages::TESTING;
+use crate::stages::since_of;
+use crate::stages::stage_of;
+use crate::survey::empty;
+use crate::survey::note;
+use crate::survey::scene_of;
+use model::Location;
+use model::Outcome;
+use model::Parameters;
+use model::Process;
+use model::State;
+use values::answer_with;
+use values::count_stands;
+use values::limit_of;
+use values::limits_stand;
+use values::no_parameters;
+ghost use mathlib.Core.Path.{_≡_};
+ghost use Prim.Native.Nat.{ℕ, _<_, _≤_, _-_};
+ghost use lib.ListN.{getD};
+ghost use Rattle.model.specs.declared.Process.{Process};
+ghost use Rattle.model.specs.States.{entry, idle, initial};
+ghost use Rattle.model.specs.Answers.{freshOf, stepOf};
+
+// [2.10] The entry of a process that has come to a location.
+pub fn entry_at(location: Location) -> Process
+    ensures { λ r. ⌜ r ≡ entry location ⌝ }
+{
+    Process { location: location }
+}
+
+// [2.60] [21.30] `each` speaks of every entry.
+fn initial_state(parameters: Parameters) -> State
+    ensures equals { λ r. ⌜ r ≡ initial parameters ⌝ }
+    ensures each { λ r. ⌜ ((i : ℕ) (other : Process) → i < 96 → getD (r .processes) i other ≡ idle) ⌝ }
+{
+    State {
+        parameters: parameters,
+        clock: 0,
+        word: 0,
+        processes: [Process {
+            location: Location::Remainder,
+        }; 96],
+    }
+}
+
+// [2.65] [4.70] [4.90] [4.100] [21.110] A fresh table, or the refusal 11 or 12 with a table whose parameters are 0.
+pub fn fresh(parameters: Parameters) -> Outcome
+    ensures { λ r. ⌜ r ≡ freshOf parameters ⌝ }
+{
+    if !count_stands(parameters) {
+        return Outcome {
+            answer: answer_with(11, 0, 0),
+            state: initial_state(no_parameters()),
+        };
+    }
+    if !limits_stand(parameters) {
+        return Outcome {
+            answer: answer_with(12, 0, 0),
+            state: initial_state(no_parameters()),
+        };
+    }
+    Outcome {
+        answer: answer_with(0, 0, 0),
+        state: initial_state(parameters),
+    }
+}
+
+// The entry of a process; the first where there is no such process, so that it may be read before the process is judged.
+fn slot_of(process: u64) -> usize
+    ensures { λ r. ⌜ (r < 96) × (process ≤ 96 → r ≡ process - 1) ⌝ }
+{
+    if process == 0 {
+        return 0;
+    }
+    if 96 < process {
+        return 0;
+    }
+    (process - 1) as usize
+}
+
+// [3.45] [4.80] [4.83] [21.40] [21.50] [21.110] One action of a process at a time. A single pass over the entries serves soundness, the
+// first deadline and the critical process; it stands here, as each hand-over of a state copies 1,584 bytes.
+pub fn step(mut state: State, action: u64, process: u64, time: u64) -> Outcome
+    ensures { λ r. ⌜ r ≡ stepOf state action process time ⌝ }
+{
+    let parameters = state.parameters;
+    if !numbers_stand(parameters, state.clock, state.word) {
+        return Outcome {
+            answer: answer_with(1, 0, 0),
+            state: state,
+        };
+    }
+    let scene = scene_of(parameters, state.clock, process);
+    let slot = slot_of(process);
+    let own_entry = state.processes[slot];
+    let own = own_entry.location;
+    let mut found = empty();
+    let mut i: usize = 0;
+    while i < 96 {
+        let entry = state.processes[i];
+        let location = entry.location;
+        let number = (i as u64) + 1;
+        found = note(found, scene, number, location, limit_of(parameters, number));
+        if found.faults != 0 {
+            break;
+        }
+        i += 1;
+    }
+    let word = state.word;
+    let transition = match action {
+        0 => no_row(word), // wait
+        1 => row(REMAINDER, Location::Testing(time), word), // try
+        2 => row(TESTING, tested(word, time), word), // test
+        3 => row(SETTING, Location::Checking(time), process), // set
+        4 => row(CHECKING, checked(word, process, time), word), // check
+        5 => row(ENTERING, Location::Critical, word), // crit
+        6 => row(CRITICAL, Location::Resetting(time), word), // exit
+        7 => row(RESETTING, Location::Leaving(time), 0), // reset
+        8 => row(LEAVING, Location::Remainder, word), // rem
+        9..=18446744073709551615 => no_row(word),
+    };
+    let answer = judge(
+        found,
+        scene,
+        stage_of(own),
+        since_of(own),
+        transition,
+        action,
+        time,
+    );
+    if answer.code == 0 {
+        state.clock = time;
+        if action != WAIT {
+            let to = transition.to;
+            state.word = transition.word;
+            state.processes[slot] = entry_at(to);
+        }
+    }
+    Outcome {
+        answer: answer,
+        state: state,
+    }
+}

@@ -1,0 +1,79 @@
+// Small values that the step machine and the recordings share: an answer, parameters and which of them stand, the lesser of two sizes.
+use model::Answer;
+use model::Parameters;
+ghost use mathlib.Core.Path.{_≡_};
+ghost use Prim.Native.Nat.{min};
+ghost use Rattle.model.specs.States.{noParameters, countStands, limitsStand, parametersStand, limitIn};
+ghost use Rattle.model.specs.Answers.{answerOf};
+
+// [4.50] An answer of three numbers.
+pub fn answer_with(code: u64, process: u64, time: u64) -> Answer
+    ensures { λ r. ⌜ r ≡ answerOf code process time ⌝ }
+{
+    Answer {
+        code: code,
+        process: process,
+        time: time,
+    }
+}
+
+// [4.100] [6.140] The parameters of what is refused: all of them 0.
+pub fn no_parameters() -> Parameters
+    ensures { λ r. ⌜ r ≡ noParameters ⌝ }
+{
+    Parameters {
+        n: 0,
+        a: 0,
+        b: 0,
+        c: 0,
+    }
+}
+
+// [2.20]
+pub fn count_stands(parameters: Parameters) -> bool
+    ensures { λ r. ⌜ r ≡ countStands parameters ⌝ }
+{
+    if parameters.n < 1 {
+        return false;
+    }
+    parameters.n <= 96
+}
+
+// [2.30]
+pub fn limits_stand(parameters: Parameters) -> bool
+    ensures { λ r. ⌜ r ≡ limitsStand parameters ⌝ }
+{
+    if parameters.a < 1 {
+        return false;
+    }
+    if parameters.b <= parameters.a {
+        return false;
+    }
+    if parameters.c < parameters.b {
+        return false;
+    }
+    parameters.c <= 10000000
+}
+
+// [2.20] [2.30] Both.
+pub fn parameters_stand(parameters: Parameters) -> bool
+    ensures { λ r. ⌜ r ≡ parametersStand parameters ⌝ }
+{
+    if !count_stands(parameters) {
+        return false;
+    }
+    limits_stand(parameters)
+}
+
+// [2.90] The bound a of a process.
+pub fn limit_of(parameters: Parameters, process: u64) -> u64
+    ensures { λ r. ⌜ r ≡ limitIn parameters process ⌝ }
+{
+    parameters.a
+}
+
+pub fn least(a: usize, b: usize) -> usize
+    ensures { λ r. ⌜ r ≡ min a b ⌝ }
+{
+    if a < b { a } else { b }
+}
