@@ -8,8 +8,8 @@ use lib.Dec.{eqb}
 use borrow.Author.Tests.{eqb-true}
 use Rattle.model.specs.declared.State.{State}
 use Rattle.model.specs.declared.Outcome.{Outcome}
-use Rattle.model.specs.Encodings.{stateNumbers}
-use Rattle.model.proofs.Encodings.{state-told}
+use Rattle.layout.specs.Encodings.{stateNumbers}
+use Rattle.layout.proofs.Numbers.{state-told}
 use Rattle.model.proofs.Tests.{and-true-iff}
 use Rattle.cases.specs.Cases.{outcomeOf, outcomeIn, toldBy, expectedOf, Hold}
 

@@ -9,7 +9,7 @@ use lib.Dec.{eqb}
 use Rattle.model.specs.declared.State.{State}
 use Rattle.model.specs.declared.Outcome.{Outcome}
 use Rattle.model.specs.Answers.{answerOf, freshOf, stepOf}
-use Rattle.model.specs.Encodings.{stateIn}
+use Rattle.layout.specs.Encodings.{stateIn}
 
 -- The call: 0 and n, a, b, c for a fresh state; 1 and an action, a process and a time for a step from the state s
 

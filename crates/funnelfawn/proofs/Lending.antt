@@ -17,15 +17,15 @@ use Rattle.model.specs.Answers.{answerOf, freshOf, stepOf}
 use Rattle.model.specs.Facts.{Accepted}
 use Rattle.model.specs.Readings.{over}
 use Rattle.model.specs.Summaries.{newStatistics, recordedOf}
-use Rattle.model.specs.Encodings.{headerLength, tableLength, stateNumbers, areEntries, isTable, tableIn, isSoundTable}
-use Rattle.model.specs.Encodings.{summaryLength, statisticsNumbers, summaryIn}
+use Rattle.layout.specs.Encodings.{headerLength, tableLength, stateNumbers, areEntries, isTable, tableIn, isSoundTable}
+use Rattle.layout.specs.Encodings.{summaryLength, statisticsNumbers, summaryIn}
 use Rattle.funnelfawn.specs.Loading.{stored, counted}
-use Rattle.funnelfawn.specs.Interface.{lentGave, lentFresh, lentStep, summaryGave, lentSummary, recordGave, lentRecord}
-use Rattle.model.proofs.Encodings.{summary-numbers-told}
+use Rattle.layout.specs.Interface.{lentGave, lentFresh, lentStep, summaryGave, lentSummary, recordGave, lentRecord}
+use Rattle.layout.proofs.Numbers.{summary-numbers-told}
 use Rattle.theory.proofs.Soundness.{fresh-is-plain}
 use Rattle.theory.proofs.RecordedSteps.{judged}
-use Rattle.theory.proofs.Encodings.{table-length, table-fits, table-numbers, table-is-whole, numbers-come-back, summary-is-whole}
-use Rattle.theory.proofs.Encodings.{sound-is-table, summary-length}
+use Rattle.layout.proofs.Encodings.{table-length, table-fits, table-numbers, table-is-whole, numbers-come-back, summary-is-whole}
+use Rattle.layout.proofs.Encodings.{sound-is-table, summary-length}
 use Rattle.funnelfawn.proofs.Storing.{stored-length, Stores, step-stores, recorded-stores, counted-length, recorded-counted}
 
 -- All that a call gives back is equal where its parts are

@@ -3,8 +3,3 @@ pub mod Loading
 pub mod Saving
 pub mod Storing
 pub mod Lending
-pub mod LentSteps
-pub mod Refusals
-pub mod Writes
-pub mod LentLists
-pub mod LentTallies

@@ -15,7 +15,7 @@ use Rattle.model.specs.declared.Process.{Process}
 use Rattle.model.specs.declared.State.{State}
 use Rattle.model.specs.Stages.{remainder}
 use Rattle.model.specs.States.{idle, stageOf, limitOf, entrySound, entriesSound, soundOf, locationAt}
-use Rattle.model.specs.Encodings.{headerLength, stride, tableLength, processesIn, stateIn, isEntry, areEntries}
+use Rattle.layout.specs.Encodings.{headerLength, stride, tableLength, processesIn, stateIn, isEntry, areEntries}
 use Rattle.model.proofs.Lists.{drop-at, drop-end}
 use Rattle.model.proofs.Tests.{tests, if-eq, by-cond}
 use Rattle.machine.specs.declared.limits.Numbers.{Numbers}
@@ -140,7 +140,7 @@ not-remainder stage since n =
 
 module _ (s : State) where
   -- there an entry is sound just where it is in the remainder
-  above-is-idle : (k stage since : ℕ) → s .n < k
+  above-is-idle : (k stage since : ℕ) → s .parameters .n < k
       → (isEntry stage since && entrySound s k (record { location = locationAt stage since })) ≡ (eqb stage 0 && eqb since 0)
   above-is-idle k stage since h =
       if-eq stage 0
@@ -149,9 +149,9 @@ module _ (s : State) where
       ∙ sym (rw (ne-eqb stage 0 e)))
     where
       above-sound : entrySound s k (record { location = locationAt stage since }) ≡ eqb (stageOf (locationAt stage since)) remainder
-      above-sound = rw (lt-leb k (s .n) h)
+      above-sound = rw (lt-leb k (s .parameters .n) h)
 
-  above-are-idle : (m k : ℕ) (l : List ℕ) → length l ≡ stride * m → s .n < k
+  above-are-idle : (m k : ℕ) (l : List ℕ) → length l ≡ stride * m → s .parameters .n < k
       → (areEntries l && entriesSound s k (processesIn l)) ≡ areIdle l
   unfolding areEntries entriesSound processesIn areIdle
   above-are-idle zero k [] e h = refl

@@ -9,7 +9,7 @@ use lib.Seq.{take-all}
 use Rattle.model.specs.declared.Process.{Process}
 use Rattle.model.specs.declared.State.{State}
 use Rattle.model.specs.States.{stageOf, sinceOf}
-use Rattle.model.specs.Encodings.{headerLength, stride, tableLength, processNumbers, stateNumbers}
+use Rattle.layout.specs.Encodings.{headerLength, stride, tableLength, processNumbers, stateNumbers}
 use Rattle.model.proofs.Lists.{drop-at, drop-end}
 use Rattle.funnelfawn.specs.Loading.{placedAt}
 use Rattle.funnelfawn.proofs.Lists.{fill-pair}
@@ -23,7 +23,7 @@ pub record EntriesWritten (s : State) (l : List ℕ) (i : ℕ) : Type 0 where
 
 -- the numbers before the entries, stored as three pairs
 abbrev headed : State → List ℕ → List ℕ
-headed s l = set (set (set (set (set (set l 0 (s .n)) 1 (s .a)) 2 (s .b)) 3 (s .c)) 4 (s .clock)) 5 (s .word)
+headed s l = set (set (set (set (set (set l 0 (s .parameters .n)) 1 (s .parameters .a)) 2 (s .parameters .b)) 3 (s .parameters .c)) 4 (s .clock)) 5 (s .word)
 
 pub header-written : (s : State) (l : List ℕ) → length (s .processes) ≡ 96 → length l ≡ tableLength → EntriesWritten s (headed s l) 0
 unfolding stateNumbers
@@ -32,9 +32,9 @@ header-written s l size long = record {
   size = size;
   long = simp length-set long;
   written =
-      fill-pair (set (set (set (set l 0 (s .n)) 1 (s .a)) 2 (s .b)) 3 (s .c)) 4 (s .clock) (s .word) _ (simp length-set (omega arith))
-      ∙ fill-pair (set (set l 0 (s .n)) 1 (s .a)) 2 (s .b) (s .c) _ (simp length-set (omega arith))
-      ∙ fill-pair l 0 (s .n) (s .a) _ (omega arith);
+      fill-pair (set (set (set (set l 0 (s .parameters .n)) 1 (s .parameters .a)) 2 (s .parameters .b)) 3 (s .parameters .c)) 4 (s .clock) (s .word) _ (simp length-set (omega arith))
+      ∙ fill-pair (set (set l 0 (s .parameters .n)) 1 (s .parameters .a)) 2 (s .parameters .b) (s .parameters .c) _ (simp length-set (omega arith))
+      ∙ fill-pair l 0 (s .parameters .n) (s .parameters .a) _ (omega arith);
 }
 
 module _ (s : State) (l : List ℕ) (i : ℕ) (done : EntriesWritten s l i) where

@@ -22,8 +22,8 @@ use Rattle.model.specs.Actions.{transitionOf, moved, effect}
 use Rattle.model.specs.Answers.{answers, stepOf}
 use Rattle.model.specs.Facts.{Accepted}
 use Rattle.model.specs.Summaries.{statisticsOf, oneRefused, countsAfter, triedAt, acceptedCounted}
-use Rattle.model.specs.Encodings.{headerLength, stride, processNumbers, stateNumbers}
-use Rattle.model.specs.Encodings.{countsLength, countsNumbers, statisticsNumbers}
+use Rattle.layout.specs.Encodings.{headerLength, stride, processNumbers, stateNumbers}
+use Rattle.layout.specs.Encodings.{countsLength, countsNumbers, statisticsNumbers}
 use Rattle.theory.specs.Acceptance.{Waits, Acts}
 use Rattle.funnelfawn.specs.Loading.{placedAt, stored, counted}
 use Rattle.model.proofs.Tests.{by-test, by-cond, if-eq}
@@ -76,7 +76,7 @@ stored-moved : (s : State) (p m : ℕ) (t : Transition) → 1 ≤ p → p ≤ 96
 unfolding stored stateNumbers
 stored-moved s p m t some most size =
     simp (ne-eqb p 0 (omega arith), le-ltb 96 p most, moved-own s p m t some (omega arith))
-    (placed-past (s .n) (s .a) (s .b) (s .c) m (t .word) (s .processes) (p - 1) (record { location = t .to }))
+    (placed-past (s .parameters .n) (s .parameters .a) (s .parameters .b) (s .parameters .c) m (t .word) (s .processes) (p - 1) (record { location = t .to }))
 
 -- storing keeps the length
 pub stored-length : (l : List ℕ) (s : State) (p : ℕ) → length (stored l s p) ≡ length l

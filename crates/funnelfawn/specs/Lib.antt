@@ -1,3 +1,1 @@
-pub mod Interface
 pub mod Loading
-pub mod Guarantees

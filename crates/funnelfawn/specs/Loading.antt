@@ -13,7 +13,7 @@ use Rattle.model.specs.declared.Counts.{Counts}
 use Rattle.model.specs.declared.Statistics.{Statistics}
 use Rattle.model.specs.States.{stageOf, sinceOf, soundOf, entryOf}
 use Rattle.model.specs.Summaries.{triedAt}
-use Rattle.model.specs.Encodings.{headerLength, stride, clockPlace, wordPlace, areEntries, stateIn, countsLength}
+use Rattle.layout.specs.Encodings.{headerLength, stride, clockPlace, wordPlace, areEntries, stateIn, countsLength}
 use Rattle.funnelfawn.specs.declared.tables.Loaded.{Loaded}
 
 -- Reading a table

@@ -16,7 +16,7 @@ ghost use mathlib.Core.Path.{_≡_};
 ghost use Rattle.model.specs.Readings.{lists, readGave, readOf};
 ghost use Rattle.model.specs.Writings.{eventsOf, writeGave, writeOf};
 ghost use Rattle.model.specs.Reports.{reportOf};
-ghost use Rattle.funnelfawn.specs.Interface.{lentGave, lentFresh, lentStep, recordGave, lentRecord, summaryGave, lentSummary};
+ghost use Rattle.layout.specs.Interface.{lentGave, lentFresh, lentStep, recordGave, lentRecord, summaryGave, lentSummary};
 
 // [9.50] [21.110] A fresh table, in the lent numbers.
 #[no_mangle]

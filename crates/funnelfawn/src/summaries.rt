@@ -3,7 +3,7 @@ use model::Counts;
 use model::Statistics;
 ghost use mathlib.Core.Path.{_≡_};
 ghost use lib.ListN.{length};
-ghost use Rattle.model.specs.Encodings.{statisticsIn, statisticsNumbers, summaryLength};
+ghost use Rattle.layout.specs.Encodings.{statisticsIn, statisticsNumbers, summaryLength};
 ghost use Rattle.model.specs.Summaries.{newStatistics};
 ghost use Rattle.funnelfawn.specs.Loading.{countsPut, counted};
 

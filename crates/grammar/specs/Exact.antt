@@ -5,21 +5,25 @@ use mathlib.Core.Logic.{_↔_}
 use mathlib.Core.Bool.{true}
 use mathlib.Core.List.{List}
 use lib.ListN.{length}
-use Rattle.model.specs.States.{countStands, limitsStand}
-use Rattle.model.specs.Texts.{Event, traceText, textLimit}
+use Rattle.model.specs.declared.Parameters.{Parameters}
+use Rattle.model.specs.States.{parametersStand}
+use Rattle.model.specs.Texts.{Event, firstLine, traceText, textLimit}
 use Rattle.model.specs.Readings.{trace, traceOf}
-use Rattle.model.specs.Writings.{formlessOf}
+use Rattle.model.specs.Writings.{formlessFrom}
 
 -- [6.190] a trace has a form
-pub record Formed (n a b c : ℕ) (events : List Event) : Type 0 where
-  pub count : countStands n ≡ true
-  pub limits : limitsStand a b c ≡ true
+pub record Formed (k : Parameters) (events : List Event) : Type 0 where
+  pub stand : parametersStand k ≡ true
   -- [6.160] of each step: 0 tells that none lacks its form
-  pub forms : formlessOf events ≡ 0
-  pub short : length (traceText n a b c events) ≤ textLimit
+  pub forms : formlessFrom (firstLine k) events ≡ 0
+  pub short : length (traceText k events) ≤ textLimit
+
+-- [6.190] a text says this trace, whose first step stands on this line
+pub record Says (text : List ℕ) (line : ℕ) (k : Parameters) (events : List Event) : Type 0 where
+  pub line-is : line ≡ firstLine k
+  pub text-is : text ≡ traceText k events
+  pub formed : Formed k events
 
 -- [6.190] [6.125] of a text that is read
 abbrev pub ReadExactly : Type 0
-ReadExactly =
-    (text : List ℕ) (n a b c : ℕ) (events : List Event)
-    → (traceOf text ≡ trace n a b c events) ↔ ((text ≡ traceText n a b c events) × Formed n a b c events)
+ReadExactly = (text : List ℕ) (line : ℕ) (k : Parameters) (events : List Event) → (traceOf text ≡ trace line k events) ↔ Says text line k events

@@ -6,17 +6,30 @@ use mathlib.Core.Logic.{_≢_}
 use mathlib.Core.Bool.{true, false}
 use mathlib.Core.List.{List, _++_}
 use lib.ListN.{length}
-use Rattle.model.specs.States.{countStands, limitsStand}
-use Rattle.model.specs.Texts.{numberBound, Event, valueNames, valuesText, eventNames, eventText, headText, eventsText, hasForm, textLimit}
+use Rattle.model.specs.declared.Parameters.{Parameters}
+use Rattle.model.specs.States.{countStands, limitsStand, parametersStand}
+use Rattle.model.specs.Texts.{numberBound, Event, valueNames, valuesText, eventNames, eventText, headText, firstLine, eventsText, hasForm, textLimit}
 use Rattle.model.specs.Readings.{refused, traceOf}
-use Rattle.model.specs.Writings.{formlessOf}
+use Rattle.model.specs.Writings.{formlessFrom}
 
 -- helper: a text does not start with this one
 abbrev pub Differs : List ℕ → List ℕ → Type 0
 Differs start text = (more : List ℕ) → text ≢ start ++ more
 
--- [6.195] [6.90] [6.110] The number of a refusal and its line, each with what it says of the text; what would be refused before it
--- is ruled out, but for nine digits on line 2, which 11 and 12 leave to `afterValues`.
+-- [6.30] each is written with at most eight digits
+pub record Short (k : Parameters) : Type 0 where
+  pub n : k .n < numberBound
+  pub a : k .a < numberBound
+  pub b : k .b < numberBound
+  pub c : k .c < numberBound
+
+-- helper: a text that is not too long and starts with these values
+pub record Starts (text : List ℕ) (k : Parameters) (rest : List ℕ) : Type 0 where
+  pub short : length text ≤ textLimit
+  pub is : text ≡ valueNames ++ (valuesText k ++ rest)
+
+-- [6.195] [6.90] [7.35] The number of a refusal and the line that it is reported at, each with what it says of the text; what would be
+-- refused before it is ruled out, but for nine digits on line 2, which 11 and 12 leave to `afterValues`.
 pub data Fault (text : List ℕ) : ℕ → ℕ → Type 0 where
   -- [4.15]
   long : textLimit < length text → Fault text 15 0
@@ -24,22 +37,18 @@ pub data Fault (text : List ℕ) : ℕ → ℕ → Type 0 where
   names : length text ≤ textLimit → Differs valueNames text → Fault text 13 1
   -- [4.14] [6.30] [6.15] [6.100] line 2
   values : (rest : List ℕ) → length text ≤ textLimit → text ≡ valueNames ++ rest
-      → ((n a b c : ℕ) → n < numberBound → a < numberBound → b < numberBound → c < numberBound → Differs (valuesText n a b c) rest)
-      → Fault text 14 2
+      → ((k : Parameters) → Short k → Differs (valuesText k) rest) → Fault text 14 2
   -- [4.11]
-  count : (n a b c : ℕ) (rest : List ℕ) → length text ≤ textLimit → text ≡ valueNames ++ (valuesText n a b c ++ rest)
-      → countStands n ≡ false → Fault text 11 0
+  count : (k : Parameters) (rest : List ℕ) → Starts text k rest → countStands k ≡ false → Fault text 11 2
   -- [4.12]
-  limits : (n a b c : ℕ) (rest : List ℕ) → length text ≤ textLimit → text ≡ valueNames ++ (valuesText n a b c ++ rest)
-      → countStands n ≡ true → limitsStand a b c ≡ false → Fault text 12 0
+  limits : (k : Parameters) (rest : List ℕ) → Starts text k rest → countStands k ≡ true → limitsStand k ≡ false → Fault text 12 2
   -- [4.13] [6.40] [6.15] [6.100] line 3
-  steps : (n a b c : ℕ) (rest : List ℕ) → length text ≤ textLimit → text ≡ valueNames ++ (valuesText n a b c ++ rest)
-      → countStands n ≡ true → limitsStand a b c ≡ true → Differs eventNames rest → Fault text 13 3
+  steps : (k : Parameters) (rest : List ℕ) → Starts text k rest → parametersStand k ≡ true → Differs eventNames rest → Fault text 13 3
   -- [4.14] [6.50] [6.55] [6.15] the lines before it are those of steps that have a form
-  step : (n a b c : ℕ) (events : List Event) (rest : List ℕ) → length text ≤ textLimit
-      → text ≡ headText n a b c ++ (eventsText events ++ rest) → countStands n ≡ true → limitsStand a b c ≡ true
-      → formlessOf events ≡ 0 → 0 < length rest → ((e : Event) → hasForm e ≡ true → Differs (eventText e) rest)
-      → Fault text 14 (4 + length events)
+  step : (k : Parameters) (events : List Event) (rest : List ℕ) → length text ≤ textLimit
+      → text ≡ headText k ++ (eventsText events ++ rest) → parametersStand k ≡ true
+      → formlessFrom (firstLine k) events ≡ 0 → 0 < length rest → ((e : Event) → hasForm e ≡ true → Differs (eventText e) rest)
+      → Fault text 14 (firstLine k + length events)
 
 -- [6.195] of a text that is refused
 abbrev pub RefusedFor : Type 0

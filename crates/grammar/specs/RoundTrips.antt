@@ -4,6 +4,7 @@ use Prim.Native.Nat.{ℕ, _≤_}
 use mathlib.Core.Path.{_≡_}
 use mathlib.Core.List.{List}
 use lib.ListN.{length, take}
+use Rattle.model.specs.declared.Parameters.{Parameters}
 use Rattle.model.specs.Texts.{Event}
 use Rattle.model.specs.Readings.{Lists, lists, room, stored, Read, readingOf, readOf}
 use Rattle.model.specs.Writings.{eventsOf, Written, written, writeOf}
@@ -18,7 +19,7 @@ eventsRead r = eventsOf (firstOf (r .reading .answer .time) (r .kept))
 
 -- [6.200] writing what a reading gave back
 abbrev pub rewritten : Read → List ℕ → Written
-rewritten r out = writeOf (r .reading .n) (r .reading .a) (r .reading .b) (r .reading .c) (eventsRead r) out
+rewritten r out = writeOf (r .reading .parameters) (eventsRead r) out
 
 -- [6.210] reading what a writing left in its output: as many bytes as its answer counts
 abbrev pub reread : Written → Lists → Read
@@ -36,14 +37,14 @@ ReadThenWrite =
 -- lists
 abbrev pub WriteThenRead : Type 0
 WriteThenRead =
-    (n a b c : ℕ) (l : Lists) (out : List ℕ) (m : Lists)
-    → writeOf n a b c (eventsOf l) out .answer .code ≡ 0 → length (eventsOf l) ≤ room m
-    → reread (writeOf n a b c (eventsOf l) out) m
-    ≡ record { reading = readingOf 0 (length (eventsOf l)) n a b c; kept = stored (eventsOf l) m }
+    (k : Parameters) (l : Lists) (out : List ℕ) (m : Lists)
+    → writeOf k (eventsOf l) out .answer .code ≡ 0 → length (eventsOf l) ≤ room m
+    → reread (writeOf k (eventsOf l) out) m
+    ≡ record { reading = readingOf 0 (length (eventsOf l)) k; kept = stored (eventsOf l) m }
 
 -- [6.210] So the steps that were read are the steps that were written.
 abbrev pub SameEvents : Type 0
 SameEvents =
-    (n a b c : ℕ) (l : Lists) (out : List ℕ) (m : Lists)
-    → writeOf n a b c (eventsOf l) out .answer .code ≡ 0 → length (eventsOf l) ≤ room m
-    → eventsRead (reread (writeOf n a b c (eventsOf l) out) m) ≡ eventsOf l
+    (k : Parameters) (l : Lists) (out : List ℕ) (m : Lists)
+    → writeOf k (eventsOf l) out .answer .code ≡ 0 → length (eventsOf l) ≤ room m
+    → eventsRead (reread (writeOf k (eventsOf l) out) m) ≡ eventsOf l

@@ -22,10 +22,10 @@ use Rattle.model.specs.Summaries.{newStatistics, beside}
 use Rattle.model.specs.Tallies.{Attempt}
 use Rattle.model.specs.Calls.{Call, callOf, tableOf, runOf, resultsOf}
 use Rattle.model.proofs.Tests.{by-test}
-use Rattle.theory.specs.Demand3.{Demand3}
-use Rattle.theory.specs.Tallies.{recordNext, recordAll, attemptOf, logFrom, Tallied, startOf}
-use Rattle.theory.proofs.Demand3.{every-list}
-use Rattle.theory.proofs.Tallies.{every-tally}
+use Rattle.lists.specs.Demand3.{Demand3}
+use Rattle.tallies.specs.Tallies.{recordNext, recordAll, attemptOf, logFrom, Tallied, startOf}
+use Rattle.lists.proofs.Demand3.{every-list}
+use Rattle.tallies.proofs.Tallies.{every-tally}
 use Rattle.machine.proofs.fresh.Reads as fresh-reads
 use Rattle.machine.proofs.step.Reads as step-reads
 use Rattle.statistics.proofs.record.Reads as record-reads

@@ -16,8 +16,8 @@ use Rattle.model.specs.Facts.{Accepted}
 use Rattle.model.specs.Summaries.{beside}
 use Rattle.model.specs.Tallies.{Attempt}
 use Rattle.model.proofs.Lists.{length-over}
-use Rattle.theory.specs.Tallies.{recordNext, recordAll, recordsOf, logFrom, Tallied, startOf}
-use Rattle.theory.proofs.Tallies.{every-tally}
+use Rattle.tallies.specs.Tallies.{recordNext, recordAll, recordsOf, logFrom, Tallied, startOf}
+use Rattle.tallies.proofs.Tallies.{every-tally}
 use Rattle.history.specs.Lists.{Tuple, answerRow, ending}
 use Rattle.history.specs.RecordedRuns.{eventIn, eventsOf, logOnto, logOf, RecordedRun, recordedRunGave, started, recordedRunFrom, recordedRunOf, recordAt}
 use Rattle.history.proofs.Turns.{row-at, over-snoc}

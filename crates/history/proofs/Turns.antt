@@ -18,7 +18,7 @@ use Rattle.model.proofs.Lists.{length-over}
 use Rattle.history.specs.Lists.{Tuple, summaryOf, callIn, Rows, rows, callsIn, callsOf}
 use Rattle.history.specs.Lists.{countsRow, triesRow, answerRow, overwritten, Run, runGave, ending, ranFrom, ranOf, MeetsDemand3}
 use Rattle.history.specs.Lists.{callAt, resultAt, stored, Turn, turnGave, turnOf}
-use Rattle.theory.proofs.Demand3.{every-list}
+use Rattle.lists.proofs.Demand3.{every-list}
 use Rattle.history.proofs.Runs.{run-snoc, results-snoc, length-results}
 
 -- Rows

@@ -14,9 +14,9 @@ use Rattle.model.specs.Readings.{over}
 use Rattle.model.specs.Answers.{freshOf}
 use Rattle.model.specs.Facts.{Accepted}
 use Rattle.model.specs.Summaries.{statisticsOf}
-use Rattle.model.specs.Encodings.{countsIn, countsNumbers}
+use Rattle.model.specs.Summaries.{countsIn, countsNumbers}
 use Rattle.model.specs.Calls.{Call, callOf, runOf, resultsOf}
-use Rattle.theory.specs.Demand3.{Demand3}
+use Rattle.lists.specs.Demand3.{Demand3}
 
 -- Rows of numbers
 

@@ -6,7 +6,7 @@ use lib.ListN.{length, getD, set, take}
 use Rattle.model.specs.declared.Recorded.{Recorded}
 use Rattle.model.specs.Texts.{Event}
 use Rattle.model.specs.Tallies.{Attempt, attempt}
-use Rattle.theory.specs.Tallies.{recordNext, recordAll, recordsOf, startOf}
+use Rattle.tallies.specs.Tallies.{recordNext, recordAll, recordsOf, startOf}
 use Rattle.model.specs.Readings.{over}
 use Rattle.history.specs.Lists.{Tuple, answerRow, ending}
 

@@ -20,7 +20,7 @@ ghost use lib.ListN.{length};
 ghost use Rattle.model.specs.Answers.{freshOf};
 ghost use Rattle.model.specs.Facts.{Accepted};
 ghost use Rattle.model.specs.Calls.{callOf};
-ghost use Rattle.theory.specs.Tallies.{Tallied};
+ghost use Rattle.tallies.specs.Tallies.{Tallied};
 ghost use Rattle.history.specs.Lists.{callIn, rows, runGave, ranOf, MeetsDemand3, turnGave, turnOf};
 ghost use Rattle.history.specs.RecordedRuns.{logOf, recordedRunGave, recordedRunOf, recordAt};
 

@@ -4,7 +4,7 @@ use model::Counts;
 use model::Statistics;
 ghost use mathlib.Core.Path.{_≡_};
 ghost use mathlib.Core.List.{[], _∷_};
-ghost use Rattle.model.specs.Encodings.{countsNumbers};
+ghost use Rattle.model.specs.Summaries.{countsNumbers};
 ghost use Rattle.history.specs.Lists.{summaryOf};
 
 // [8.152]

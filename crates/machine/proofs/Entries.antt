@@ -15,7 +15,7 @@ use Rattle.machine.specs.Survey.{bare, nothing, faulted, timedNoted, cri
 
 -- an entry in the remainder is sound, whichever process has it
 pub idle-sound : (s : State) (k : ℕ) → entrySound s k idle ≡ true
-idle-sound s k = by-test (leb k (s .n)) (λ e. simp (e, le-leb 0 (s .clock) (omega arith))) (λ e. simp e)
+idle-sound s k = by-test (leb k (s .parameters .n)) (λ e. simp (e, le-leb 0 (s .clock) (omega arith))) (λ e. simp e)
 
 -- an entry that came at `since` and may stay for `limit`
 timed-faults : (x : Numbers) (k since limit : ℕ)

@@ -64,14 +64,14 @@ module _ (s : State) (act p m : ℕ) (f : Survey) (found : Whole s p m f) (size 
     check-from e = rw e
 
     module _ (placed : stageOf (entryOf s p .location) ≡ transitionOf s act p m .from) where
-      check-release : act ≡ 4 → release s (entryOf s p) ≡ sinceOf (entryOf s p .location) + s .b
+      check-release : act ≡ 4 → release s (entryOf s p) ≡ sinceOf (entryOf s p .location) + s .parameters .b
       check-release e = simp (eq-eqb (stageOf (entryOf s p .location)) checking (placed ∙ check-from e))
 
-      early-is : early s act p m ≡ eqb act 4 && ltb m (sinceOf (entryOf s p .location) + s .b)
+      early-is : early s act p m ≡ eqb act 4 && ltb m (sinceOf (entryOf s p .location) + s .parameters .b)
       early-is = by-test (eqb act 4) (λ e. rw (check-release (eqb-true act 4 e))) (λ e. simp e)
 
     turn-goes : Goes s act p m (turnOf s act p m)
-        (turnJudged (f .critical) (s .b) (entryOf s p .location) (transitionOf s act p m) act p m)
+        (turnJudged (f .critical) (s .parameters .b) (entryOf s p .location) (transitionOf s act p m) act p m)
     unfolding turnJudged
     turn-goes =
         by-both (misplaced s act p m) _ (simp (ne-eqb act 0 (λ z. omega arith))) (λ _. refusal (λ z. omega arith))
@@ -95,17 +95,17 @@ module _ (s : State) (act p m : ℕ) (f : Survey) (found : Whole s p m f) (size 
   module _ (own : Location) (t : Transition)
       (own-is : 1 ≤ p → p ≤ 96 → own ≡ entryOf s p .location)
       (t-is : 1 ≤ act → act ≤ 8 → t ≡ transitionOf s act p m)
-      (few : s .n ≤ 96) where
+      (few : s .parameters .n ≤ 96) where
     -- past the refusals up to 8: a wait, or an action of a process
-    past-late : act ≤ 8 → misnamed (s .n) act p ≡ false → Goes s act p m (turnOf s act p m)
-        (cond (eqb act 0) (answerOf 0 (f .critical) m) (turnJudged (f .critical) (s .b) own t act p m))
+    past-late : act ≤ 8 → misnamed (s .parameters .n) act p ≡ false → Goes s act p m (turnOf s act p m)
+        (cond (eqb act 0) (answerOf 0 (f .critical) m) (turnJudged (f .critical) (s .parameters .b) own t act p m))
     past-late known named = if-eq act 0
         (λ e. rw (eq-eqb act 0 e, ne-eqb act 4 (λ (q : act ≡ 4). omega arith))
         (wait-goes e (eqb-true p 0 (not-false (eqb p 0) (rw (eq-eqb act 0 e) at named)))))
         (λ n. acts (omega arith) (rw (ne-eqb act 0 n) at named))
       where
-        acts : 1 ≤ act → eqb p 0 || ltb (s .n) p ≡ false → Goes s act p m (turnOf s act p m)
-            (cond (eqb act 0) (answerOf 0 (f .critical) m) (turnJudged (f .critical) (s .b) own t act p m))
+        acts : 1 ≤ act → eqb p 0 || ltb (s .parameters .n) p ≡ false → Goes s act p m (turnOf s act p m)
+            (cond (eqb act 0) (answerOf 0 (f .critical) m) (turnJudged (f .critical) (s .parameters .b) own t act p m))
         acts some h =
             let range : (1 ≤ p) × (p ≤ 96) = omega (arith, simp tests at h) in
             let n : eqb act 0 ≡ false = ne-eqb act 0 (λ (q : act ≡ 0). omega arith) in
@@ -120,7 +120,7 @@ module _ (s : State) (act p m : ℕ) (f : Survey) (found : Whole s p m f) (size 
         (λ _. by-both (backward s m) _ refl (λ _. refusal (λ z. omega arith))
         (λ _. by-both (beyond m) _ refl (λ _. refusal (λ z. omega arith))
         (λ _. by-both (unknown act) _ refl (λ _. refusal (λ z. omega arith))
-        (λ known. by-both (misnamed (s .n) act p) _ refl (λ _. refusal (λ z. omega arith))
+        (λ known. by-both (misnamed (s .parameters .n) act p) _ refl (λ _. refusal (λ z. omega arith))
         (λ named. by-both (eqb (lateOf s m .code) 8) _ late-is late-goes
         (λ _. past-late (ltb-false 8 act known) named))))))
 

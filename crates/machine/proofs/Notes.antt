@@ -43,7 +43,7 @@ pub data Noted (s : State) (acting k m : ℕ) (q : Process) (f g : Survey) : Typ
 
 -- entry q of process k came at `since` and may stay for `limit`
 record Times (s : State) (k : ℕ) (q : Process) (since limit : ℕ) : Type 0 where
-  sound-is : entrySound s k q ≡ cond (leb k (s .n)) (leb since (s .clock) && not (ltb (since + limit) (s .clock))) false
+  sound-is : entrySound s k q ≡ cond (leb k (s .parameters .n)) (leb since (s .clock) && not (ltb (since + limit) (s .clock))) false
   deadline-is : deadline s k q ≡ since + limit
   late-is : (t : ℕ) → late s t k q ≡ ltb (since + limit) t
   not-critical : (acting : ℕ) → otherCritical acting k q ≡ false
@@ -86,26 +86,26 @@ module _ (s : State) (acting k m : ℕ) (q : Process) (f : Survey) (none : f .fa
           (λ (y : m - s .clock ≤ limit - (s .clock - since)). rw (first-kept (omega arith))
           (simp (le-ltb (s .clock + (limit - (s .clock - since))) m (omega arith), le-ltb _ _ y))))
 
-    timed-noted : Noted s acting k m q f (cond (ltb (s .n) k) (faulted f) (timedNoted (s .clock) k since limit f))
+    timed-noted : Noted s acting k m q f (cond (ltb (s .parameters .n) k) (faulted f) (timedNoted (s .clock) k since limit f))
     timed-noted =
-        by-cond (Noted s acting k m q f) (ltb (s .n) k)
-        (λ e. fault (h .sound-is ∙ simp (lt-leb k (s .n) (ltb-true (s .n) k e))) (λ z. omega arith))
+        by-cond (Noted s acting k m q f) (ltb (s .parameters .n) k)
+        (λ e. fault (h .sound-is ∙ simp (lt-leb k (s .parameters .n) (ltb-true (s .parameters .n) k e))) (λ z. omega arith))
         (λ e. by-cond (Noted s acting k m q f) (ltb (s .clock) since)
-        (λ a. fault (h .sound-is ∙ simp (le-leb k (s .n) (ltb-false (s .n) k e), lt-leb since (s .clock) (ltb-true (s .clock) since a)))
+        (λ a. fault (h .sound-is ∙ simp (le-leb k (s .parameters .n) (ltb-false (s .parameters .n) k e), lt-leb since (s .clock) (ltb-true (s .clock) since a)))
         (λ z. omega arith))
         (λ a. by-cond (Noted s acting k m q f) (ltb limit (s .clock - since))
         (λ b. fault (h .sound-is ∙ simp (
-          le-leb k (s .n) (ltb-false (s .n) k e),
+          le-leb k (s .parameters .n) (ltb-false (s .parameters .n) k e),
           le-leb since (s .clock) (ltb-false (s .clock) since a),
           lt-ltb (since + limit) (s .clock) (omega (arith, ltb-true limit (s .clock - since) b)),
         )) (λ z. omega arith))
-        (λ b. timed-turn (ltb-false (s .n) k e) (ltb-false (s .clock) since a) (ltb-false limit (s .clock - since) b))))
+        (λ b. timed-turn (ltb-false (s .parameters .n) k e) (ltb-false (s .clock) since a) (ltb-false limit (s .clock - since) b))))
       where
-        timed-turn : k ≤ s .n → since ≤ s .clock → s .clock - since ≤ limit
+        timed-turn : k ≤ s .parameters .n → since ≤ s .clock → s .clock - since ≤ limit
             → Noted s acting k m q f (cond (leb (f .left) (limit - (s .clock - since))) f (firstAt k (limit - (s .clock - since)) f))
         timed-turn e a b =
             let sound : entrySound s k q ≡ true = h .sound-is
-            ∙ simp (le-leb k (s .n) e, le-leb since (s .clock) a, le-ltb (since + limit) (s .clock) (omega arith)) in
+            ∙ simp (le-leb k (s .parameters .n) e, le-leb since (s .clock) a, le-ltb (since + limit) (s .clock) (omega arith)) in
             by-cond (Noted s acting k m q f) (leb (f .left) (limit - (s .clock - since)))
             (λ l. fine (record { none = none; sound = sound; late-next = not-sooner a b (leb-true _ _ l); critical-next = keeps-critical }))
             (λ l. fine (record { none = none; sound = sound; late-next = sooner a b (leb-false _ _ l); critical-next = keeps-critical }))
@@ -121,7 +121,7 @@ module _ (s : State) (acting k m : ℕ) (f : Survey) (none : f .faults ≡ 0) wh
   unfolding noted
   remainder-noted = fine (record {
     none = none;
-    sound = by-test (leb k (s .n)) (λ e. simp (e, le-leb 0 (s .clock) (omega arith))) (λ e. simp e);
+    sound = by-test (leb k (s .parameters .n)) (λ e. simp (e, le-leb 0 (s .clock) (omega arith))) (λ e. simp e);
     late-next = refl;
     critical-next = λ rest. refl;
   })
@@ -129,10 +129,10 @@ module _ (s : State) (acting k m : ℕ) (f : Survey) (none : f .faults ≡ 0) wh
   critical-noted : 1 ≤ k → At Critical
   unfolding noted
   critical-noted some =
-      by-cond (Noted s acting k m (record { location = Critical }) f) (ltb (s .n) k)
-      (λ e. fault (simp (lt-leb k (s .n) (ltb-true (s .n) k e))) (λ z. omega arith))
+      by-cond (Noted s acting k m (record { location = Critical }) f) (ltb (s .parameters .n) k)
+      (λ e. fault (simp (lt-leb k (s .parameters .n) (ltb-true (s .parameters .n) k e))) (λ z. omega arith))
       (λ e. let sound : entrySound s k (record { location = Critical }) ≡ true =
-      simp (le-leb k (s .n) (ltb-false (s .n) k e), le-leb 0 (s .clock) (omega arith)) in
+      simp (le-leb k (s .parameters .n) (ltb-false (s .parameters .n) k e), le-leb 0 (s .clock) (omega arith)) in
       by-cond (Noted s acting k m (record { location = Critical }) f) (eqb k acting)
       (λ a. fine (record { none = none; sound = sound; late-next = refl; critical-next = λ rest. simp a }))
       (λ a. by-cond (Noted s acting k m (record { location = Critical }) f) (not (eqb (f .critical) 0))
@@ -146,11 +146,11 @@ module _ (s : State) (acting k m : ℕ) (f : Survey) (none : f .faults ≡ 0) wh
 
   -- a timed location, whose times compute
   timed : (l : Location) (since limit : ℕ)
-      → entrySound s k (record { location = l }) ≡ cond (leb k (s .n)) (leb since (s .clock) && not (ltb (since + limit) (s .clock))) false
+      → entrySound s k (record { location = l }) ≡ cond (leb k (s .parameters .n)) (leb since (s .clock) && not (ltb (since + limit) (s .clock))) false
       → deadline s k (record { location = l }) ≡ since + limit
       → ((t : ℕ) → late s t k (record { location = l }) ≡ ltb (since + limit) t)
       → ((p : ℕ) → otherCritical p k (record { location = l }) ≡ false)
-      → Noted s acting k m (record { location = l }) f (cond (ltb (s .n) k) (faulted f) (timedNoted (s .clock) k since limit f))
+      → Noted s acting k m (record { location = l }) f (cond (ltb (s .parameters .n) k) (faulted f) (timedNoted (s .clock) k since limit f))
   timed l since limit e d t n =
       timed-noted s acting k m (record { location = l }) f none since limit
       (record { sound-is = e; deadline-is = d; late-is = t; not-critical = n })
@@ -158,10 +158,10 @@ module _ (s : State) (acting k m : ℕ) (f : Survey) (none : f .faults ≡ 0) wh
   pub note-at : 1 ≤ k → (l : Location) → At l
   unfolding noted limitOf
   note-at some Remainder = remainder-noted
-  note-at some (Testing t) = timed (Testing t) t (s .a) refl refl (λ x. refl) (λ p. refl)
-  note-at some (Setting t) = timed (Setting t) t (s .a) refl refl (λ x. refl) (λ p. refl)
-  note-at some (Checking t) = timed (Checking t) t (s .c) refl refl (λ x. refl) (λ p. refl)
-  note-at some (Entering t) = timed (Entering t) t (s .a) refl refl (λ x. refl) (λ p. refl)
+  note-at some (Testing t) = timed (Testing t) t (s .parameters .a) refl refl (λ x. refl) (λ p. refl)
+  note-at some (Setting t) = timed (Setting t) t (s .parameters .a) refl refl (λ x. refl) (λ p. refl)
+  note-at some (Checking t) = timed (Checking t) t (s .parameters .c) refl refl (λ x. refl) (λ p. refl)
+  note-at some (Entering t) = timed (Entering t) t (s .parameters .a) refl refl (λ x. refl) (λ p. refl)
   note-at some Critical = critical-noted some
-  note-at some (Resetting t) = timed (Resetting t) t (s .a) refl refl (λ x. refl) (λ p. refl)
-  note-at some (Leaving t) = timed (Leaving t) t (s .a) refl refl (λ x. refl) (λ p. refl)
+  note-at some (Resetting t) = timed (Resetting t) t (s .parameters .a) refl refl (λ x. refl) (λ p. refl)
+  note-at some (Leaving t) = timed (Leaving t) t (s .parameters .a) refl refl (λ x. refl) (λ p. refl)

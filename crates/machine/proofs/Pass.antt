@@ -128,7 +128,7 @@ passed-whole s acting m i f passed h =
 
 -- where nothing is at fault, an arrival and b have a sum that fits
 pub surveyed-fits : (s : State) (acting m : ℕ) (f : Survey) → Surveyed s acting m f → f .faults ≡ 0
-    → (i : ℕ) → sinceOf (getD (s .processes) i idle .location) + s .b < 2 ^ 64
+    → (i : ℕ) → sinceOf (getD (s .processes) i idle .location) + s .parameters .b < 2 ^ 64
 surveyed-fits s acting m f (faulty e n) z i = absurd (n z)
 surveyed-fits s acting m f (whole w) z i =
     omega (arith, sound-past s (w .sound) i, sound-numbers s (w .sound))

@@ -14,7 +14,7 @@ use Rattle.model.specs.States.{countStands, limitsStand, clockStands, wordStand
 
 -- helper: a state without its entries
 abbrev pub numbersOf : State → Numbers
-numbersOf s = record { n = s .n; a = s .a; b = s .b; c = s .c; clock = s .clock; word = s .word }
+numbersOf s = record { n = s .parameters .n; a = s .parameters .a; b = s .parameters .b; c = s .parameters .c; clock = s .clock; word = s .word }
 
 -- helper: a state of these numbers that has no entry
 abbrev pub bare : Numbers → State

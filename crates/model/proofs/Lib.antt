@@ -3,6 +3,5 @@ pub mod Tests
 pub mod Locations
 pub mod Soundness
 pub mod Given
-pub mod Encodings
 pub mod Folds
 pub mod Rows

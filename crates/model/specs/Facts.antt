@@ -5,13 +5,21 @@ use mathlib.Core.Path.{_≡_}
 use mathlib.Core.Bool.{true}
 use Rattle.model.specs.declared.Location.{Location}
 use Rattle.model.specs.declared.Location.the-variants.{Testing, Setting, Checking, Entering, Critical, Resetting, Leaving}
+use Rattle.model.specs.declared.Parameters.{Parameters}
 use Rattle.model.specs.declared.State.{State}
 use Rattle.model.specs.declared.Outcome.{Outcome}
 use Rattle.model.specs.States.{limitOf, trying, entryOf}
+use Rattle.model.specs.Answers.{freshOf}
 
 -- [4.0] a call is accepted
 abbrev pub Accepted : Outcome → Type 0
 Accepted o = o .answer .code ≡ 0
+
+-- [2.65] s is a fresh state, and the call for it was accepted
+pub record IsFresh (s : State) : Type 0 where
+  pub parameters : Parameters
+  pub accepted : Accepted (freshOf parameters)
+  pub is : s ≡ freshOf parameters .state
 
 -- helper: process i, from 1, is critical
 pub record IsCritical (s : State) (i : ℕ) : Type 0 where

@@ -13,4 +13,3 @@ pub mod Reports
 pub mod Summaries
 pub mod Calls
 pub mod Tallies
-pub mod Encodings

@@ -24,6 +24,14 @@ countsOf accepted refused entries exits longest = record {
   longest = longest;
 }
 
+-- [5.10] [8.152] [9.30] their numbers
+abbrev pub countsNumbers : Counts → List ℕ
+countsNumbers k = k .accepted ∷ k .refused ∷ k .entries ∷ k .exits ∷ k .longest ∷ []
+
+-- [8.152] [9.30] the counts that numbers tell
+abbrev pub countsIn : List ℕ → Counts
+countsIn l = countsOf (getD l 0 0) (getD l 1 0) (getD l 2 0) (getD l 3 0) (getD l 4 0)
+
 -- [5.10] the counts, and a list for the 96 try times
 abbrev pub statisticsOf : Counts → List ℕ → Statistics
 statisticsOf k tries = record { counts = k; tries = tries }

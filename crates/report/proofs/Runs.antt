@@ -15,8 +15,8 @@ use Rattle.model.proofs.Given.{write-gave}
 use Rattle.model.specs.Reports.{answerText, runText}
 use Rattle.model.proofs.Tests.{by-cond}
 use Rattle.model.proofs.Lists.{drop-at}
-use Rattle.trace.specs.Puts.{Put}
-use Rattle.trace.proofs.Putting.{sets-over, put-first}
+use Rattle.text.specs.Puts.{Put}
+use Rattle.text.proofs.Putting.{sets-over, put-first}
 
 -- the line of the step at place i, whose outcome is o, and then those from i + 1 on
 pub run-at : (s : State) (o : Outcome) (ts ps qs : List ℕ) (i d e f : ℕ) → i < length ts → length ps ≡ length ts → length qs ≡ length ts

@@ -15,7 +15,7 @@ ghost use Rattle.model.specs.Texts.{valuesText};
 ghost use Rattle.model.specs.Readings.{lists};
 ghost use Rattle.model.specs.Writings.{eventsOf, writeGave};
 ghost use Rattle.model.specs.Reports.{faultLine, runText, reportText, reportOf};
-ghost use Rattle.trace.specs.Puts.{Put};
+ghost use Rattle.text.specs.Puts.{Put};
 
 // [9.115] No recording has more steps: 65,536 bytes less those of the first lines, eight a step.
 const MOST_STEPS: usize = 8187;

@@ -5,6 +5,7 @@ use mathlib.Core.List.{List}
 use lib.Dec.{eqb}
 use Rattle.model.specs.declared.Answer.{Answer}
 use Rattle.model.specs.declared.Reading.{Reading}
+use Rattle.model.specs.States.{noParameters}
 use Rattle.model.specs.Readings.{Lists, Read, readGave}
 use Rattle.model.specs.Writings.{Written, writeGave}
 use Rattle.grammar.specs.RoundTrips.{rewritten, reread}
@@ -15,7 +16,7 @@ rewriteOf r out = cond (eqb (r .reading .answer .code) 0) (rewritten r out) (wri
 
 -- [6.215] a refused writing leaves nothing to read
 abbrev pub notRead : Answer → Reading
-notRead answer = record { answer = answer; n = 0; a = 0; b = 0; c = 0 }
+notRead answer = record { answer = answer; parameters = noParameters }
 
 -- [6.215] a writing, and the reading of what was written, or the writing's refusal
 unfoldable pub rereadOf : Written → Lists → Read

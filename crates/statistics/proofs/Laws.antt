@@ -68,7 +68,7 @@ pub not-one-sound : (s : State) (act p m : ℕ) → stepOf s act p m .answer .co
 not-one-sound s act p m n = by-test (soundOf s) (λ e. e) (λ e. absurd (n (unsound-iff-one s act p m .1 e)))
 
 -- an act whose turn it is, and that is no wait, is of a process that there is
-turn-named : {s : State} {act p m : ℕ} → Waits act p ⊎ Acts s act p m → act ≢ 0 → (1 ≤ p) × (p ≤ s .n)
+turn-named : {s : State} {act p m : ℕ} → Waits act p ⊎ Acts s act p m → act ≢ 0 → (1 ≤ p) × (p ≤ s .parameters .n)
 turn-named (inl w) n = absurd (n (w .wait))
 turn-named (inr a) n = (a .some, a .most)
 

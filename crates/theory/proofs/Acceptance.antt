@@ -28,7 +28,7 @@ module _ (s : State) (act p m : ℕ) where
   record Passes : Type 0 where
     known : act ≤ 8
     nobody : act ≡ 0 → p ≡ 0
-    somebody : act ≢ 0 → (1 ≤ p) × (p ≤ s .n)
+    somebody : act ≢ 0 → (1 ≤ p) × (p ≤ s .parameters .n)
     placed : act ≢ 0 → stageOf (entryOf s p .location) ≡ transitionOf s act p m .from
     released : act ≡ 4 → release s (entryOf s p) ≤ m
 

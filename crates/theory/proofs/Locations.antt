@@ -43,7 +43,7 @@ past-iff k l = (λ h t a. omega (arith, arrival-since a), since-past k l)
 
 -- process i, with the entry q, has the latest moment d
 abbrev pub Latest : State → ℕ → Process → ℕ → Type 0
-Latest s i q d = Deadline (limitOf s i) (s .c) (q .location) d
+Latest s i q d = Deadline (limitOf s i) (s .parameters .c) (q .location) d
 
 abbrev deadlineAt : ℕ → ℕ → Location → ℕ
 deadlineAt a c l = sinceOf l + cond (eqb (stageOf l) checking) c a
@@ -103,11 +103,11 @@ pub late-missed : (s : State) (m i : ℕ) (q : Process) → late s m i q ≡ tru
     → Latest s i q (deadline s i q) × (deadline s i q < m)
 late-missed s m i q e =
     let h = simp tests at e in
-    (timed-deadline (limitOf s i) (s .c) (q .location) (h .0), h .1)
+    (timed-deadline (limitOf s i) (s .parameters .c) (q .location) (h .0), h .1)
 
 -- one that is not late keeps its deadline, if it has one
 pub not-late-iff : (s : State) (m i : ℕ) (q : Process) → (late s m i q ≡ false) ↔ ((d : ℕ) → Latest s i q d → m ≤ d)
 not-late-iff s m i q = (
   λ e d h. omega (arith, deadline-timed h .1, (simp tests at e) (deadline-timed h .0)),
-  λ h. simp tests (λ t. omega (arith, h _ (timed-deadline (limitOf s i) (s .c) (q .location) t))),
+  λ h. simp tests (λ t. omega (arith, h _ (timed-deadline (limitOf s i) (s .parameters .c) (q .location) t))),
 )

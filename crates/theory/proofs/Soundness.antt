@@ -26,7 +26,7 @@ use Rattle.theory.proofs.Locations.{Latest, past-iff, not-late-iff}
 
 -- the part of `Sound` that speaks of process i, whose entry is q
 pub record EntryPlain (s : State) (i : ℕ) (q : Process) : Type 0 where
-  pub above : s .n < i → q .location ≡ Remainder
+  pub above : s .parameters .n < i → q .location ≡ Remainder
   pub past : (t : ℕ) → Arrival (q .location) t → t ≤ s .clock
   pub in-time : (d : ℕ) → Latest s i q d → s .clock ≤ d
 
@@ -41,7 +41,7 @@ remainder-plain s i q e = record {
 entry-plain : (s : State) (i : ℕ) (q : Process) → entrySound s i q ≡ true → EntryPlain s i q
 entry-plain s i q e =
     let h = simp (not-late-iff, past-iff, tests) at e in
-    by-test (leb i (s .n))
+    by-test (leb i (s .parameters .n))
     (λ t. let k = h .0 (leb-true _ _ t) in record { above = λ a. clash t (lt-leb _ _ a); past = k .0; in-time = k .1 })
     (λ t. remainder-plain s i q (stage-location (q .location) (h .1 (leb-false _ _ t))))
 
@@ -70,10 +70,10 @@ entries-plain s e =
 
 -- the part of `Sound` that speaks of no process
 pub record NumbersPlain (s : State) : Type 0 where
-  pub count : CountStands (s .n)
-  pub limits : LimitsStand (s .a) (s .b) (s .c)
+  pub count : CountStands (s .parameters .n)
+  pub limits : LimitsStand (s .parameters .a) (s .parameters .b) (s .parameters .c)
   pub clock : s .clock ≤ lastTime
-  pub word : s .word ≤ s .n
+  pub word : s .word ≤ s .parameters .n
 
 -- `Sound` speaks of each number i, and `entryOf` gives 0, which is no process, the entry of process 1
 pub sound-from : (s : State) → NumbersPlain s → ((i : ℕ) → 1 ≤ i → EntryPlain s i (entryOf s i)) → Sound s

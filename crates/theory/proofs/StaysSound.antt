@@ -49,9 +49,9 @@ module _ {s s′ : State} {act p m : ℕ} (sound : Sound s) (allowed : Allowed s
 
   latest-stays : (i : ℕ) (q : Process) (d : ℕ) → Latest s′ i q d → Latest s i q d
   latest-stays i q d h = subst (λ (c : ℕ). Deadline (limitOf s i) c (q .location) d) (changed .c-stays)
-      (subst (λ (a : ℕ). Deadline a (s′ .c) (q .location) d) (limit-stays i) h)
+      (subst (λ (a : ℕ). Deadline a (s′ .parameters .c) (q .location) d) (limit-stays i) h)
 
-  lands : Acts s act p m → Lands (s .n) m (entryOf s′ p .location) (s′ .word)
+  lands : Acts s act p m → Lands (s .parameters .n) m (entryOf s′ p .location) (s′ .word)
   lands a = effect-lands (changed .effect (from-ready (a .from) .some)) (a .most) (sound .word)
 
   numbers-stay : NumbersPlain s′

@@ -81,7 +81,7 @@ module _ (s : State) (act p m : ℕ) where
   })
 
   -- past the tests of 1 to 7
-  admitted : not (soundOf s) ≡ false → backward s m ≡ false → beyond m ≡ false → unknown act ≡ false → misnamed (s .n) act p ≡ false
+  admitted : not (soundOf s) ≡ false → backward s m ≡ false → beyond m ≡ false → unknown act ≡ false → misnamed (s .parameters .n) act p ≡ false
       → Admissible s act p m
   admitted g₁ g₄ g₅ g₆ g₇ = record { sound = not-false _ g₁; forward = g₄; within = g₅; known = g₆; named = g₇ }
 
@@ -92,7 +92,7 @@ module _ (s : State) (act p m : ℕ) where
       (λ g₁. by-cond Stepped (backward s m) (λ e. inadmissible (omega arith) (past-one g₁ (omega arith)) (λ d. clash e (d .forward)))
       (λ g₄. by-cond Stepped (beyond m) (λ e. inadmissible (omega arith) (past-one g₁ (omega arith)) (λ d. clash e (d .within)))
       (λ g₅. by-cond Stepped (unknown act) (λ e. inadmissible (omega arith) (past-one g₁ (omega arith)) (λ d. clash e (d .known)))
-      (λ g₆. by-cond Stepped (misnamed (s .n) act p)
+      (λ g₆. by-cond Stepped (misnamed (s .parameters .n) act p)
       (λ e. inadmissible (omega arith) (past-one g₁ (omega arith)) (λ d. clash e (d .named)))
       (λ g₇. by-cond Stepped (eqb (lateOf s m .code) 8) (λ e. late (admitted g₁ g₄ g₅ g₆ g₇) (eqb-true _ _ e))
       (λ g₈. by-cond Stepped (misplaced s act p m)

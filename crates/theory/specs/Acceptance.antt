@@ -8,6 +8,7 @@ use lib.ListN.{length}
 use Rattle.model.specs.declared.Location.{Location}
 use Rattle.model.specs.declared.Location.the-variants.{Remainder, Testing, Setting, Checking, Entering, Critical, Resetting, Leaving}
 use Rattle.model.specs.declared.State.{State}
+use Rattle.model.specs.Acts.{waitAct, tryAct, testAct, setAct, checkAct, critAct, exitAct, resetAct, remAct}
 use Rattle.model.specs.States.{lastTime, entryOf, soundOf}
 use Rattle.model.specs.Answers.{stepOf}
 use Rattle.model.specs.Facts.{Accepted, HasDeadline}
@@ -15,55 +16,55 @@ use Rattle.model.specs.Facts.{Accepted, HasDeadline}
 -- [3.80] the acts that a process may take in a location at the time m. Only a check waits for its release.
 pub data From (b m : ℕ) : ℕ → Location → Type 0 where
   -- [3.1]
-  try : From b m 1 Remainder
+  try : From b m tryAct Remainder
   -- [3.2]
-  test : {t : ℕ} → From b m 2 (Testing t)
+  test : {t : ℕ} → From b m testAct (Testing t)
   -- [3.3]
-  set : {t : ℕ} → From b m 3 (Setting t)
+  set : {t : ℕ} → From b m setAct (Setting t)
   -- [3.4] [2.100]
-  check : {t : ℕ} → t + b ≤ m → From b m 4 (Checking t)
+  check : {t : ℕ} → t + b ≤ m → From b m checkAct (Checking t)
   -- [3.5]
-  crit : {t : ℕ} → From b m 5 (Entering t)
+  crit : {t : ℕ} → From b m critAct (Entering t)
   -- [3.6]
-  exit : From b m 6 Critical
+  exit : From b m exitAct Critical
   -- [3.7]
-  reset : {t : ℕ} → From b m 7 (Resetting t)
+  reset : {t : ℕ} → From b m resetAct (Resetting t)
   -- [3.8]
-  rem : {t : ℕ} → From b m 8 (Leaving t)
+  rem : {t : ℕ} → From b m remAct (Leaving t)
 
 -- [3.60] where an act of process p at the time m leads at the word w, and the word after it; m is the since wherever there is one
 pub data Effect (p m : ℕ) : ℕ → ℕ → Location → ℕ → Type 0 where
   -- [3.1]
-  try : {w : ℕ} → Effect p m 1 w (Testing m) w
+  try : {w : ℕ} → Effect p m tryAct w (Testing m) w
   -- [3.2]
-  test-free : Effect p m 2 0 (Setting m) 0
+  test-free : Effect p m testAct 0 (Setting m) 0
   -- [3.2]
-  test-taken : {w : ℕ} → w ≢ 0 → Effect p m 2 w (Testing m) w
+  test-taken : {w : ℕ} → w ≢ 0 → Effect p m testAct w (Testing m) w
   -- [3.3]
-  set : {w : ℕ} → Effect p m 3 w (Checking m) p
+  set : {w : ℕ} → Effect p m setAct w (Checking m) p
   -- [3.4]
-  check-own : Effect p m 4 p (Entering m) p
+  check-own : Effect p m checkAct p (Entering m) p
   -- [3.4]
-  check-other : {w : ℕ} → w ≢ p → Effect p m 4 w (Testing m) w
+  check-other : {w : ℕ} → w ≢ p → Effect p m checkAct w (Testing m) w
   -- [3.5]
-  crit : {w : ℕ} → Effect p m 5 w Critical w
+  crit : {w : ℕ} → Effect p m critAct w Critical w
   -- [3.6]
-  exit : {w : ℕ} → Effect p m 6 w (Resetting m) w
+  exit : {w : ℕ} → Effect p m exitAct w (Resetting m) w
   -- [3.7]
-  reset : {w : ℕ} → Effect p m 7 w (Leaving m) 0
+  reset : {w : ℕ} → Effect p m resetAct w (Leaving m) 0
   -- [3.8]
-  rem : {w : ℕ} → Effect p m 8 w Remainder w
+  rem : {w : ℕ} → Effect p m remAct w Remainder w
 
 -- [3.0] [3.80] a wait, which is of no process
 pub record Waits (act p : ℕ) : Type 0 where
-  pub wait : act ≡ 0
+  pub wait : act ≡ waitAct
   pub nobody : p ≡ 0
 
 -- [3.80] a process from 1 to n in the act's place
 pub record Acts (s : State) (act p m : ℕ) : Type 0 where
   pub some : 1 ≤ p
-  pub most : p ≤ s .n
-  pub from : From (s .b) m act (entryOf s p .location)
+  pub most : p ≤ s .parameters .n
+  pub from : From (s .parameters .b) m act (entryOf s p .location)
 
 -- [3.80] the algorithm allows the act of process p at the time m
 pub record Allowed (s : State) (act p m : ℕ) : Type 0 where
@@ -79,17 +80,14 @@ AcceptedIffAllowed = (s : State) → soundOf s ≡ true → (act p m : ℕ) → 
 
 -- [3.70] s′ is s after the act of process p at the time m: it differs in the clock, in p's entry and in the word only
 pub record Changed (s : State) (act p m : ℕ) (s′ : State) : Type 0 where
-  pub n-stays : s′ .n ≡ s .n
-  pub a-stays : s′ .a ≡ s .a
-  pub b-stays : s′ .b ≡ s .b
-  pub c-stays : s′ .c ≡ s .c
+  pub parameters-stay : s′ .parameters ≡ s .parameters
   pub size-stays : length (s′ .processes) ≡ length (s .processes)
   -- [3.50]
   pub clock-is : s′ .clock ≡ m
   pub others-stay : (i : ℕ) → 1 ≤ i → i ≢ p → entryOf s′ i ≡ entryOf s i
   -- [3.0] and `others-stay` keeps every entry, as none is of process 0
-  pub wait-keeps : act ≡ 0 → s′ .word ≡ s .word
-  pub effect : 1 ≤ act → Effect p m act (s .word) (entryOf s′ p .location) (s′ .word)
+  pub wait-keeps : act ≡ waitAct → s′ .word ≡ s .word
+  pub effect : act ≢ waitAct → Effect p m act (s .word) (entryOf s′ p .location) (s′ .word)
 
 -- [3.70] for a state of 96 entries, as each of the code is
 abbrev pub NextIsChanged : Type 0
@@ -102,4 +100,4 @@ RefusedStays = (s : State) (act p m : ℕ) → stepOf s act p m .answer .code �
 
 -- [3.90] of any state, sound or not
 abbrev pub WaitNowChangesNothing : Type 0
-WaitNowChangesNothing = (s : State) → stepOf s 0 0 (s .clock) .state ≡ s
+WaitNowChangesNothing = (s : State) → stepOf s waitAct 0 (s .clock) .state ≡ s

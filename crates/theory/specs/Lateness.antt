@@ -6,15 +6,32 @@ use mathlib.Core.Logic.{_≢_, _↔_}
 use mathlib.Core.Bool.{true, false}
 use Rattle.model.specs.declared.State.{State}
 use Rattle.model.specs.States.{soundOf}
-use Rattle.model.specs.Answers.{backward, beyond, unknown, misnamed, lateOf, stepOf}
+use Rattle.model.specs.Answers.{backward, beyond, unknown, misnamed, Due, firstDeadline, missed, stepOf}
 use Rattle.model.specs.Facts.{HasDeadline}
+
+-- The first deadline
+
+-- [4.8] process p has the deadline d, no other is smaller, and no lower process has the same
+pub record IsFirst (s : State) (p d : ℕ) : Type 0 where
+  pub has : HasDeadline s p d
+  pub smallest : (i e : ℕ) → HasDeadline s i e → d ≤ e
+  pub lowest : (i : ℕ) → HasDeadline s i d → p ≤ i
+
+-- [4.8] of any state, sound or not
+pub record FirstTold (s : State) (first : Due) : Type 0 where
+  pub none : (first .process ≡ 0) ↔ ((i d : ℕ) → HasDeadline s i d → ⊥)
+  pub some : first .process ≢ 0 → IsFirst s (first .process) (first .time)
+
+-- [4.8]
+abbrev pub FirstIsFirst : Type 0
+FirstIsFirst = (s : State) → FirstTold s (firstDeadline s)
+
+-- The answer 8
 
 -- [4.8] who is named, and with what: process p has missed the deadline d at the time m
 pub record FirstMissed (s : State) (m p d : ℕ) : Type 0 where
-  pub has : HasDeadline s p d
+  pub first : IsFirst s p d
   pub missed : d < m
-  pub smallest : (i e : ℕ) → HasDeadline s i e → d ≤ e
-  pub lowest : (i : ℕ) → HasDeadline s i d → p ≤ i
 
 -- [4.8] the process and the time of the answer
 abbrev pub LateNamesTheFirst : Type 0
@@ -25,9 +42,9 @@ LateNamesTheFirst = (s : State) (act p m : ℕ) → stepOf s act p m .answer .co
 abbrev pub AllInTime : State → ℕ → Type 0
 AllInTime s m = (i d : ℕ) → HasDeadline s i d → m ≤ d
 
--- [4.8] the search finds none exactly where every deadline is kept
-abbrev pub NoneFoundIffAllInTime : Type 0
-NoneFoundIffAllInTime = (s : State) (m : ℕ) → (lateOf s m .code ≢ 8) ↔ AllInTime s m
+-- [4.8] the first deadline is not missed exactly where every deadline is kept
+abbrev pub NoneMissedIffAllInTime : Type 0
+NoneMissedIffAllInTime = (s : State) (m : ℕ) → (missed (firstDeadline s) m ≡ false) ↔ AllInTime s m
 
 -- [4.80] none of the answers 1 to 7 applies
 pub record Admissible (s : State) (act p m : ℕ) : Type 0 where
@@ -35,7 +52,7 @@ pub record Admissible (s : State) (act p m : ℕ) : Type 0 where
   pub forward : backward s m ≡ false
   pub within : beyond m ≡ false
   pub known : unknown act ≡ false
-  pub named : misnamed (s .n) act p ≡ false
+  pub named : misnamed (s .parameters .n) act p ≡ false
 
 -- [4.8] of any act, a wait included
 abbrev pub NotLateIffAllInTime : Type 0

@@ -6,32 +6,37 @@ use mathlib.Core.Logic.{_↔_, _≢_}
 use mathlib.Core.Bool.{true, false}
 use lib.ListN.{length}
 use Rattle.model.specs.declared.Location.the-variants.{Remainder}
+use Rattle.model.specs.declared.Parameters.{Parameters}
 use Rattle.model.specs.declared.State.{State}
-use Rattle.model.specs.States.{lastTime, entryOf, soundOf}
+use Rattle.model.specs.States.{noParameters, lastTime, entryOf, soundOf}
 use Rattle.model.specs.Answers.{stepOf, freshOf}
 use Rattle.model.specs.Facts.{Accepted, Arrival, HasDeadline}
 
 -- [2.20]
-pub record CountStands (n : ℕ) : Type 0 where
-  pub some : 1 ≤ n
-  pub most : n ≤ 96
+pub record CountStands (k : Parameters) : Type 0 where
+  pub some : 1 ≤ k .n
+  pub most : k .n ≤ 96
 
 -- [2.30]
-pub record LimitsStand (a b c : ℕ) : Type 0 where
-  pub some : 1 ≤ a
-  pub apart : a < b
-  pub order : b ≤ c
-  pub most : c ≤ 10_000_000
+pub record LimitsStand (k : Parameters) : Type 0 where
+  pub some : 1 ≤ k .a
+  pub apart : k .a < k .b
+  pub order : k .b ≤ k .c
+  pub most : k .c ≤ 10_000_000
+
+-- [2.20] [2.30] both
+pub record ParametersStand (k : Parameters) : Type 0 where
+  pub count : CountStands k
+  pub limits : LimitsStand k
 
 -- [2.120]
 pub record Sound (s : State) : Type 0 where
-  pub count : CountStands (s .n)
-  pub limits : LimitsStand (s .a) (s .b) (s .c)
+  pub parameters : ParametersStand (s .parameters)
   -- [2.40]
   pub clock : s .clock ≤ lastTime
   -- [2.50]
-  pub word : s .word ≤ s .n
-  pub above : (i : ℕ) → s .n < i → entryOf s i .location ≡ Remainder
+  pub word : s .word ≤ s .parameters .n
+  pub above : (i : ℕ) → s .parameters .n < i → entryOf s i .location ≡ Remainder
   pub past : (i t : ℕ) → Arrival (entryOf s i .location) t → t ≤ s .clock
   pub in-time : (i d : ℕ) → HasDeadline s i d → s .clock ≤ d
 
@@ -45,28 +50,25 @@ UnsoundIffOne = (s : State) (act p m : ℕ) → (stepOf s act p m .answer .code 
 
 -- A fresh table
 
--- [2.60] s is such a table, with these n, a, b, c
-pub record Fresh (n a b c : ℕ) (s : State) : Type 0 where
-  pub n-is : s .n ≡ n
-  pub a-is : s .a ≡ a
-  pub b-is : s .b ≡ b
-  pub c-is : s .c ≡ c
+-- [2.60] s is such a table, with these parameters
+pub record Fresh (k : Parameters) (s : State) : Type 0 where
+  pub parameters-are : s .parameters ≡ k
   pub clock-is : s .clock ≡ 0
   pub word-is : s .word ≡ 0
   pub size : length (s .processes) ≡ 96
   pub all : (i : ℕ) → entryOf s i .location ≡ Remainder
 
--- [2.65] it is given exactly for the numbers that stand, and it is sound
-pub record FreshTable (n a b c : ℕ) : Type 0 where
+-- [2.65] it is given exactly for the parameters that stand, and it is sound
+pub record FreshTable (k : Parameters) : Type 0 where
   -- [4.11] [4.12] it is refused exactly where one of them holds
-  pub accepted : Accepted (freshOf n a b c) ↔ (CountStands n × LimitsStand a b c)
-  pub fresh : Accepted (freshOf n a b c) → Fresh n a b c (freshOf n a b c .state)
-  pub sound : Accepted (freshOf n a b c) → soundOf (freshOf n a b c .state) ≡ true
+  pub accepted : Accepted (freshOf k) ↔ ParametersStand k
+  pub fresh : Accepted (freshOf k) → Fresh k (freshOf k .state)
+  pub sound : Accepted (freshOf k) → soundOf (freshOf k .state) ≡ true
   -- [4.100]
-  pub refused : freshOf n a b c .answer .code ≢ 0 → Fresh 0 0 0 0 (freshOf n a b c .state)
+  pub refused : freshOf k .answer .code ≢ 0 → Fresh noParameters (freshOf k .state)
   -- [4.100]
-  pub unsound : freshOf n a b c .answer .code ≢ 0 → soundOf (freshOf n a b c .state) ≡ false
+  pub unsound : freshOf k .answer .code ≢ 0 → soundOf (freshOf k .state) ≡ false
 
--- [2.65] [4.11] [4.12] [4.100] for any numbers
+-- [2.65] [4.11] [4.12] [4.100] for any parameters
 abbrev pub FreshIsPlain : Type 0
-FreshIsPlain = (n a b c : ℕ) → FreshTable n a b c
+FreshIsPlain = (k : Parameters) → FreshTable k

@@ -10,9 +10,9 @@ use Rattle.model.specs.Texts.{textLimit}
 use Rattle.model.proofs.Tests.{if-lt}
 use Rattle.trace.specs.declared.texts.Size.{Size}
 use Rattle.trace.specs.declared.texts.Size.the-variants.{Bytes, Long}
-use Rattle.trace.specs.Puts.{Put}
+use Rattle.text.specs.Puts.{Put}
 use Rattle.trace.specs.Passes.{PutSized}
-use Rattle.trace.proofs.Putting.{Left, left-all, left-next}
+use Rattle.text.proofs.Putting.{Left, left-all, left-next}
 
 pub left-nothing : {old whole new : List ℕ} {start at : ℕ}
     → Left old start whole new at [] → at ≤ textLimit → PutSized old new start whole (Bytes at)

@@ -10,7 +10,7 @@ use Rattle.model.specs.declared.Row.the-variants.{Step, Unread}
 use Rattle.model.specs.Texts.{Event}
 use Rattle.model.specs.Readings.{eventAt, Body, bodyOf, over}
 use Rattle.model.proofs.Lists.{drop-end}
-use Rattle.trace.proofs.Putting.{sets-over}
+use Rattle.text.proofs.Putting.{sets-over}
 use Rattle.grammar.proofs.Bodies.{Along, along-turn, body-end, body-fault, some-left}
 
 -- the steps before `at` have been stored in `new`, which was `old`: storing the others gives the whole

@@ -12,7 +12,7 @@ use Rattle.model.specs.Answers.{answerOf}
 use Rattle.model.specs.Texts.{Event, traceText, textLimit}
 use Rattle.model.specs.Writings.{formlessOf, Written, unwritten, fitted, writeOf}
 use Rattle.grammar.proofs.RoundTrips.{write-done as formed-written}
-use Rattle.trace.proofs.Putting.{sets-over}
+use Rattle.text.proofs.Putting.{sets-over}
 
 -- what is to be written, and the lent bytes
 pub record Task : Type 0 where

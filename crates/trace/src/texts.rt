@@ -10,7 +10,7 @@ ghost use Prim.Native.Nat.{_≤_, min};
 ghost use Rattle.model.specs.Texts.{hasForm, headText, eventsText, traceText};
 ghost use Rattle.model.specs.Readings.{lists};
 ghost use Rattle.model.specs.Writings.{eventsOf, formlessOf};
-ghost use Rattle.trace.specs.Puts.{Put};
+ghost use Rattle.text.specs.Puts.{Put};
 ghost use Rattle.trace.specs.Passes.{PutSized};
 
 // [4.15] [21.100] How many bytes a text has; or that they are more than 65,536.

@@ -4,7 +4,7 @@ use mathlib.Core.Path.{refl}
 use Rattle.model.specs.States.{limitOf, entriesSound, soundOf, entryOf}
 use Rattle.model.specs.Actions.{transitionOf, effect}
 use Rattle.model.specs.Answers.{soonest, lateOf, criticalFrom, criticalOf, stepOf, freshOf}
-use Rattle.model.specs.Encodings.{processNumbers, stateNumbers}
+use Rattle.layout.specs.Encodings.{processNumbers, stateNumbers}
 use Rattle.cases.specs.Cases.{outcomeOf, toldBy}
 use Rattle.cases.proofs.Cases.{numbersOf, same, meets, passes, hold}
 use Rattle.cases.proofs.table.Statement.{statement}

@@ -8,7 +8,7 @@ use lib.ListN.{length}
 use lib.Seq.{length-take-le}
 use Rattle.model.specs.Readings.{over}
 use Rattle.model.specs.Summaries.{recordedOf}
-use Rattle.model.specs.Encodings.{stateNumbers, tableIn, isSoundTable, summaryIn}
+use Rattle.layout.specs.Encodings.{stateNumbers, tableIn, isSoundTable, summaryIn}
 use Rattle.funnelfawn.proofs.Lending.{short-unsound, first-sound}
 use Rattle.funnelfawn.proofs.Lending.{record-unsound, record-short, recorded-accepted, recorded-refused, record-gives}
 use Rattle.funnelfawn.proofs.funnelfawn_record.Statement.{statement}

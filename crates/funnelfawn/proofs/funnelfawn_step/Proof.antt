@@ -5,7 +5,7 @@ use mathlib.Core.Bool.{true}
 use borrow.Author.Needs.{needs}
 use lib.Seq.{length-take-le}
 use Rattle.model.specs.Answers.{stepOf}
-use Rattle.model.specs.Encodings.{tableIn, isSoundTable}
+use Rattle.layout.specs.Encodings.{tableIn, isSoundTable}
 use Rattle.funnelfawn.proofs.Lending.{short-unsound, first-sound, step-unsound, step-accepted, step-refused}
 use Rattle.funnelfawn.proofs.funnelfawn_step.Statement.{statement}
 use Rattle.funnelfawn.proofs.funnelfawn_step.Tie as tie

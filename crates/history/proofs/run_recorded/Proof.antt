@@ -3,7 +3,7 @@
 use Prim.Native.Nat.{_-_}
 use native.Mathlib.Omega.{arith}
 use Rattle.model.specs.Summaries.{beside}
-use Rattle.theory.specs.Tallies.{startOf}
+use Rattle.tallies.specs.Tallies.{startOf}
 use Rattle.history.specs.RecordedRuns.{recordedRunGave, recordedRunOf}
 use Rattle.history.proofs.RecordedTurns.{length-events, Underway, begins, goes-on, answers-long, ends, recorded-run-tallied}
 use Rattle.history.proofs.run_recorded.Statement.{statement}

@@ -1,7 +1,7 @@
 -- `report::put_line` meets its contract. Assumes nothing.
 use native.Mathlib.Omega.{arith}
 use borrow.Author.Needs.{needs}
-use Rattle.trace.proofs.Putting.{values-width}
+use Rattle.text.proofs.Putting.{values-width}
 use Rattle.report.proofs.put_line.Statement.{statement}
 use Rattle.report.proofs.put_line.Tie as tie
 

@@ -8,9 +8,9 @@ use native.Mathlib.Omega.{arith}
 use lib.ListN.{length, length-take}
 use Rattle.model.specs.Readings.{Lists, lists, room, refused, traceOf}
 use Rattle.model.specs.Reports.{answerNames, reportText}
-use Rattle.trace.specs.Puts.{Put}
+use Rattle.text.specs.Puts.{Put}
 use Rattle.report.proofs.Kept.{Kept, kept, refusal}
-use Rattle.trace.proofs.Putting.{put-long}
+use Rattle.text.proofs.Putting.{put-long}
 use Rattle.report.proofs.Runs.{after-names}
 use borrow.Author.Needs.{needs}
 use Rattle.report.proofs.put_report.Statement.{statement}

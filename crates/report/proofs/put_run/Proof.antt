@@ -8,7 +8,7 @@ use borrow.Author.Needs.{needs}
 use Rattle.model.specs.Writings.{eventsIn}
 use Rattle.model.specs.Reports.{runText}
 use Rattle.model.proofs.Lists.{drop-end}
-use Rattle.trace.proofs.Putting.{Left, left-all, left-next, left-done}
+use Rattle.text.proofs.Putting.{Left, left-all, left-next, left-done}
 use Rattle.report.proofs.Runs.{run-at}
 use Rattle.report.proofs.put_run.Statement.{statement}
 use Rattle.report.proofs.put_run.Tie as tie

@@ -11,7 +11,7 @@ use borrow.Author.Tests.{lt-ltb}
 use Rattle.model.specs.declared.Answer.{Answer}
 use Rattle.model.specs.Writings.{fitted}
 use Rattle.model.specs.Reports.{reportText}
-use Rattle.trace.proofs.Putting.{put-long}
+use Rattle.text.proofs.Putting.{put-long}
 use Rattle.report.proofs.Runs.{nothing-put, put-whole}
 use Rattle.report.proofs.report.Statement.{statement}
 use Rattle.report.proofs.report.Tie as tie

@@ -6,7 +6,7 @@ use native.Mathlib.Numerals.{add-one}
 use borrow.Author.Needs.{needs}
 use lib.ListN.{length, take, replicate, length-set, replicate-append-replicate}
 use lib.Seq.{take-suc-set, take-all}
-use Rattle.model.specs.Encodings.{summaryLength, statisticsNumbers}
+use Rattle.layout.specs.Encodings.{summaryLength, statisticsNumbers}
 use Rattle.funnelfawn.proofs.summaries.clear.Statement.{statement}
 use Rattle.funnelfawn.proofs.summaries.clear.Tie as tie
 

@@ -6,7 +6,7 @@ use native.Mathlib.Omega.{arith}
 use borrow.Author.Needs.{needs}
 use lib.ListN.{length, take, drop, length-set}
 use lib.Seq.{take-all}
-use Rattle.model.specs.Encodings.{countsLength, statisticsIn}
+use Rattle.layout.specs.Encodings.{countsLength, statisticsIn}
 use Rattle.model.proofs.Lists.{drop-at, drop-end}
 use Rattle.funnelfawn.proofs.Lists.{fill-at}
 use Rattle.funnelfawn.proofs.summaries.load.Statement.{statement}

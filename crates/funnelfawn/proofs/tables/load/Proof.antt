@@ -6,7 +6,7 @@ use mathlib.Core.Logic.{⊎-elim}
 use native.Mathlib.Omega.{arith}
 use lib.ListN.{getD, drop}
 use borrow.Author.Tests.{not-true, not-false}
-use Rattle.model.specs.Encodings.{headerLength, stride, stateIn}
+use Rattle.layout.specs.Encodings.{headerLength, stride, stateIn}
 use Rattle.machine.specs.declared.limits.Numbers.{Numbers}
 use Rattle.machine.specs.Survey.{numbersOf, numbersStand}
 use Rattle.funnelfawn.specs.Loading.{areIdle}

@@ -1,7 +1,7 @@
 -- `funnelfawn::tables::numbers_in` meets its contract: number by number. Assumes nothing.
 use borrow.Author.Needs.{needs}
 use mathlib.Core.Path.{refl}
-use Rattle.model.specs.Encodings.{stateIn}
+use Rattle.layout.specs.Encodings.{stateIn}
 use Rattle.funnelfawn.proofs.tables.numbers_in.Statement.{statement}
 use Rattle.funnelfawn.proofs.tables.numbers_in.Tie as tie
 

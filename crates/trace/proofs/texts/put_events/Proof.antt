@@ -4,7 +4,7 @@ use native.Mathlib.Omega.{arith}
 use Rattle.model.specs.Texts.{eventsText}
 use Rattle.model.specs.Readings.{Lists, lists}
 use Rattle.model.specs.Writings.{eventsOf}
-use Rattle.trace.proofs.Putting.{Left, left-all, left-next, event-width}
+use Rattle.text.proofs.Putting.{Left, left-all, left-next, event-width}
 use Rattle.trace.proofs.Traces.{eventOf, from, text-at, text-end}
 use Rattle.trace.proofs.Sizes.{left-nothing, left-long}
 use borrow.Author.Needs.{needs}

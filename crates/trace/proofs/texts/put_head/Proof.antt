@@ -2,7 +2,7 @@
 use Prim.Native.Nat.{_+_, _≤_}
 use native.Mathlib.Omega.{arith}
 use Rattle.model.specs.Texts.{headText}
-use Rattle.trace.proofs.Putting.{put-both, put-first, values-width}
+use Rattle.text.proofs.Putting.{put-both, put-first, values-width}
 use borrow.Author.Needs.{needs}
 use Rattle.trace.proofs.texts.put_head.Statement.{statement}
 use Rattle.trace.proofs.texts.put_head.Tie as tie

@@ -1,6 +1,6 @@
 -- `trace::texts::put_trace` meets its contract. Assumes nothing.
 use native.Mathlib.Omega.{arith}
-use Rattle.trace.proofs.Putting.{head-width}
+use Rattle.text.proofs.Putting.{head-width}
 use Rattle.trace.proofs.Sizes.{put-sized}
 use borrow.Author.Needs.{needs}
 use Rattle.trace.proofs.texts.put_trace.Statement.{statement}

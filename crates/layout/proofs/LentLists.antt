@@ -1,0 +1,96 @@
+-- A list of calls on lent numbers is the list of calls of demand 3: each call gives back the numbers of what it gives back at the
+-- table. Assumes nothing.
+use Prim.Native.Nat.{ℕ}
+use mathlib.Core.Path.{_≡_, refl, sym, ap, subst, _∙_}
+use mathlib.Core.List.{List, [], _∷_, _++_, map}
+use lib.ListN.{drop}
+use Rattle.model.specs.declared.State.{State}
+use Rattle.model.specs.States.{soundOf}
+use Rattle.model.specs.Answers.{answerOf, freshOf}
+use Rattle.model.specs.Calls.{callOf, tableOf, runOf, resultsOf}
+use Rattle.model.specs.Readings.{over}
+use Rattle.layout.specs.Encodings.{tableLength, stateNumbers, isSoundTable}
+use Rattle.model.proofs.Lists.{over-seam}
+use Rattle.theory.proofs.Soundness.{fresh-is-plain}
+use Rattle.lists.proofs.Calls.{unsound-call}
+use Rattle.lists.proofs.Sizes.{Whole, call-whole}
+use Rattle.lists.proofs.Demand3.{every-list}
+use Rattle.layout.proofs.Encodings.{table-length, table-comes-back}
+use Rattle.layout.specs.Interface.{Lent, LentBoth, recordGave}
+use Rattle.layout.specs.Guarantees.{LentCall, lentCall, lentResults, lentRun, callIn, summaryAfter}
+use Rattle.layout.specs.Guarantees.{inNumbers, allInNumbers, LentDemand3, EveryLentList}
+use Rattle.layout.proofs.LentSteps.{FreshGiven, fresh-given, summary-kept, CallGiven, given}
+
+-- One call
+
+module _ (s : State) (whole : Whole s) (rest : List ℕ) where
+  abbrev numbers : List ℕ
+  numbers = stateNumbers s ++ rest
+
+  sound-told : isSoundTable numbers ≡ soundOf s
+  unfolding isSoundTable
+  sound-told = rw (table-comes-back s whole rest .0, table-comes-back s whole rest .1)
+
+  -- the numbers of a table as large take the place of these
+  takes-place : (t : State) → Whole t → over (stateNumbers t) numbers ≡ stateNumbers t ++ rest
+  takes-place t h = over-seam (stateNumbers t) (stateNumbers s) rest (table-length t h ∙ sym (table-length s whole))
+
+  module _ (d : LentCall) where
+    given-in-numbers : {g : LentBoth} → CallGiven numbers (d .summary) (callOf s (callIn d)) g
+        → g ≡ inNumbers rest d (callOf s (callIn d))
+    given-in-numbers (CallGiven.no-table e) =
+        sym (ap (inNumbers rest d) (unsound-call s (callIn d) (sym sound-told ∙ e))
+        ∙ ap (recordGave (answerOf 1 0 0) numbers) (summary-kept d))
+    given-in-numbers (CallGiven.taken _) =
+        let r = callOf s (callIn d) in
+        ap (λ (l : List ℕ). recordGave (r .outcome .answer) l (summaryAfter (d .summary) (r .statistics)))
+        (takes-place (r .outcome .state) (call-whole s whole (callIn d)))
+
+    pub call-in-numbers : lentCall numbers d ≡ inNumbers rest d (callOf s (callIn d))
+    call-in-numbers =
+        given-in-numbers
+        (subst (λ (t : State). CallGiven numbers (d .summary) (callOf t (callIn d)) (lentCall numbers d))
+        (table-comes-back s whole rest .1) (given numbers d))
+
+-- A list of calls
+
+module _ (rest : List ℕ) where
+  results-in-numbers : (s : State) → Whole s → (ds : List LentCall)
+      → lentResults (stateNumbers s ++ rest) ds ≡ allInNumbers rest ds (resultsOf s (map callIn ds))
+  unfolding lentResults resultsOf allInNumbers
+  results-in-numbers s whole [] = refl
+  results-in-numbers s whole (d ∷ ds) =
+      ap (λ (g : LentBoth). g ∷ lentResults (g .table) ds) (call-in-numbers s whole rest d)
+      ∙ ap (λ (gs : List LentBoth). inNumbers rest d (callOf s (callIn d)) ∷ gs)
+      (results-in-numbers (tableOf s (callIn d)) (call-whole s whole (callIn d)) ds)
+
+  run-in-numbers : (s : State) → Whole s → (ds : List LentCall)
+      → lentRun (stateNumbers s ++ rest) ds ≡ stateNumbers (runOf s (map callIn ds)) ++ rest
+  unfolding lentRun runOf
+  run-in-numbers s whole [] = refl
+  run-in-numbers s whole (d ∷ ds) =
+      ap (λ (g : LentBoth). lentRun (g .table) ds) (call-in-numbers s whole rest d)
+      ∙ run-in-numbers (tableOf s (callIn d)) (call-whole s whole (callIn d)) ds
+
+-- From a fresh table
+
+module _ (n a b c : ℕ) (table : List ℕ) (ds : List LentCall) where
+  abbrev From : List ℕ → Type 0
+  From l = LentDemand3 (freshOf n a b c .state) l (drop tableLength table) ds
+
+  fresh-list : {g : Lent} → FreshGiven n a b c table g → g .answer .code ≡ 0 → From (g .table)
+  fresh-list (FreshGiven.refused n) e = absurd (n e)
+  fresh-list (FreshGiven.made _ _) e =
+      let s = freshOf n a b c .state in
+      let whole = fresh-is-plain n a b c .fresh e .size in
+      rw (table-length s whole)
+      (record {
+        results = resultsOf s (map callIn ds);
+        last = runOf s (map callIn ds);
+        results-are = results-in-numbers (drop tableLength table) s whole ds;
+        last-is = run-in-numbers (drop tableLength table) s whole ds;
+        demand3 = every-list n a b c e (map callIn ds);
+      })
+
+pub every-lent-list : EveryLentList
+every-lent-list n a b c table ds = fresh-list n a b c table ds (fresh-given n a b c table)

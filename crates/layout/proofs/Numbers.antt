@@ -1,0 +1,138 @@
+-- Numbers and what they tell: a table and a summary come back from their numbers, the numbers of an entry or a table from what they
+-- tell, and how many they are. Assumes nothing.
+use Prim.Native.Nat.{ℕ, zero, suc, _+_, _*_, _≤_}
+use mathlib.Core.Path.{_≡_, refl, sym}
+use mathlib.Core.Bool.{true, false≢true}
+use mathlib.Core.List.{List, [], _∷_}
+use native.Mathlib.Omega.{arith}
+use lib.ListN.{length, getD, drop}
+use borrow.Author.Tests.{eq-eqb}
+use Rattle.model.specs.declared.Location.{Location}
+use Rattle.model.specs.declared.Location.the-variants.{Remainder, Testing, Setting, Checking, Entering, Critical, Resetting, Leaving}
+use Rattle.model.specs.declared.Process.{Process}
+use Rattle.model.specs.declared.State.{State}
+use Rattle.model.specs.declared.Statistics.{Statistics}
+use Rattle.model.specs.Stages.{leaving}
+use Rattle.model.specs.States.{idle, stageOf, sinceOf, locationAt}
+use Rattle.layout.specs.Encodings.{headerLength, stride, processNumbers, stateNumbers, processesIn, stateIn, isEntry, areEntries}
+use Rattle.layout.specs.Encodings.{countsLength, statisticsNumbers, statisticsIn}
+use Rattle.model.proofs.Lists.{drop-at}
+use Rattle.model.proofs.Locations.{location-is}
+use Rattle.model.proofs.Tests.{and-true-iff, tests}
+
+-- One entry
+
+-- the numbers of a location tell an entry
+pub location-entry : (l : Location) → isEntry (stageOf l) (sinceOf l) ≡ true
+location-entry Remainder = refl
+location-entry (Testing t) = eq-eqb t t refl
+location-entry (Setting t) = eq-eqb t t refl
+location-entry (Checking t) = eq-eqb t t refl
+location-entry (Entering t) = eq-eqb t t refl
+location-entry Critical = refl
+location-entry (Resetting t) = eq-eqb t t refl
+location-entry (Leaving t) = eq-eqb t t refl
+
+-- a stage up to leaving is that of its location
+stage-told : (stage since : ℕ) → stage ≤ leaving → stageOf (locationAt stage since) ≡ stage
+stage-told zero t h = refl
+stage-told (suc zero) t h = refl
+stage-told (suc (suc zero)) t h = refl
+stage-told (suc (suc (suc zero))) t h = refl
+stage-told (suc (suc (suc (suc zero)))) t h = refl
+stage-told (suc (suc (suc (suc (suc zero))))) t h = refl
+stage-told (suc (suc (suc (suc (suc (suc zero)))))) t h = refl
+stage-told (suc (suc (suc (suc (suc (suc (suc zero))))))) t h = refl
+stage-told (suc (suc (suc (suc (suc (suc (suc (suc k)))))))) t h = absurd (omega arith)
+
+-- a stage and an arrival that tell an entry are its numbers
+pub record Told (stage since : ℕ) : Type 0 where
+  pub stage-is : stageOf (locationAt stage since) ≡ stage
+  pub since-is : sinceOf (locationAt stage since) ≡ since
+
+pub entry-told : (stage since : ℕ) → isEntry stage since ≡ true → Told stage since
+entry-told stage since e =
+    let h = simp tests at e in
+    record { stage-is = stage-told stage since (h .0); since-is = h .1 }
+
+-- Entries
+
+pub processes-told : (qs : List Process) → processesIn (processNumbers qs) ≡ qs
+unfolding processesIn processNumbers
+processes-told [] = refl
+processes-told (q ∷ qs) = λ i. record { location = sym (location-is (q .location)) i } ∷ processes-told qs i
+
+pub processes-are-entries : (qs : List Process) → areEntries (processNumbers qs) ≡ true
+unfolding areEntries processNumbers
+processes-are-entries [] = refl
+processes-are-entries (q ∷ qs) = and-true-iff _ _ .1 (location-entry (q .location), processes-are-entries qs)
+
+pub entries-told : (l : List ℕ) → areEntries l ≡ true → processNumbers (processesIn l) ≡ l
+unfolding areEntries processesIn processNumbers
+entries-told [] e = refl
+entries-told (stage ∷ []) e = absurd (false≢true e)
+entries-told (stage ∷ since ∷ rest) e =
+    let h = and-true-iff (isEntry stage since) (areEntries rest) .0 e in
+    let t = entry-told stage since (h .0) in
+    λ i. t .stage-is i ∷ t .since-is i ∷ entries-told rest (h .1) i
+
+pub length-processes : (qs : List Process) → length (processNumbers qs) ≡ stride * length qs
+unfolding processNumbers
+length-processes [] = refl
+length-processes (q ∷ qs) = omega (arith, length-processes qs)
+
+-- of entry j the stage and the arrival stand at 2j and 2j + 1; past the end all are idle
+pub record NumbersAt (l : List ℕ) (j : ℕ) (q : Process) : Type 0 where
+  pub stage-at : getD l (stride * j) 0 ≡ stageOf (q .location)
+  pub since-at : getD l (stride * j + 1) 0 ≡ sinceOf (q .location)
+
+pub numbers-at : (qs : List Process) (j : ℕ) → NumbersAt (processNumbers qs) j (getD qs j idle)
+unfolding processNumbers
+numbers-at [] j = record { stage-at = refl; since-at = refl }
+numbers-at (q ∷ qs) zero = record { stage-at = refl; since-at = refl }
+numbers-at (q ∷ qs) (suc j) =
+    let e : stride * suc j ≡ suc (suc (stride * j)) = omega arith in
+    let f : stride * suc j + 1 ≡ suc (suc (stride * j + 1)) = omega arith in
+    record { stage-at = rw e (numbers-at qs j .stage-at); since-at = rw f (numbers-at qs j .since-at) }
+
+-- A table
+
+pub length-state : (s : State) → length (stateNumbers s) ≡ headerLength + stride * length (s .processes)
+unfolding stateNumbers
+length-state s = omega (arith, length-processes (s .processes))
+
+pub state-has-entries : (s : State) → areEntries (drop headerLength (stateNumbers s)) ≡ true
+unfolding stateNumbers
+state-has-entries s = processes-are-entries (s .processes)
+
+pub state-told : (s : State) → stateIn (stateNumbers s) ≡ s
+unfolding stateIn stateNumbers
+state-told s = rw (processes-told (s .processes))
+
+-- a list is its first five numbers and what is left
+five-and-rest : (l : List ℕ) → 5 ≤ length l → getD l 0 0 ∷ getD l 1 0 ∷ getD l 2 0 ∷ getD l 3 0 ∷ getD l 4 0 ∷ drop 5 l ≡ l
+five-and-rest (u ∷ v ∷ w ∷ x ∷ y ∷ l) h = refl
+five-and-rest (u ∷ v ∷ w ∷ x ∷ []) h = absurd (omega arith)
+five-and-rest (u ∷ v ∷ w ∷ []) h = absurd (omega arith)
+five-and-rest (u ∷ v ∷ []) h = absurd (omega arith)
+five-and-rest (u ∷ []) h = absurd (omega arith)
+five-and-rest [] h = absurd (omega arith)
+
+pub state-numbers-told : (l : List ℕ) → headerLength ≤ length l → areEntries (drop headerLength l) ≡ true
+    → stateNumbers (stateIn l) ≡ l
+unfolding stateIn stateNumbers
+state-numbers-told l h e = rw (entries-told (drop headerLength l) e, ← drop-at l 5 0 (omega arith)) (five-and-rest l (omega arith))
+
+-- A summary
+
+pub length-summary : (x : Statistics) → length (statisticsNumbers x) ≡ countsLength + length (x .tries)
+unfolding statisticsNumbers
+length-summary x = omega arith
+
+pub summary-told : (x : Statistics) → statisticsIn (statisticsNumbers x) ≡ x
+unfolding statisticsIn statisticsNumbers
+summary-told x = refl
+
+pub summary-numbers-told : (l : List ℕ) → countsLength ≤ length l → statisticsNumbers (statisticsIn l) ≡ l
+unfolding statisticsIn statisticsNumbers
+summary-numbers-told = five-and-rest

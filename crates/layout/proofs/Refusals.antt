@@ -1,0 +1,97 @@
+-- A refusal leaves the lent numbers: a refused call gives back the table that they tell, and that has these numbers. A refused act
+-- that is counted raises one of them. Assumes nothing.
+use Prim.Native.Nat.{ℕ, _+_, _≤_}
+use mathlib.Core.Path.{_≡_, refl, _∙_}
+use mathlib.Core.Logic.{_≢_}
+use mathlib.Core.List.{List}
+use native.Mathlib.Omega.{arith}
+use lib.ListN.{length, getD, set}
+use lib.Seq.{getD-take}
+use Rattle.model.specs.declared.State.{State}
+use Rattle.model.specs.declared.Outcome.{Outcome}
+use Rattle.model.specs.Readings.{over}
+use Rattle.model.specs.Summaries.{refusedCounted}
+use Rattle.model.specs.Calls.{Call}
+use Rattle.layout.specs.Encodings.{tableIn, summaryLength, statisticsNumbers, statisticsIn, summaryIn}
+use Rattle.model.proofs.Lists.{over-set}
+use Rattle.layout.proofs.Numbers.{length-summary}
+use Rattle.lists.proofs.Calls.{Called, called}
+use Rattle.theory.proofs.Summaries.{recorded-is-plain}
+use Rattle.layout.proofs.Encodings.{sound-is-table, numbers-come-back, summary-numbers-come-back}
+use Rattle.layout.specs.Interface.{Lent, LentSummary, LentBoth}
+use Rattle.layout.specs.Guarantees.{RefusedFreshStays, RefusedStepStays, RefusedSummaryStays, RefusedRecordStays}
+use Rattle.layout.specs.Guarantees.{SummaryStays, RefusedIsCounted, LentCall, lentCall, callIn}
+use Rattle.layout.proofs.LentSteps.{FreshGiven, fresh-given, NewGiven, new-given, RecordGiven, record-given}
+use Rattle.layout.proofs.LentSteps.{stepCall, recordCall, CallGiven, Given, given}
+
+-- A fresh table and a new summary
+
+fresh-stays : {n a b c : ℕ} {table : List ℕ} {r : Lent} → FreshGiven n a b c table r → r .answer .code ≢ 0 → r .table ≡ table
+fresh-stays (FreshGiven.refused _) n = refl
+fresh-stays (FreshGiven.made e _) n = absurd (n e)
+
+new-stays : {summary : List ℕ} {r : LentSummary} → NewGiven summary r → r .answer .code ≢ 0 → r .summary ≡ summary
+new-stays NewGiven.refused n = refl
+new-stays (NewGiven.made _) n = absurd (n refl)
+
+pub refused-fresh-stays : RefusedFreshStays
+refused-fresh-stays n a b c table = fresh-stays (fresh-given n a b c table)
+
+pub refused-summary-stays : RefusedSummaryStays
+refused-summary-stays summary = new-stays (new-given summary)
+
+-- The table of a step and of a recorded step
+
+same-table : {s : State} {d : Call} {o : Outcome} → Called s d o → o .answer .code ≢ 0 → o .state ≡ s
+same-table (Called.accepted e) n = absurd (n e)
+same-table (Called.refused _ e) n = e
+
+module _ (table : List ℕ) (d : LentCall) where
+  given-stays : {g : LentBoth} → Given table d g → g .answer .code ≢ 0 → g .table ≡ table
+  given-stays (CallGiven.no-table _) n = refl
+  given-stays (CallGiven.taken e) n =
+      rw (same-table (called (tableIn table) (callIn d)) n) (numbers-come-back table (sound-is-table table e))
+
+  call-stays : lentCall table d .answer .code ≢ 0 → lentCall table d .table ≡ table
+  call-stays = given-stays (given table d)
+
+pub refused-step-stays : RefusedStepStays
+unfolding lentCall
+refused-step-stays table act p m = call-stays table (stepCall act p m)
+
+pub refused-record-stays : RefusedRecordStays
+unfolding lentCall
+refused-record-stays table summary act p m = call-stays table (recordCall summary act p m)
+
+-- The summary of a recorded step
+
+-- to count a refused act in the summary that a list tells is to raise its second number
+one-more : (l : List ℕ) → summaryLength ≤ length l
+    → over (statisticsNumbers (refusedCounted (summaryIn l))) l ≡ set l 1 (getD l 1 0 + 1)
+unfolding statisticsNumbers statisticsIn
+one-more l fits =
+    let x = summaryIn l in
+    over-set (statisticsNumbers x) l 1 (x .counts .refused + 1) (omega (arith, length-summary x))
+    ∙ (λ i. set (summary-numbers-come-back l fits i) 1 (getD-take summaryLength l 1 0 (omega arith) i + 1))
+
+module _ {table summary : List ℕ} {act p m : ℕ} where
+  leaves-summary : {r : LentBoth} → RecordGiven table summary act p m r
+      → r .answer .code ≢ 0 → r .answer .code ≤ 3 → r .summary ≡ summary
+  leaves-summary (RecordGiven.no-table _) n h = refl
+  leaves-summary (RecordGiven.no-summary _ _) n h = refl
+  leaves-summary (RecordGiven.taken _ fits) n h =
+      rw (recorded-is-plain (tableIn table) (summaryIn summary) act p m .unchanged (omega arith) h .1)
+      (summary-numbers-come-back summary fits)
+
+  counts-refused : {r : LentBoth} → RecordGiven table summary act p m r
+      → 4 ≤ r .answer .code → r .summary ≡ set summary 1 (getD summary 1 0 + 1)
+  counts-refused (RecordGiven.no-table _) h = absurd (omega arith)
+  counts-refused (RecordGiven.no-summary _ _) h = absurd (omega arith)
+  counts-refused (RecordGiven.taken _ fits) h =
+      rw (recorded-is-plain (tableIn table) (summaryIn summary) act p m .refused h .1) (one-more summary fits)
+
+pub summary-stays : SummaryStays
+summary-stays table summary act p m = leaves-summary (record-given table summary act p m)
+
+pub refused-is-counted : RefusedIsCounted
+refused-is-counted table summary act p m = counts-refused (record-given table summary act p m)

@@ -1,0 +1,113 @@
+-- Section 9 of the specification, its lists: a state and a summary as numbers at fixed places, for a caller who can lend nothing else.
+-- Assumes nothing.
+use Prim.Native.Nat.{ℕ, _+_, _*_}
+use mathlib.Core.Bool.{Bool, true, false, _&&_}
+use mathlib.Core.List.{List, [], _∷_, _++_}
+use lib.ListN.{length, getD, take, drop}
+use lib.Dec.{leb, eqb}
+use Rattle.model.specs.declared.Process.{Process}
+use Rattle.model.specs.declared.Parameters.{Parameters}
+use Rattle.model.specs.declared.State.{State}
+use Rattle.model.specs.declared.Counts.{Counts}
+use Rattle.model.specs.declared.Statistics.{Statistics}
+use Rattle.model.specs.Stages.{leaving}
+use Rattle.model.specs.States.{entry, stageOf, sinceOf, soundOf, locationAt}
+use Rattle.model.specs.Summaries.{countsNumbers, countsIn, statisticsOf}
+use Rattle.model.specs.Readings.{parametersIn}
+
+-- A table, the numbers of a state
+
+-- [9.10] the numbers before the entries
+abbrev pub headerLength : ℕ
+headerLength = 6
+
+-- [9.10] the numbers of an entry
+abbrev pub stride : ℕ
+stride = 2
+
+-- [9.10] the numbers of a table
+abbrev pub tableLength : ℕ
+tableLength = headerLength + stride * 96
+
+-- [9.10] where the clock stands, after the parameters
+abbrev pub clockPlace : ℕ
+clockPlace = 4
+
+-- [9.10] where the word stands
+abbrev pub wordPlace : ℕ
+wordPlace = clockPlace + 1
+
+-- [9.10] the numbers of the entries
+unfoldable pub processNumbers : List Process → List ℕ
+processNumbers [] = []
+processNumbers (q ∷ qs) = stageOf (q .location) ∷ sinceOf (q .location) ∷ processNumbers qs
+
+-- [9.10] the numbers of the parameters
+abbrev pub parametersNumbers : Parameters → List ℕ
+parametersNumbers k = k .n ∷ k .a ∷ k .b ∷ k .c ∷ []
+
+-- [9.10]
+unfoldable pub stateNumbers : State → List ℕ
+stateNumbers s = parametersNumbers (s .parameters) ++ (s .clock ∷ s .word ∷ processNumbers (s .processes))
+
+-- The state that numbers tell
+
+-- [9.10] the entries that numbers tell
+unfoldable pub processesIn : List ℕ → List Process
+processesIn [] = []
+processesIn (stage ∷ []) = []
+processesIn (stage ∷ since ∷ rest) = entry (locationAt stage since) ∷ processesIn rest
+
+-- [9.10] of just the numbers of a table
+unfoldable pub stateIn : List ℕ → State
+stateIn l =
+    record {
+      parameters = parametersIn l;
+      clock = getD l clockPlace 0;
+      word = getD l wordPlace 0;
+      processes = processesIn (drop headerLength l);
+    }
+
+-- [9.20] a stage and a since tell a location if there is one that has them
+abbrev pub isEntry : ℕ → ℕ → Bool
+isEntry stage since = leb stage leaving && eqb (sinceOf (locationAt stage since)) since
+
+-- [9.20] of the numbers of all entries
+unfoldable pub areEntries : List ℕ → Bool
+areEntries [] = true
+areEntries (stage ∷ []) = false
+areEntries (stage ∷ since ∷ rest) = isEntry stage since && areEntries rest
+
+-- [9.20] a list that starts with the numbers of a state
+unfoldable pub isTable : List ℕ → Bool
+isTable l = leb tableLength (length l) && areEntries (drop headerLength (take tableLength l))
+
+-- [9.10] the state that the first numbers of a list tell
+abbrev pub tableIn : List ℕ → State
+tableIn l = stateIn (take tableLength l)
+
+-- [9.20] a list that starts with the numbers of a sound state
+unfoldable pub isSoundTable : List ℕ → Bool
+isSoundTable l = isTable l && soundOf (tableIn l)
+
+-- A summary
+
+-- [9.30] the numbers before the try times
+abbrev pub countsLength : ℕ
+countsLength = 5
+
+-- [9.30] the numbers of a summary
+abbrev pub summaryLength : ℕ
+summaryLength = countsLength + 96
+
+-- [9.30]
+unfoldable pub statisticsNumbers : Statistics → List ℕ
+statisticsNumbers x = countsNumbers (x .counts) ++ x .tries
+
+-- [9.30] the summary that just its numbers tell
+unfoldable pub statisticsIn : List ℕ → Statistics
+statisticsIn l = statisticsOf (countsIn l) (drop countsLength l)
+
+-- [9.30] the summary that the first numbers of a list tell
+abbrev pub summaryIn : List ℕ → Statistics
+summaryIn l = statisticsIn (take summaryLength l)

@@ -1,0 +1,12 @@
+-- Numbers and moves, then states, then lists
+pub mod View
+pub mod Exclusion
+pub mod Wait
+pub mod StateView
+pub mod Moves
+pub mod Calls
+pub mod Sizes
+pub mod Reached
+pub mod Progress
+pub mod Spans
+pub mod Demand3

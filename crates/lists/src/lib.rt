@@ -1,0 +1,1 @@
+// Theorems about every list of calls; this crate has no code.

@@ -1,0 +1,4 @@
+pub mod CountLaws
+pub mod ActKinds
+pub mod Countings
+pub mod Tallies

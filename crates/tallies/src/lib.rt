@@ -1,0 +1,1 @@
+// Theorems about the tally of a list of recorded steps; this crate has no code.

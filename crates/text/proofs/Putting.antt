@@ -1,0 +1,117 @@
+-- Laws of putting texts into a lent output, and how wide the texts are at most. Assumes nothing.
+use Prim.Native.Nat.{ℕ, zero, suc, _+_, _^_, _≤_, _<_, max}
+use mathlib.Core.Path.{_≡_, refl, sym, ap, _∙_}
+use mathlib.Core.List.{List, [], _∷_, _++_}
+use native.Mathlib.Omega.{arith}
+use native.Mathlib.Nat.{add-zero, zero-add}
+use lib.ListN.{length, getD, set, drop, length-append}
+use lib.Seq.{sets, sets-eq, length-sets}
+use Rattle.model.specs.Texts.{Event, decimal, comma, newline, numberText, words, wordText, valuesText, eventText, headText}
+use Rattle.model.specs.Readings.{over}
+use Rattle.model.proofs.Lists.{drop-at}
+use Rattle.grammar.proofs.Digits.{digits-word}
+use Rattle.text.specs.Puts.{Put}
+
+pub sets-append : (xs ys l : List ℕ) (i : ℕ) → sets l i (xs ++ ys) ≡ sets (sets l i xs) (i + length xs) ys
+sets-append [] ys l i = rw add-zero
+sets-append (x ∷ xs) ys l i =
+    let e : suc i + length xs ≡ i + suc (length xs) = omega arith in
+    sets-append xs ys (set l i x) (suc i) ∙ rw e
+
+-- one more byte of a text
+pub sets-at : (l text : List ℕ) (at i : ℕ) → i < length text
+    → sets l (at + i) (drop i text) ≡ sets (set l (at + i) (getD text i 0)) (at + (i + 1)) (drop (i + 1) text)
+sets-at l text at i h = let e : suc (at + i) ≡ at + (i + 1) = omega arith in rw (drop-at text i 0 h, ← e)
+
+-- a text that fits, from the start on, and the rest as it was
+pub sets-over : (text out : List ℕ) → length text ≤ length out → sets out 0 text ≡ over text out
+sets-over text out h = sets-eq text out 0 (omega arith) ∙ rw zero-add
+
+-- Putting
+
+-- an output keeps its length
+pub put-long : {old new text : List ℕ} {at width : ℕ} → Put old new at text width → length new ≡ length old
+put-long {old} {text = text} {at = at} p = ap length (p .stored) ∙ length-sets old at text
+
+pub put-nothing : {old : List ℕ} {at : ℕ} → Put old old at [] 0
+put-nothing = record { stored = refl; wide = refl }
+
+pub put-one : {old new : List ℕ} {at x : ℕ} → new ≡ set old at x → Put old new at (x ∷ []) 1
+put-one e = record { stored = e; wide = refl }
+
+-- one text after the other
+pub put-both : {old mid new x y : List ℕ} {at i j : ℕ} → Put old mid at x i → Put mid new (at + i) y j → Put old new at (x ++ y) (i + j)
+put-both {old} {mid} {new} {x} {y} {at} {i} {j} f g =
+    record {
+      stored = g .stored ∙ rw (f .stored, f .wide) (sym (sets-append x y old at));
+      wide = omega (arith, f .wide, g .wide, length-append x y);
+    }
+
+-- a text at the start, and one after it
+pub put-first : {old mid new x y : List ℕ} {i j : ℕ} → Put old mid 0 x i → Put mid new i y j → Put old new 0 (x ++ y) (i + j)
+put-first {i = i} f g = put-both f (rw zero-add g)
+
+-- Putting part by part
+
+-- `whole` is being put into `old` from `start` on: it is `new` now, and `rest` is left to put from `at` on
+pub record Left (old : List ℕ) (start : ℕ) (whole new : List ℕ) (at : ℕ) (rest : List ℕ) : Type 0 where
+  pub ends : at + length rest ≡ start + length whole
+  pub same : length new ≡ length old
+  pub stored : sets new at rest ≡ sets old start whole
+
+pub left-all : {old : List ℕ} {start : ℕ} {whole : List ℕ} → Left old start whole old start whole
+left-all = record { ends = refl; same = refl; stored = refl }
+
+-- one text more is put
+pub left-next : {old whole mid new x y : List ℕ} {start at k : ℕ}
+    → Left old start whole mid at (x ++ y) → Put mid new at x k → Left old start whole new (at + k) y
+left-next {mid = mid} {x = x} {y = y} {at = at} f p =
+    record {
+      ends = omega (arith, f .ends, p .wide, length-append x y);
+      same = put-long p ∙ f .same;
+      stored = rw (p .stored, p .wide) (sym (sets-append x y mid at) ∙ f .stored);
+    }
+
+-- nothing is left
+pub left-done : {old whole new : List ℕ} {start at k : ℕ} → Left old start whole new at [] → at ≡ start + k → Put old new start whole k
+left-done f e = record { stored = f .stored; wide = omega (arith, f .ends) }
+
+-- Widths
+
+-- a number that a u64 holds
+pub number-width : (v end : ℕ) → v < 2 ^ 64 → length (numberText end v) ≤ 21
+unfolding numberText
+number-width v end h = omega (arith, length-append (decimal v) (end ∷ []), digits-word v h)
+
+pub number-narrow : {old new : List ℕ} {at k : ℕ} (v end : ℕ) → v < 2 ^ 64 → Put old new at (numberText end v) k → k ≤ 21
+number-narrow v end h p = omega (arith, p .wide, number-width v end h)
+
+abbrev longest : List (List ℕ) → ℕ
+longest [] = 0
+longest (w ∷ ws) = max (length w) (longest ws)
+
+longest-at : (ws : List (List ℕ)) (i : ℕ) → length (getD ws i []) ≤ longest ws
+longest-at [] i = omega arith
+longest-at (w ∷ ws) zero = omega arith
+longest-at (w ∷ ws) (suc i) = omega (arith, longest-at ws i)
+
+pub word-width : (action : ℕ) → length (wordText action) ≤ 6
+unfolding wordText
+word-width action = omega (arith, length-append (getD words action []) (newline ∷ []), longest-at words action)
+
+-- four numbers
+pub values-width : (n a b c : ℕ) → n < 2 ^ 64 → a < 2 ^ 64 → b < 2 ^ 64 → c < 2 ^ 64 → length (valuesText n a b c) ≤ 84
+unfolding valuesText
+values-width n a b c hn ha hb hc =
+    simp length-append
+    (omega (arith, number-width n comma hn, number-width a comma ha, number-width b comma hb, number-width c newline hc))
+
+pub event-width : (e : Event) → e .time < 2 ^ 64 → e .process < 2 ^ 64 → length (eventText e) ≤ 48
+unfolding eventText
+event-width e ht hp =
+    simp length-append
+    (omega (arith, number-width (e .time) comma ht, number-width (e .process) comma hp, word-width (e .action)))
+
+pub head-width : (n a b c : ℕ) → n < 2 ^ 64 → a < 2 ^ 64 → b < 2 ^ 64 → c < 2 ^ 64 → length (headText n a b c) ≤ 114
+unfolding headText
+head-width n a b c hn ha hb hc = simp length-append (omega (arith, values-width n a b c hn ha hb hc))

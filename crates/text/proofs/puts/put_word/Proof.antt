@@ -1,0 +1,75 @@
+-- `puts::put_word` meets its contract: the cell of an act holds its word. Assumes nothing.
+use mathlib.Core.List.{[]}
+use native.Mathlib.Omega.{arith}
+use lib.ListN.{List·getD-eq-default}
+use Rattle.model.specs.Texts.{words, wordText}
+use Rattle.text.proofs.Cells.{cell}
+use borrow.Author.Needs.{needs}
+use Rattle.trace.proofs.puts.put_word.Statement.{statement}
+use Rattle.trace.proofs.puts.put_word.Tie as tie
+use Rattle.trace.proofs.puts.put_word.Reads as reads
+use Rattle.trace.proofs.puts.put_word.Lts as lts
+use Rattle.trace.proofs.puts.put_text.Reads as put-text-reads
+
+slice-aggregate-put-text : tie.Need-slice-aggregate-put-text
+slice-aggregate-put-text c = search needs
+
+put-text-requires : tie.Need-put-text-requires
+put-text-requires c κs = search needs
+
+same-length : tie.Need-same-length
+same-length c = search needs
+
+returns : tie.Need-returns
+unfolding wordText
+returns c = rw (List·getD-eq-default words [] (c .before .before .before .before .before .if1 .taken)) (c .before .before .put-text .ensures)
+
+mul-from : tie.Need-mul-from
+mul-from c = search needs
+
+mul-to : tie.Need-mul-to
+mul-to c = search needs
+
+array-read-to : tie.Need-array-read-to
+array-read-to c = search needs
+
+add-to : tie.Need-add-to
+add-to c = omega (arith, cell (c .before .before .args .action) (c .if1 .left) .fits)
+
+sub-put-text : tie.Need-sub-put-text
+sub-put-text c = search needs
+
+part-put-text-start : tie.Need-part-put-text-start
+part-put-text-start c = search needs
+
+part-put-text-end : tie.Need-part-put-text-end
+part-put-text-end c = omega (arith, cell (c .before .before .before .before .args .action) (c .before .before .if1 .left) .fits)
+
+put-text-requires-2 : tie.Need-put-text-requires-2
+put-text-requires-2 c κs = search needs
+
+same-length-2 : tie.Need-same-length-2
+same-length-2 c = search needs
+
+returns-2 : tie.Need-returns-2
+unfolding wordText
+returns-2 c = rw (cell (c .before .before .before .before .before .before .before .before .args .action) (c .before .before .before .before .before .before .if1 .left) .holds) at (c .before .before .put-text2 .ensures)
+
+pub put-word-spec : {M : Type 1} → statement M
+put-word-spec =
+    tie.close
+    (tie.spec
+    slice-aggregate-put-text
+    put-text-requires
+    same-length
+    returns
+    mul-from
+    mul-to
+    array-read-to
+    add-to
+    sub-put-text
+    part-put-text-start
+    part-put-text-end
+    put-text-requires-2
+    same-length-2
+    returns-2)

@@ -1,0 +1,93 @@
+// Putting texts into a lent output. Each function puts as much of its text as the output has room for and answers how many
+// bytes the whole text has, so that an empty output measures it. None needs a promise.
+use crate::words::CELL;
+use crate::words::CELLS;
+use crate::words::COUNT;
+use crate::words::WIDTHS;
+ghost use mathlib.Core.Path.{_≡_};
+ghost use Prim.Native.Nat.{_+_};
+ghost use lib.ListN.{set};
+ghost use Rattle.model.specs.Texts.{decimal, numberText, wordText, valuesText, eventText};
+ghost use Rattle.text.specs.Puts.{Put};
+
+// Stores x at place at + k, where `out` has such a place.
+fn put_byte(out: &mut [u8], at: usize, k: usize, x: u8)
+    ensures { λ _. ⌜ now (out .exit) ≡ set (now (out .entry)) (at + k) x ⌝ }
+{
+    if at < out.len() {
+        if k < out.len() - at {
+            out[at + k] = x;
+        }
+    }
+}
+
+// A text as it is.
+pub fn put_text(out: &mut [u8], at: usize, text: &[u8]) -> usize
+    ensures { λ r. ⌜ Put (now (out .entry)) (now (out .exit)) at (now (text .entry)) r ⌝ }
+{
+    let mut i: usize = 0;
+    while i < text.len() {
+        put_byte(out, at, i, text[i]);
+        i += 1;
+    }
+    i
+}
+
+// [6.60]
+fn put_digits(out: &mut [u8], at: usize, v: u64) -> usize
+    ensures { λ r. ⌜ Put (now (out .entry)) (now (out .exit)) at (decimal v) r ⌝ }
+{
+    if v < 10 {
+        put_byte(out, at, 0, 48 + (v as u8));
+        return 1;
+    }
+    let k = put_digits(out, at, v / 10);
+    put_byte(out, at, k, 48 + ((v % 10) as u8));
+    k + 1
+}
+
+// [6.60] A number and the byte that ends it.
+pub fn put_number(out: &mut [u8], at: usize, v: u64, end: u8) -> usize
+    ensures { λ r. ⌜ Put (now (out .entry)) (now (out .exit)) at (numberText end v) r ⌝ }
+{
+    let k = put_digits(out, at, v);
+    put_byte(out, at, k, end);
+    k + 1
+}
+
+// [6.70] The word of an action and the end of its line.
+fn put_word(out: &mut [u8], at: usize, action: u64) -> usize
+    ensures { λ r. ⌜ Put (now (out .entry)) (now (out .exit)) at (wordText action) r ⌝ }
+{
+    if COUNT <= action {
+        return put_text(out, at, b"\n");
+    }
+    let cells = CELLS;
+    let widths = WIDTHS;
+    let from = (action as usize) * CELL;
+    let to = from + widths[action as usize];
+    put_text(out, at, &cells[from..to])
+}
+
+// [6.30] A line of four numbers. The place is a u32 so that no sum of places overflows.
+pub fn put_values(out: &mut [u8], at: u32, n: u64, a: u64, b: u64, c: u64) -> usize
+    ensures { λ r. ⌜ Put (now (out .entry)) (now (out .exit)) at (valuesText n a b c) r ⌝ }
+{
+    let start = at as usize;
+    let i = put_number(out, start, n, b',');
+    let j = put_number(out, start + i, a, b',');
+    let k = put_number(out, start + i + j, b, b',');
+    let l = put_number(out, start + i + j + k, c, b'\n');
+    i + (j + (k + l))
+}
+
+// [6.50] The line of a step.
+pub fn put_event(out: &mut [u8], at: u32, time: u64, process: u64, action: u64) -> usize
+    ensures { λ r. ⌜ Put (now (out .entry)) (now (out .exit)) at (eventText (record { time = time; process = process; action = action })) r ⌝ }
+{
+    let start = at as usize;
+    let i = put_number(out, start, time, b',');
+    let j = put_number(out, start + i, process, b',');
+    let k = put_word(out, start + i + j, action);
+    i + (j + k)
+}
