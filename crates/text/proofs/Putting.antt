@@ -98,20 +98,3 @@ longest-at (w ∷ ws) (suc i) = omega (arith, longest-at ws i)
 pub word-width : (action : ℕ) → length (wordText action) ≤ 6
 unfolding wordText
 word-width action = omega (arith, length-append (getD words action []) (newline ∷ []), longest-at words action)
-
--- four numbers
-pub values-width : (n a b c : ℕ) → n < 2 ^ 64 → a < 2 ^ 64 → b < 2 ^ 64 → c < 2 ^ 64 → length (valuesText n a b c) ≤ 84
-unfolding valuesText
-values-width n a b c hn ha hb hc =
-    simp length-append
-    (omega (arith, number-width n comma hn, number-width a comma ha, number-width b comma hb, number-width c newline hc))
-
-pub event-width : (e : Event) → e .time < 2 ^ 64 → e .process < 2 ^ 64 → length (eventText e) ≤ 48
-unfolding eventText
-event-width e ht hp =
-    simp length-append
-    (omega (arith, number-width (e .time) comma ht, number-width (e .process) comma hp, word-width (e .action)))
-
-pub head-width : (n a b c : ℕ) → n < 2 ^ 64 → a < 2 ^ 64 → b < 2 ^ 64 → c < 2 ^ 64 → length (headText n a b c) ≤ 114
-unfolding headText
-head-width n a b c hn ha hb hc = simp length-append (omega (arith, values-width n a b c hn ha hb hc))

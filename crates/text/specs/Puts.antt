@@ -10,3 +10,7 @@ use lib.Seq.{sets}
 pub record Put (old new : List ℕ) (at : ℕ) (text : List ℕ) (width : ℕ) : Type 0 where
   pub stored : new ≡ sets old at text
   pub wide : width ≡ length text
+
+-- helper: as many numbers may follow the first of a line that is put
+abbrev pub mostNumbers : ℕ
+mostNumbers = 4_294_967_295

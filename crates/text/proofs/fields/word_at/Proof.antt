@@ -11,11 +11,11 @@ use Rattle.model.specs.Readings.{wordFrom, wordAt}
 use Rattle.text.proofs.Cells.{cell}
 use Rattle.text.proofs.Turns.{word-at}
 use borrow.Author.Needs.{needs}
-use Rattle.trace.proofs.fields.word_at.Statement.{statement}
-use Rattle.trace.proofs.fields.word_at.Tie as tie
-use Rattle.trace.proofs.fields.word_at.Reads as reads
-use Rattle.trace.proofs.fields.word_at.Lts as lts
-use Rattle.trace.proofs.fields.starts_with.Reads as starts-with-reads
+use Rattle.text.proofs.fields.word_at.Statement.{statement}
+use Rattle.text.proofs.fields.word_at.Tie as tie
+use Rattle.text.proofs.fields.word_at.Reads as reads
+use Rattle.text.proofs.fields.word_at.Lts as lts
+use Rattle.text.proofs.fields.starts_with.Reads as starts-with-reads
 
 abbrev Inv-loop : tie.InvT-loop
 Inv-loop s cells widths action₀ action = (action ≤ 9) × (wordFrom action (drop action words) s ≡ wordAt s)

@@ -4,8 +4,8 @@ use mathlib.Core.Path.{sym}
 use native.Mathlib.Omega.{arith}
 use lib.Seq.{set-out}
 use borrow.Author.Needs.{needs}
-use Rattle.trace.proofs.puts.put_byte.Statement.{statement}
-use Rattle.trace.proofs.puts.put_byte.Tie as tie
+use Rattle.text.proofs.puts.put_byte.Statement.{statement}
+use Rattle.text.proofs.puts.put_byte.Tie as tie
 
 sub-if2 : tie.Need-sub-if2
 sub-if2 c = search needs

@@ -8,8 +8,8 @@ use lib.Seq.{sets}
 use Rattle.model.proofs.Lists.{drop-end}
 use Rattle.text.proofs.Putting.{sets-at}
 use borrow.Author.Needs.{needs}
-use Rattle.trace.proofs.puts.put_text.Statement.{statement}
-use Rattle.trace.proofs.puts.put_text.Tie as tie
+use Rattle.text.proofs.puts.put_text.Statement.{statement}
+use Rattle.text.proofs.puts.put_text.Tie as tie
 
 abbrev Inv-loop : tie.InvT-loop
 Inv-loop out₀ at text i₀ out i =

@@ -5,11 +5,11 @@ use lib.ListN.{List·getD-eq-default}
 use Rattle.model.specs.Texts.{words, wordText}
 use Rattle.text.proofs.Cells.{cell}
 use borrow.Author.Needs.{needs}
-use Rattle.trace.proofs.puts.put_word.Statement.{statement}
-use Rattle.trace.proofs.puts.put_word.Tie as tie
-use Rattle.trace.proofs.puts.put_word.Reads as reads
-use Rattle.trace.proofs.puts.put_word.Lts as lts
-use Rattle.trace.proofs.puts.put_text.Reads as put-text-reads
+use Rattle.text.proofs.puts.put_word.Statement.{statement}
+use Rattle.text.proofs.puts.put_word.Tie as tie
+use Rattle.text.proofs.puts.put_word.Reads as reads
+use Rattle.text.proofs.puts.put_word.Lts as lts
+use Rattle.text.proofs.puts.put_text.Reads as put-text-reads
 
 slice-aggregate-put-text : tie.Need-slice-aggregate-put-text
 slice-aggregate-put-text c = search needs

@@ -1,4 +1,4 @@
--- `fields::number_at` meets its contract. The invariant: the number is read from what is left, after the digits so far; one turn
+-- `fields::number_below` meets its contract. The invariant: the number is read from what is left, after the digits so far; one turn
 -- is `numberTurn`. Assumes nothing.
 use borrow.Author.Needs.{needs}
 use Prim.Native.Nat.{_+_, _-_, _*_, _≤_, _<_}
@@ -12,12 +12,12 @@ use Rattle.model.specs.declared.Field.the-variants.{Bad}
 use Rattle.model.specs.Readings.{numberFrom, numberAt}
 use Rattle.model.proofs.Lists.{drop-end}
 use Rattle.text.proofs.Turns.{numberTurn, number-at}
-use Rattle.trace.proofs.fields.number_at.Statement.{statement}
-use Rattle.trace.proofs.fields.number_at.Tie as tie
-use Rattle.trace.proofs.fields.number_at.Reads as reads
-use Rattle.trace.proofs.fields.number_at.Lts as lts
-use Rattle.trace.proofs.fields.wide.Reads as wide-reads
-use Rattle.trace.proofs.fields.has_leading_zero.Reads as has-leading-zero-reads
+use Rattle.text.proofs.fields.number_below.Statement.{statement}
+use Rattle.text.proofs.fields.number_below.Tie as tie
+use Rattle.text.proofs.fields.number_below.Reads as reads
+use Rattle.text.proofs.fields.number_below.Lts as lts
+use Rattle.text.proofs.fields.wide.Reads as wide-reads
+use Rattle.text.proofs.fields.has_leading_zero.Reads as has-leading-zero-reads
 
 abbrev Inv-loop : tie.InvT-loop
 Inv-loop s bound end v₀ i₀ v i = (i ≤ length s) × (v < 10000000000000) × (numberFrom bound end v i (drop i s) ≡ numberAt bound end s)
@@ -107,8 +107,8 @@ returns-7 c =
     let v = c .before .loop in
     rw (drop-end (c .before .before .before .args .s .now) (v .i) (omega arith) (omega arith)) at (v .inv .2)
 
-pub number-at-spec : {M : Type 1} → statement M
-number-at-spec =
+pub number-below-spec : {M : Type 1} → statement M
+number-below-spec =
     tie.close
     (tie.spec
     Inv-loop
