@@ -11,6 +11,6 @@ pub record Put (old new : List ℕ) (at : ℕ) (text : List ℕ) (width : ℕ) :
   pub stored : new ≡ sets old at text
   pub wide : width ≡ length text
 
--- helper: as many numbers may follow the first of a line that is put
-abbrev pub mostNumbers : ℕ
+-- helper: so many numbers at most follow the first of a line that is put
+unfoldable pub mostNumbers : ℕ
 mostNumbers = 4_294_967_295

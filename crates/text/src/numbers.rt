@@ -5,12 +5,13 @@ use model::Field;
 use model::Line;
 use values::least;
 ghost use mathlib.Core.Path.{_≡_};
-ghost use lib.ListN.{set, take, replicate};
+ghost use Prim.Native.Nat.{_+_, _*_, _≤_};
+ghost use lib.ListN.{length, set, take, replicate};
 ghost use Rattle.model.specs.Texts.{numbersText};
 ghost use Rattle.model.specs.Readings.{numbersAt};
 ghost use Rattle.text.specs.Puts.{mostNumbers, Put};
 
-// No more numbers than these follow the first of a line that is put, so that no sum of places overflows.
+// So many numbers at most follow the first of a line that is put: then no sum of places overflows.
 const MOST_NUMBERS: usize = 4294967295;
 
 // The numbers with one more; past the fourth place there is none.
@@ -66,9 +67,11 @@ pub fn numbers_at(s: &[u8], more: usize, line: u64) -> Line
     }
 }
 
-// [6.30] [7.25] Puts a line of numbers, `first` and then the others. The place is a u32 for the same reason.
+// [6.30] [7.25] Puts a line of numbers, `first` and then the others: a number has at most 20 digits, and a byte ends it. The place is a u32
+// so that no sum of places overflows.
 pub fn put_numbers(out: &mut [u8], at: u32, first: u64, rest: &[u64]) -> usize
     ensures { λ r. ⌜ Put (now (out .entry)) (now (out .exit)) at (numbersText first (take mostNumbers (now (rest .entry)))) r ⌝ }
+    ensures { λ r. ⌜ r ≤ 21 + 21 * length (now (rest .entry)) ⌝ }
 {
     let start = at as usize;
     let count = least(rest.len(), MOST_NUMBERS);

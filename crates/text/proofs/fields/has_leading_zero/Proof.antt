@@ -2,8 +2,6 @@
 use borrow.Author.Tests.{eq-eqb, ne-eqb}
 use Rattle.text.proofs.fields.has_leading_zero.Statement.{statement}
 use Rattle.text.proofs.fields.has_leading_zero.Tie as tie
-use Rattle.text.proofs.fields.has_leading_zero.Reads as reads
-use Rattle.text.proofs.fields.has_leading_zero.Lts as lts
 
 returns : tie.Need-returns
 returns c = simp (ne-eqb _ _ (c .if1 .taken))

@@ -1,11 +1,10 @@
 -- `numbers::numbers_at` meets its contract. The invariant: the numbers that are left read what is left of the text. Assumes nothing.
-use Prim.Native.Nat.{ℕ, _+_, _-_, _≤_, _<_}
-use mathlib.Core.Path.{_≡_, refl, sym, _∙_}
+use Prim.Native.Nat.{ℕ, _+_, _-_, _≤_}
+use mathlib.Core.Path.{_≡_, sym, _∙_}
 use mathlib.Core.List.{List}
 use native.Mathlib.Omega.{arith}
 use native.Mathlib.Nat.{sub-zero}
 use lib.ListN.{length, drop, length-drop}
-use Rattle.model.specs.declared.Field.{Field}
 use Rattle.model.specs.declared.Field.the-variants.{Value}
 use Rattle.model.specs.Texts.{comma, newline, numberBound}
 use Rattle.model.specs.Readings.{numberAt, numbersFrom, numbersAt}
@@ -15,11 +14,6 @@ use Rattle.text.proofs.Turns.{numbers-next, numbers-bad, numbers-last, 
 use borrow.Author.Needs.{needs}
 use Rattle.text.proofs.numbers.numbers_at.Statement.{statement}
 use Rattle.text.proofs.numbers.numbers_at.Tie as tie
-use Rattle.text.proofs.numbers.numbers_at.Reads as reads
-use Rattle.text.proofs.numbers.numbers_at.Lts as lts
-use Rattle.text.proofs.fields.number_at.Reads as number-at-reads
-use Rattle.text.proofs.numbers.line_fails.Reads as line-fails-reads
-use Rattle.text.proofs.numbers.with_number.Reads as with-number-reads
 
 abbrev Inv-loop : tie.InvT-loop
 Inv-loop s more line numbers₀ at₀ i₀ numbers at i =
@@ -34,13 +28,15 @@ within s at end v k h e = omega (arith, took-le (number-was numberBound end (dro
 
 -- the number that is read before a comma, and the last
 read : (c : tie.After-known-told Inv-loop μ-loop)
-    → numberAt numberBound comma (drop (c .before .before .before .before .before .before .loop .at) (c .before .before .before .before .before .before .before .before .args .s .now))
-    ≡ Value (c .before .field .given .0 .0) (c .before .field .given .0 .1 .0)
+    → (let s = c .before .before .before .before .before .before .before .before .args .s .now in
+    numberAt numberBound comma (drop (c .before .before .before .before .before .before .loop .at) s)
+    ≡ Value (c .before .field .given .0 .0) (c .before .field .given .0 .1 .0))
 read c = rw part-is at (sym (c .before .before .before .number-at .ensures) ∙ c .before .field .given .1)
 
 read-last : (c : tie.After-known-told2 Inv-loop μ-loop)
-    → numberAt numberBound newline (drop (c .before .before .before .before .before .before .loop .at) (c .before .before .before .before .before .before .before .before .args .s .now))
-    ≡ Value (c .before .last .given .0 .0) (c .before .last .given .0 .1 .0)
+    → (let s = c .before .before .before .before .before .before .before .before .args .s .now in
+    numberAt numberBound newline (drop (c .before .before .before .before .before .before .loop .at) s)
+    ≡ Value (c .before .last .given .0 .0) (c .before .last .given .0 .1 .0))
 read-last c = rw part-is at (sym (c .before .before .before .number-at2 .ensures) ∙ c .before .last .given .1)
 
 loop-holds : tie.Need-loop-holds Inv-loop μ-loop
@@ -97,7 +93,7 @@ loop-again c =
       omega arith,
       within _ (v .at) comma _ _ (v .inv .1) e,
       rw (c .with-number .ensures)
-      (sym (numbers-next (a .line) (a .more) (v .i) (v .at) (v .numbers) (a .s .now) _ _ (omega arith) e) ∙ v .inv .2),
+          (sym (numbers-next (a .line) (a .more) (v .i) (v .at) (v .numbers) (a .s .now) _ _ (omega arith) e) ∙ v .inv .2),
     )
 
 sub-number-at-2 : tie.Need-sub-number-at-2 Inv-loop μ-loop

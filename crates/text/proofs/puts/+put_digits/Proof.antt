@@ -1,4 +1,4 @@
--- `trace::puts::put_digits` meets its contract: the digits before the last are those of v / 10. Assumes nothing.
+-- `puts::put_digits` meets its contract: the digits before the last are those of v / 10. Assumes nothing.
 use native.Mathlib.Omega.{arith}
 use Prim.Native.Nat.{ℕ, _/_, _<_}
 use Rattle.grammar.proofs.Digits.{decimal-small, decimal-more, digits-word}

@@ -1,4 +1,4 @@
--- `trace::puts::put_byte` meets its contract: beyond the end there is no place. Assumes nothing.
+-- `puts::put_byte` meets its contract: beyond the end there is no place. Assumes nothing.
 use Prim.Native.Nat.{_+_}
 use mathlib.Core.Path.{sym}
 use native.Mathlib.Omega.{arith}

@@ -1,4 +1,4 @@
--- `trace::puts::put_number` meets its contract. Assumes nothing.
+-- `puts::put_number` meets its contract. Assumes nothing.
 use native.Mathlib.Omega.{arith}
 use Rattle.model.specs.Texts.{numberText}
 use Rattle.grammar.proofs.Digits.{digits-word}

@@ -1,4 +1,4 @@
--- `trace::puts::put_text` meets its contract: what is left to put comes to the same as the whole. Assumes nothing.
+-- `puts::put_text` meets its contract: what is left to put comes to the same as the whole. Assumes nothing.
 use Prim.Native.Nat.{_+_, _-_, _≤_}
 use mathlib.Core.Path.{_≡_, refl, sym, ap, _∙_}
 use native.Mathlib.Omega.{arith}
