@@ -47,15 +47,15 @@ module _ (k : Parameters) (e : Accepted (freshOf k)) where
   pub fresh-is : IsFresh (freshOf k .state)
   fresh-is = record { parameters = k; accepted = e; is = refl }
 
-  -- and its answer says no more than that
-  abbrev Plain : Outcome → Type 0
-  Plain o = Accepted o → o .answer ≡ answerOf 0 0 0
+  abbrev Bare : Outcome → Type 0
+  Bare o = Accepted o → o .answer ≡ answerOf 0 0 0
 
+  -- and an answer with nothing in it
   pub fresh-answer : freshOf k .answer ≡ answerOf 0 0 0
   unfolding freshOf
   fresh-answer =
-      by-cond Plain (not (countStands k)) (λ _ n. absurd (omega arith))
-      (λ _. by-cond Plain (not (limitsStand k)) (λ _ n. absurd (omega arith)) (λ _ _. refl)) e
+      by-cond Bare (not (countStands k)) (λ _ n. absurd (omega arith))
+      (λ _. by-cond Bare (not (limitsStand k)) (λ _ n. absurd (omega arith)) (λ _ _. refl)) e
 
 -- A new summary
 
