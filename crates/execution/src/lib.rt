@@ -59,7 +59,7 @@ fn run_steps(
     }
 }
 
-// [7.40] [7.45] [21.110] Reads a recording into three lists, and stores the answer to each of its steps, as many as there are rows. A
+// [7.47] [21.110] Reads a recording into three lists, and stores the answer to each of its steps, as many as there are rows. A
 // refusal tells the line that it is reported at, and then nothing is stored.
 pub fn execute(
     text: &[u8],

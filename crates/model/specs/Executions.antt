@@ -48,14 +48,14 @@ pub record Executed : Type 0 where
 abbrev pub executedGave : Scan → Lists → List (List ℕ) → Executed
 executedGave r l answers = record { scan = r; kept = l; answers = answers }
 
--- helper: the answers in the first rows, as many as there are rows
+-- [7.47] the answers in the first rows, as many as there are rows
 abbrev pub answersOver : List Answer → List (List ℕ) → List (List ℕ)
 answersOver rs rows = over (take (length rows) (map answerNumbers rs)) rows
 
--- helper: of a text that was scanned; where it is refused no step is run
+-- [7.47] of a text that was scanned; where it is refused no step is run
 abbrev pub ranScanned : Trace → Scanned → List (List ℕ) → Executed
 ranScanned t r rows = executedGave (r .scan) (r .kept) (cond (eqb (r .scan .code) 0) (answersOver (answersIn t) rows) rows)
 
--- [7.40] [7.45] as a whole
+-- [7.47] as a whole
 unfoldable pub executedOf : List ℕ → Lists → List (List ℕ) → Executed
 executedOf text l rows = ranScanned (traceOf text) (scannedOf text l) rows

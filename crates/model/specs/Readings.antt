@@ -88,7 +88,7 @@ numbersAt line more s = numbersFrom line more 0 0 (replicate 4 0) s
 abbrev pub scanOf : ℕ → Parameters → ℕ → Scan
 scanOf line k size = record { code = 0; line = line; parameters = k; size = size }
 
--- [6.90] [7.35] a refusal's code and the line that it is reported at
+-- [6.145] [7.35] a refusal's code and the line that it is reported at
 abbrev pub scanFails : ℕ → ℕ → Scan
 scanFails code line = record { code = code; line = line; parameters = noParameters; size = 0 }
 
@@ -217,7 +217,7 @@ into l (refused code line) = scanGave (scanFails code line) l
 into l (trace line k events) =
     cond (ltb (room l) (length events)) (scanGave (scanFails 16 0) l) (scanGave (scanOf line k (length events)) (stored events l))
 
--- [6.90] [6.130] all that a scan of a text gives back
+-- [6.90] [6.130] [6.145] all that a scan of a text gives back
 unfoldable pub scannedOf : List ℕ → Lists → Scanned
 scannedOf text l = into l (traceOf text)
 

@@ -81,7 +81,7 @@ pub struct Line {
     pub size: usize,
 }
 
-// [6.20] [6.30] [6.40] [6.50] What is found of a text: its parameters, the line of its first step, and a size, that of the first lines in
+// [6.145] What is found of a text: its parameters, the line of its first step, and a size, that of the first lines in
 // bytes or that of all in steps; or a refusal's code, which is not 0, and the line that it is reported at. It is no enum, which could not
 // hold an array: parameters may come to hold one.
 pub struct Scan {
