@@ -11,7 +11,7 @@ use lib.Seq.{getD-set-same, getD-set-other}
 use Rattle.model.specs.declared.Process.{Process}
 use Rattle.model.specs.declared.State.{State}
 use Rattle.model.specs.declared.Transition.{Transition}
-use Rattle.model.specs.States.{idle, entryOf}
+use Rattle.model.specs.States.{entry, idle, entryOf}
 use Rattle.model.specs.Actions.{moved}
 
 -- A list of entries
@@ -60,7 +60,7 @@ among-entry s a = among-at a
 -- The entries after a move
 
 module _ (s : State) (p m : ℕ) (t : Transition) where
-  pub moved-own : 1 ≤ p → p ≤ length (s .processes) → entryOf (moved s p m t) p ≡ record { location = t .to }
+  pub moved-own : 1 ≤ p → p ≤ length (s .processes) → entryOf (moved s p m t) p ≡ entry (t .to)
   unfolding entryOf
   moved-own some most = getD-set-same (s .processes) (p - 1) _ idle (omega arith)
 
