@@ -41,7 +41,7 @@ past-iff k l = (λ h t a. omega (arith, arrival-since a), since-past k l)
 
 -- Deadlines
 
--- process i, with the entry q, has the latest moment d
+-- process i, with the entry q, has the deadline d
 abbrev pub Latest : State → ℕ → Process → ℕ → Type 0
 Latest s i q d = Deadline (limitOf s i) (s .parameters .c) (q .location) d
 
@@ -98,7 +98,7 @@ in-time Critical h = omega arith
 in-time (Resetting t) h = omega (arith, h _ Deadline.resetting)
 in-time (Leaving t) h = omega (arith, h _ Deadline.leaving)
 
--- an entry that is bounded has the latest moment that `deadline` gives
+-- an entry that is bounded has the deadline that `deadline` gives
 pub bounded-latest : (s : State) (i : ℕ) (q : Process) → bounded s q ≡ true → Latest s i q (deadline s i q)
 bounded-latest s i q = timed-deadline (limitOf s i) (s .parameters .c) (q .location)
 

@@ -7,7 +7,6 @@ use mathlib.Core.Bool.{true, false, not}
 use mathlib.Core.List.{List, [], _∷_}
 use native.Mathlib.Omega.{arith}
 use lib.Dec.{leb}
-use lib.ListN.{getD, replicate}
 use borrow.Author.Tests.{leb-true, leb-false, lt-leb}
 use Rattle.model.specs.declared.Location.the-variants.{Remainder}
 use Rattle.model.specs.declared.Process.{Process}
@@ -20,7 +19,7 @@ use Rattle.model.specs.Answers.{answers, blank, freshOf}
 use Rattle.model.specs.Facts.{Accepted, Arrival}
 use Rattle.theory.specs.Soundness.{ParametersStand, Sound, SoundIffPlain, Fresh, FreshIsPlain}
 use Rattle.model.proofs.Tests.{by-test, by-cond, clash, and-true-iff, tests}
-use Rattle.theory.proofs.Entries.{Among, here, there, each-entry, among-entry, among-from}
+use Rattle.theory.proofs.Entries.{same-at, Among, here, there, each-entry, among-entry, among-from}
 use Rattle.model.proofs.Locations.{stage-location}
 use Rattle.theory.proofs.Locations.{Latest, past-iff, not-late-iff}
 
@@ -108,11 +107,6 @@ sound-iff-plain s = (sound-plain s, plain-sound s)
 
 -- A fresh table
 
-idle-at : (k i : ℕ) → getD (replicate k idle) i idle ≡ idle
-idle-at zero i = refl
-idle-at (suc k) zero = refl
-idle-at (suc k) (suc i) = idle-at k i
-
 initial-fresh : (k : Parameters) → Fresh k (initial k)
 unfolding entryOf
 initial-fresh k = record {
@@ -120,7 +114,7 @@ initial-fresh k = record {
   clock-is = refl;
   word-is = refl;
   size = refl;
-  all = λ i. ap (λ (q : Process). q .location) (idle-at 96 (i - 1));
+  all = λ i. ap (λ (q : Process). q .location) (same-at 96 (i - 1) idle);
 }
 
 initial-entry : (k : Parameters) (i : ℕ) → EntryPlain (initial k) i (entryOf (initial k) i)
