@@ -29,7 +29,7 @@ pub record Starts (text : List ℕ) (k : Parameters) (rest : List ℕ) : Type 0 
   pub is : text ≡ valueNames ++ (valuesText k ++ rest)
 
 -- [6.195] [6.90] [7.35] The number of a refusal and the line that it is reported at, each with what it says of the text; what would be
--- refused before it is ruled out, but for nine digits on line 2, which 11 and 12 leave to `afterValues`.
+-- refused before it is ruled out, but for nine digits on line 2, which 11 and 12 leave to `ofValues`.
 pub data Fault (text : List ℕ) : ℕ → ℕ → Type 0 where
   -- [4.15]
   long : textLimit < length text → Fault text 15 0
