@@ -7,19 +7,19 @@ use native.Mathlib.Omega.{arith}
 use lib.Dec.{eqb}
 use lib.ListN.{length, drop, length-append}
 use lib.Seq.{drop-append-seam}
-use borrow.Author.Tests.{eqb-true}
+use borrow.Author.Tests.{eqb-true, eqb-false}
 use Rattle.model.specs.declared.Row.{Row}
 use Rattle.model.specs.declared.Row.the-variants.{Step, Unread}
-use Rattle.model.specs.declared.Head.{Head}
-use Rattle.model.specs.declared.Head.the-variants.{Values, Refused}
-use Rattle.model.specs.Texts.{Event, eventText, headText, eventsText, traceText, hasForm}
-use Rattle.model.specs.Readings.{eventAt, headOf, Body, bodyIn, bodyOf, Trace, refused, trace, ofHead, traceOf}
+use Rattle.model.specs.declared.Parameters.{Parameters}
+use Rattle.model.specs.declared.Scan.{Scan}
+use Rattle.model.specs.Texts.{Event, event, eventText, headText, firstLine, eventsText, traceText, hasForm}
+use Rattle.model.specs.Readings.{eventAt, scanOf, headOf, Body, bodyIn, bodyOf, Trace, refused, trace, ofBody, ofHead, traceOf}
 use Rattle.model.specs.Writings.{formlessFrom}
-use Rattle.grammar.specs.Exact.{Formed, ReadExactly}
+use Rattle.grammar.specs.Exact.{Formed, Says, ReadExactly}
 use Rattle.model.proofs.Tests.{by-test, by-cond}
 use Rattle.grammar.proofs.Lines.{event-some, event-was, event-reads}
 use Rattle.grammar.proofs.Bodies.{body-step, body-end}
-use Rattle.grammar.proofs.Heads.{HeadTells, head-tells, head-reads, trace-events}
+use Rattle.grammar.proofs.Heads.{first-line, HeadTook, head-line, head-reads, head-was, trace-events}
 
 -- The steps
 
@@ -45,7 +45,7 @@ body-was (suc k) line (x ∷ s) h e = go (eventAt line (x ∷ s)) refl e (λ i. 
         let r = rest i (rw (q, bodyIn) at e) in
         rw (q, bodyIn)
         (record {
-          text = w .took .split ∙ ap (λ (l : List ℕ). eventText (record { time = t; process = p; action = a }) ++ l) (r .text);
+          text = w .took .split ∙ ap (λ (l : List ℕ). eventText (event t p a) ++ l) (r .text);
           forms = λ n. rw (w .formed) (r .forms (n + 1));
         })
 
@@ -73,39 +73,46 @@ body-reads line (e ∷ es) h f =
 
 -- Whole traces
 
-trace-reads : (n a b c : ℕ) (events : List Event) → Formed n a b c events
-    → traceOf (traceText n a b c events) ≡ trace n a b c events
-trace-reads n a b c events f =
-    let text : List ℕ = traceText n a b c events in
-    let k : ℕ = length (headText n a b c) in
-    let h = head-reads n a b c (eventsText events) (f .count) (f .limits) (f .short) in
-    let body : bodyOf 4 (drop k text) ≡ record { events = events; fault = 0 } =
-    rw drop-append-seam (body-reads 4 events (omega arith) (f .forms)) in
-    trace-events text n a b c k h (ap (λ (b : Body). b .fault) body) ∙ rw body
+trace-reads : (k : Parameters) (events : List Event) → Formed k events → traceOf (traceText k events) ≡ trace (firstLine k) k events
+trace-reads k events f =
+    let text : List ℕ = traceText k events in
+    let h = head-reads k (eventsText events) (f .stand) (f .short) in
+    let body : bodyOf (firstLine k) (drop (length (headText k)) text) ≡ record { events = events; fault = 0 } =
+    rw drop-append-seam (body-reads (firstLine k) events (first-line k .0) (f .forms)) in
+    trace-events text (scanOf (firstLine k) k (length (headText k))) h refl (ap (λ (b : Body). b .fault) body) ∙ rw body
 
 -- what a trace tells of the text that it was read from; a refusal has a number that is not 0
 abbrev pub TraceTells : List ℕ → Trace → Type 0
-TraceTells text (trace n a b c events) = (text ≡ traceText n a b c events) × Formed n a b c events
+TraceTells text (trace line k events) = Says text line k events
 TraceTells text (refused code line) = 0 < code
 
-head-then : (text : List ℕ) (h : Head) → HeadTells text h → TraceTells text (ofHead text h)
+body-then : (text : List ℕ) (h : Scan) → HeadTook text h
+    → TraceTells text (ofBody (h .line) (h .parameters) (bodyOf (h .line) (drop (h .size) text)))
 unfolding bodyOf
-head-then text (Refused code line) told = told
-head-then text (Values n a b c k) told =
-    let s = drop k text in
-    let body : Body = bodyIn (length s) 4 s in
+body-then text h told =
+    let s = drop (h .size) text in
+    let body : Body = bodyIn (length s) (h .line) s in
     by-cond (TraceTells text) (eqb (body .fault) 0)
     (λ t.
-    let r = body-was (length s) 4 s (omega arith) (eqb-true _ _ t) in
-    let text-is : text ≡ traceText n a b c (body .events) =
-    told .took .split ∙ ap (λ (l : List ℕ). headText n a b c ++ l) (r .text) in
-    let short = rw text-is at (told .short) in
-    (text-is, record { count = told .count; limits = told .limits; forms = r .forms 4; short = short }))
+    let r = body-was (length s) (h .line) s (head-line told .0) (eqb-true _ _ t) in
+    let text-is : text ≡ traceText (h .parameters) (body .events) =
+    told .took .split ∙ ap (λ (l : List ℕ). headText (h .parameters) ++ l) (r .text) in
+    record {
+      line-is = told .line-is;
+      text-is = text-is;
+      formed = record { stand = told .stand; forms = r .forms (firstLine (h .parameters)); short = rw text-is at (told .short) };
+    })
     (λ _. omega arith)
+
+head-then : (text : List ℕ) (h : Scan) → headOf text ≡ h → TraceTells text (ofHead text h)
+head-then text h e =
+    by-cond (TraceTells text) (eqb (h .code) 0) (λ t. body-then text h (head-was text h e (eqb-true (h .code) 0 t))) (λ t.
+    omega (arith, eqb-false (h .code) 0 t))
 
 pub trace-tells : (text : List ℕ) → TraceTells text (traceOf text)
 unfolding traceOf
-trace-tells text = head-then text (headOf text) (head-tells text)
+trace-tells text = head-then text (headOf text) refl
 
 pub read-exactly : ReadExactly
-read-exactly text n a b c events = (λ e. rw e at (trace-tells text), λ h. rw (h .0) (trace-reads n a b c events (h .1)))
+read-exactly text line k events =
+    (λ e. rw e at (trace-tells text), λ h. rw (h .text-is, h .line-is) (trace-reads k events (h .formed)))

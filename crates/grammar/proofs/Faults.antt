@@ -7,62 +7,61 @@ use mathlib.Core.List.{List, [], _∷_, _++_, append-assoc}
 use native.Mathlib.Omega.{arith}
 use lib.Dec.{ltb, eqb}
 use lib.ListN.{length, drop, length-drop}
-use borrow.Author.Tests.{eq-eqb, eqb-false, ltb-true, ltb-false, not-true, not-false}
+use borrow.Author.Tests.{eqb-true, eqb-false, ltb-true, ltb-false, not-true, not-false}
 use Rattle.model.specs.declared.Row.{Row}
 use Rattle.model.specs.declared.Row.the-variants.{Step, Unread}
-use Rattle.model.specs.declared.Head.{Head}
-use Rattle.model.specs.declared.Head.the-variants.{Values, Refused}
+use Rattle.model.specs.declared.Line.{Line}
+use Rattle.model.specs.declared.Parameters.{Parameters}
+use Rattle.model.specs.declared.Scan.{Scan}
 use Rattle.model.specs.States.{countStands, limitsStand}
-use Rattle.model.specs.Texts.{Event, valueNames, eventNames, valuesText, eventText, headText, eventsText, hasForm, textLimit}
-use Rattle.model.specs.Readings.{startsWith, eventAt, valuesAt, afterValues, headOf, Body, bodyIn, bodyOf, Trace, refused, trace, ofHead, traceOf}
+use Rattle.model.specs.Texts.{Event, event, valueNames, eventNames, valuesText, eventText, headText, firstLine, eventsText, hasForm, textLimit}
+use Rattle.model.specs.Readings.{startsWith, eventAt, numbersAt, parametersIn, afterValues, ofValues, headOf}
+use Rattle.model.specs.Readings.{Body, bodyIn, bodyOf, Trace, refused, trace, ofBody, ofHead, traceOf}
 use Rattle.model.specs.Writings.{formlessFrom}
-use Rattle.model.proofs.Tests.{by-cond, clash}
-use Rattle.grammar.specs.Faults.{Differs, Fault, long, names, values, count, limits, steps, step, RefusedFor}
-use Rattle.grammar.proofs.Fields.{starts-took}
-use Rattle.grammar.proofs.Lines.{took-both, event-some, event-was, event-reads, values-was, values-reads}
-use Rattle.grammar.proofs.Heads.{head-was}
-
--- Names
-
-starts-here : (w s : List ℕ) → startsWith w (w ++ s) ≡ true
-unfolding startsWith
-starts-here [] s = refl
-starts-here (x ∷ w) s = simp (eq-eqb x x refl) (starts-here w s)
+use Rattle.model.proofs.Tests.{by-cond, clash, and-true-iff, tests}
+use Rattle.grammar.specs.Faults.{Differs, Starts, Fault, long, names, values, count, limits, steps, step, RefusedFor}
+use Rattle.grammar.proofs.Fields.{Took, starts-here, starts-took}
+use Rattle.grammar.proofs.Lines.{took-both, numbers-fail, values-was, values-reads, event-some, event-was, event-reads}
+use Rattle.grammar.proofs.Heads.{HeadTook, head-was}
 
 differs : (w s : List ℕ) → startsWith w s ≡ false → Differs w s
 differs w s e more q = clash (starts-here w more) (rw q at e)
 
 -- The first lines
 
-abbrev HeadFaults : List ℕ → Head → Type 0
-HeadFaults text (Values n a b c k) = Unit
-HeadFaults text (Refused code line) = Fault text code line
+abbrev HeadFaults : List ℕ → Scan → Type 0
+HeadFaults text h = h .code ≢ 0 → Fault text (h .code) (h .line)
 
-values-fault : (text : List ℕ) → length text ≤ textLimit → startsWith valueNames text ≡ true
-    → (h : Head) → valuesAt (drop (length valueNames) text) ≡ h → HeadFaults text (afterValues text h)
-values-fault text short named (Refused code line) e =
-    let s = drop (length valueNames) text in
-    values s short (starts-took valueNames text named .split)
-    (λ n a b c hn ha hb hc more q.
-    let read = sym e ∙ (ap valuesAt q ∙ values-reads n a b c more hn ha hb hc) in
-    let z : _≡_ {A = ℕ} 0 1 = cc in
-    absurd (omega arith))
-values-fault text short named (Values n a b c k) e =
-    let t = took-both (starts-took valueNames text named) (values-was (drop (length valueNames) text) n a b c k e) in
-    let rest = drop (length valueNames + k) text in
-    let split : text ≡ valueNames ++ (valuesText n a b c ++ rest) = t .split ∙ append-assoc valueNames (valuesText n a b c) rest in
-    by-cond (HeadFaults text) (not (countStands n)) (λ u. count n a b c rest short split (not-true _ u)) (λ u.
-    by-cond (HeadFaults text) (not (limitsStand a b c)) (λ v. limits n a b c rest short split (not-false _ u) (not-true _ v)) (λ v.
-    by-cond (HeadFaults text) (not (startsWith eventNames rest))
-    (λ w. steps n a b c rest short split (not-false _ u) (not-false _ v) (differs eventNames rest (not-true _ w)))
-    (λ _. tt)))
+module _ (text : List ℕ) (short : length text ≤ textLimit) (named : startsWith valueNames text ≡ true) where
+  after-fault : (size : ℕ) (k : Parameters) → Took (drop (length valueNames) text) (valuesText k) size → HeadFaults text (afterValues text size k)
+  after-fault size k t =
+      let rest = drop (length valueNames + size) text in
+      let split = took-both (starts-took valueNames text named) t .split ∙ append-assoc valueNames (valuesText k) rest in
+      let starts : Starts text k rest = record { short = short; is = split } in
+      by-cond (HeadFaults text) (not (countStands k)) (λ u _. count k rest starts (not-true _ u)) (λ u.
+      by-cond (HeadFaults text) (not (limitsStand k)) (λ v _. limits k rest starts (not-false _ u) (not-true _ v)) (λ v.
+      by-cond (HeadFaults text) (not (startsWith eventNames rest))
+      (λ w _.
+      let stand = and-true-iff (countStands k) (limitsStand k) .1 (not-false _ u, not-false _ v) in
+      steps k rest starts stand (differs eventNames rest (not-true _ w)))
+      (λ _ n. absurd (n refl))))
+
+  values-fault : (l : Line) → numbersAt 2 3 (drop (length valueNames) text) ≡ l → HeadFaults text (ofValues text l)
+  values-fault l e =
+      let s = drop (length valueNames) text in
+      by-cond (HeadFaults text) (not (eqb (l .code) 0))
+      (λ _ n.
+      rw (numbers-fail 2 3 s l e n)
+      (values s short (starts-took valueNames text named .split)
+      (λ k h more q. n (ap (λ (x : Line). x .code) (sym e ∙ (ap (numbersAt 2 3) q ∙ values-reads 2 k more h))))))
+      (λ u. after-fault (l .size) (parametersIn (l .numbers)) (values-was 2 s l e (simp tests at u)))
 
 head-fault : (text : List ℕ) → HeadFaults text (headOf text)
 unfolding headOf
 head-fault text =
-    by-cond (HeadFaults text) (ltb textLimit (length text)) (λ t. long (ltb-true _ _ t)) (λ t.
-    by-cond (HeadFaults text) (not (startsWith valueNames text)) (λ u. names (ltb-false _ _ t) (differs valueNames text (not-true _ u))) (λ u.
-    values-fault text (ltb-false _ _ t) (not-false _ u) (valuesAt (drop (length valueNames) text)) refl))
+    by-cond (HeadFaults text) (ltb textLimit (length text)) (λ t _. long (ltb-true _ _ t)) (λ t.
+    by-cond (HeadFaults text) (not (startsWith valueNames text)) (λ u _. names (ltb-false _ _ t) (differs valueNames text (not-true _ u))) (λ u.
+    values-fault text (ltb-false _ _ t) (not-false _ u) (numbersAt 2 3 (drop (length valueNames) text)) refl))
 
 -- The steps
 
@@ -104,7 +103,7 @@ body-stops (suc k) line (x ∷ s) h n = go (eventAt line (x ∷ s)) refl n (λ i
         })
     go (Step t p a i) q n later =
         let w = event-was line (x ∷ s) t p a i q in
-        let e : Event = record { time = t; process = p; action = a } in
+        let e : Event = event t p a in
         let fits : length (drop i (x ∷ s)) ≤ k = omega (arith, length-drop i (x ∷ s), w .took .size, event-some e) in
         let r = later i fits (rw (q, bodyIn) at n) in
         rw (q, bodyIn)
@@ -120,23 +119,27 @@ body-stops (suc k) line (x ∷ s) h n = go (eventAt line (x ∷ s)) refl n (λ i
 -- Whole texts
 
 abbrev Faults : List ℕ → Trace → Type 0
-Faults text (trace n a b c events) = Unit
+Faults text (trace line k events) = Unit
 Faults text (refused code line) = Fault text code line
 
-fault-of : (text : List ℕ) (h : Head) → headOf text ≡ h → HeadFaults text h → Faults text (ofHead text h)
+body-fault : (text : List ℕ) (h : Scan) → HeadTook text h → Faults text (ofBody (h .line) (h .parameters) (bodyOf (h .line) (drop (h .size) text)))
 unfolding bodyOf
-fault-of text (Refused code line) q f = f
-fault-of text (Values n a b c k) q f =
-    let s = drop k text in
-    let body : Body = bodyIn (length s) 4 s in
+body-fault text h told =
+    let s = drop (h .size) text in
+    let body : Body = bodyIn (length s) (h .line) s in
     by-cond (Faults text) (eqb (body .fault) 0) (λ _. tt)
     (λ t.
-    let r = body-stops (length s) 4 s (omega arith) (eqb-false _ _ t) in
-    let w = head-was text n a b c k q in
-    let split = w .took .split ∙ ap (λ (l : List ℕ). headText n a b c ++ l) (r .split) in
-    subst (λ (line : ℕ). Fault text 14 line) (sym (r .named))
-    (step n a b c (body .events) (r .rest) (w .short) split (w .count) (w .limits) (r .forms 4) (r .some) (r .none)))
+    let r = body-stops (length s) (h .line) s (omega arith) (eqb-false _ _ t) in
+    let split = told .took .split ∙ ap (λ (l : List ℕ). headText (h .parameters) ++ l) (r .split) in
+    let line : firstLine (h .parameters) + length (body .events) ≡ body .fault = rw (← told .line-is) (sym (r .named)) in
+    subst (λ (n : ℕ). Fault text 14 n) line
+    (step (h .parameters) (body .events) (r .rest) (told .short) split (told .stand) (r .forms (firstLine (h .parameters))) (r .some) (r .none)))
+
+fault-of : (text : List ℕ) (h : Scan) → headOf text ≡ h → Faults text (ofHead text h)
+fault-of text h e =
+    by-cond (Faults text) (eqb (h .code) 0) (λ t. body-fault text h (head-was text h e (eqb-true (h .code) 0 t))) (λ t.
+    rw e at (head-fault text) (eqb-false (h .code) 0 t))
 
 pub refused-for : RefusedFor
 unfolding traceOf
-refused-for text code line e = subst (Faults text) e (fault-of text (headOf text) refl (head-fault text))
+refused-for text code line e = subst (Faults text) e (fault-of text (headOf text) refl)

@@ -1,4 +1,5 @@
 pub mod Digits
+pub mod Tables
 pub mod Fields
 pub mod Lines
 pub mod Bodies
