@@ -10,17 +10,18 @@ use native.Mathlib.Nat.{add-assoc}
 use lib.Dec.{ltb, eqb}
 use lib.ListN.{length, drop, length-append}
 use lib.Seq.{drop-append-seam, drop-drop}
-use borrow.Author.Tests.{ltb-false, le-ltb, eq-eqb, ne-eqb, not-false}
+use borrow.Author.Tests.{ltb-true, ltb-false, le-ltb, eq-eqb, ne-eqb, not-true, not-false}
 use Rattle.model.specs.declared.Line.{Line}
 use Rattle.model.specs.declared.Parameters.{Parameters}
 use Rattle.model.specs.declared.Scan.{Scan}
 use Rattle.model.specs.States.{countStands, limitsStand, parametersStand}
 use Rattle.model.specs.Texts.{valueNames, valuesText, eventNames, headText, firstLine, textLimit}
-use Rattle.model.specs.Readings.{startsWith, lineOf, numbersAt, scanOf, parametersIn, afterValues, ofValues, headOf, bodyOf, refused, trace, traceOf}
+use Rattle.model.specs.Readings.{startsWith, lineOf, numbersAt, scanOf, scanFails, parametersIn, afterValues, ofValues, headOf, bodyOf, refused, trace, traceOf}
 use Rattle.model.proofs.Tests.{by-cond, and-true-iff, tests}
-use Rattle.grammar.specs.Faults.{Short}
+use Rattle.grammar.specs.Faults.{Short, Starts, Fault, long, names, values, count, limits, steps}
 use Rattle.grammar.proofs.Fields.{Took, starts-took}
-use Rattle.grammar.proofs.Lines.{took-both, numbers-long, values-was, values-reads}
+use Rattle.grammar.proofs.Lines.{took-both, numbers-long, numbers-fail, values-was, values-reads}
+use Rattle.grammar.proofs.Faults.{fault-some, differs}
 
 -- two lines of names, and four numbers each with a digit and the byte that ends it
 pub head-long : (k : Parameters) → 38 ≤ length (headText k)
@@ -32,7 +33,7 @@ pub first-line : (k : Parameters) → (0 < firstLine k) × (firstLine k ≤ leng
 unfolding firstLine
 first-line k = (omega arith, omega (arith, head-long k))
 
--- A head that is read was written
+-- A head that is read was written, and any other has a fault
 
 pub record HeadTook (text : List ℕ) (h : Scan) : Type 0 where
   pub took : Took text (headText (h .parameters)) (h .size)
@@ -46,35 +47,49 @@ head-line {h = h} t =
     let f = first-line (h .parameters) in
     (omega (arith, t .line-is), omega (arith, t .line-is, t .took .size))
 
-abbrev HeadTells : List ℕ → Scan → Type 0
-HeadTells text h = h .code ≡ 0 → HeadTook text h
+-- what a head tells of its text: it was written so, or there is a fault
+pub record HeadTells (text : List ℕ) (h : Scan) : Type 0 where
+  pub read : h .code ≡ 0 → HeadTook text h
+  pub faulty : h .code ≢ 0 → Fault text (h .code) (h .line)
+
+fails : {text : List ℕ} {code line : ℕ} → Fault text code line → HeadTells text (scanFails code line)
+fails {code = code} f = record { read = λ (z : code ≡ 0). absurd (omega (arith, fault-some f)); faulty = λ _. f }
 
 module _ (text : List ℕ) (short : length text ≤ textLimit) (named : startsWith valueNames text ≡ true) where
   after-tells : (size : ℕ) (k : Parameters) → Took (drop (length valueNames) text) (valuesText k) size → HeadTells text (afterValues text size k)
   unfolding headText
-  after-tells size k values =
-      by-cond (HeadTells text) (not (countStands k)) (λ _ z. absurd (omega arith)) (λ t.
-      by-cond (HeadTells text) (not (limitsStand k)) (λ _ z. absurd (omega arith)) (λ u.
-      by-cond (HeadTells text) (not (startsWith eventNames (drop (length valueNames + size) text))) (λ _ z. absurd (omega arith)) (λ v _.
+  after-tells size k t =
+      let rest = drop (length valueNames + size) text in
+      let split = took-both (starts-took valueNames text named) t .split ∙ append-assoc valueNames (valuesText k) rest in
+      let starts : Starts text k rest = record { short = short; is = split } in
+      by-cond (HeadTells text) (not (countStands k)) (λ u. fails (count k rest starts (not-true _ u))) (λ u.
+      by-cond (HeadTells text) (not (limitsStand k)) (λ v. fails (limits k rest starts (not-false _ u) (not-true _ v))) (λ v.
+      let stand = and-true-iff (countStands k) (limitsStand k) .1 (not-false _ u, not-false _ v) in
+      by-cond (HeadTells text) (not (startsWith eventNames rest))
+      (λ w. fails (steps k rest starts stand (differs eventNames rest (not-true _ w))))
+      (λ w.
       let last : Took (drop size (drop (length valueNames) text)) eventNames (length eventNames) =
-      rw drop-drop (starts-took eventNames (drop (length valueNames + size) text) (not-false _ v)) in
-      record {
-        took = rw (add-assoc (length valueNames) size (length eventNames)) (took-both (starts-took valueNames text named) (took-both values last));
-        short = short;
-        stand = and-true-iff (countStands k) (limitsStand k) .1 (not-false _ t, not-false _ u);
-        line-is = refl;
-      })))
+      rw drop-drop (starts-took eventNames rest (not-false _ w)) in
+      let all : Took text (headText k) (length valueNames + size + length eventNames) =
+      rw (add-assoc (length valueNames) size (length eventNames)) (took-both (starts-took valueNames text named) (took-both t last)) in
+      record { read = λ _. record { took = all; short = short; stand = stand; line-is = refl }; faulty = λ n. absurd (n refl) })))
 
   values-tell : (l : Line) → numbersAt 2 3 (drop (length valueNames) text) ≡ l → HeadTells text (ofValues text l)
   values-tell l e =
-      by-cond (HeadTells text) (not (eqb (l .code) 0)) (λ t z. absurd (simp tests at t z)) (λ t.
-      after-tells (l .size) (parametersIn (l .numbers)) (values-was 2 (drop (length valueNames) text) l e (simp tests at t)))
+      let s = drop (length valueNames) text in
+      by-cond (HeadTells text) (not (eqb (l .code) 0))
+      (λ t.
+      let n : l .code ≢ 0 = simp tests at t in
+      rw (numbers-fail 2 3 s l e n)
+      (fails (values s short (starts-took valueNames text named .split)
+      (λ k h more q. n (ap (λ (x : Line). x .code) (sym e ∙ (ap (numbersAt 2 3) q ∙ values-reads 2 k more h)))))))
+      (λ t. after-tells (l .size) (parametersIn (l .numbers)) (values-was 2 s l e (simp tests at t)))
 
-head-tells : (text : List ℕ) → HeadTells text (headOf text)
+pub head-tells : (text : List ℕ) → HeadTells text (headOf text)
 unfolding headOf
 head-tells text =
-    by-cond (HeadTells text) (ltb textLimit (length text)) (λ _ z. absurd (omega arith)) (λ t.
-    by-cond (HeadTells text) (not (startsWith valueNames text)) (λ _ z. absurd (omega arith)) (λ u.
+    by-cond (HeadTells text) (ltb textLimit (length text)) (λ t. fails (long (ltb-true _ _ t))) (λ t.
+    by-cond (HeadTells text) (not (startsWith valueNames text)) (λ u. fails (names (ltb-false _ _ t) (differs valueNames text (not-true _ u)))) (λ u.
     values-tell text (ltb-false _ _ t) (not-false _ u) (numbersAt 2 3 (drop (length valueNames) text)) refl))
 
 -- A head that is written is read
@@ -101,7 +116,7 @@ head-reads k s e l =
 
 module _ (text : List ℕ) (h : Scan) (e : headOf text ≡ h) where
   pub head-was : h .code ≡ 0 → HeadTook text h
-  head-was = rw e at (head-tells text)
+  head-was = rw e at (head-tells text .read)
 
   pub trace-refused : h .code ≢ 0 → traceOf text ≡ refused (h .code) (h .line)
   unfolding traceOf

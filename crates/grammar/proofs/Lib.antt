@@ -3,9 +3,9 @@ pub mod Tables
 pub mod Fields
 pub mod Lines
 pub mod Bodies
+pub mod Faults
 pub mod Heads
 pub mod Exact
 pub mod Fits
 pub mod RoundTrips
 pub mod Wholes
-pub mod Faults

@@ -18,6 +18,7 @@ use Rattle.model.specs.Writings.{eventsIn, eventsOf, formlessFrom, Written, wri
 use Rattle.grammar.specs.Exact.{Formed}
 use Rattle.grammar.specs.RoundTrips.{firstOf, eventsRead, rewritten, ReadThenWrite, WriteThenRead, SameEvents}
 use Rattle.model.proofs.Tests.{by-cond, and-true-iff, tests}
+use Rattle.grammar.proofs.Faults.{fault-some}
 use Rattle.grammar.proofs.Exact.{TraceTells, trace-tells, read-exactly}
 
 -- The lists
@@ -77,8 +78,8 @@ module _ (text : List ℕ) (l : Lists) (out : List ℕ) where
 
   read-then : (t : Trace) → TraceTells text t → Undone (into l t)
   read-then (refused code line) told = λ e _.
-      let z : code ≡ 0 = simp (ne-eqb code 0 (λ (q : code ≡ 0). omega arith)) at e in
-      absurd (omega arith)
+      let z : code ≡ 0 = simp (ne-eqb code 0 (λ (q : code ≡ 0). omega (arith, fault-some told))) at e in
+      absurd (omega (arith, fault-some told))
   read-then (trace line k events) told =
       by-cond Undone (ltb (room l) (length events)) (λ _ e. absurd (omega arith)) (λ _ _ h.
       rw (events-back events l, told .text-is) (write-done k events out (told .formed) (rw (told .text-is) at h)))
