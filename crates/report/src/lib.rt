@@ -1,21 +1,19 @@
-// The whole text that `replay` prints, as a function from bytes to bytes: a recording is read, and each of its steps runs
-// from a fresh table on.
-use machine::answers::answer_with;
-use machine::fresh;
-use machine::step;
+// The whole text that `replay` prints, as a function from bytes to bytes: a recording is run, and there is a line for each of its
+// steps, or one for what is at fault.
+use execution::execute;
 use model::Answer;
-use model::State;
-use trace::puts::put_text;
-use trace::puts::put_values;
-use trace::read;
+use text::numbers::put_numbers;
+use text::puts::put_text;
+use values::answer_with;
 ghost use mathlib.Core.Path.{_≡_};
+ghost use mathlib.Core.List.{[], _∷_};
 ghost use Prim.Native.Nat.{_≤_};
 ghost use lib.ListN.{length};
-ghost use Rattle.model.specs.Texts.{valuesText};
-ghost use Rattle.model.specs.Readings.{lists};
-ghost use Rattle.model.specs.Writings.{eventsOf, writeGave};
-ghost use Rattle.model.specs.Reports.{faultLine, runText, reportText, reportOf};
+ghost use Rattle.model.specs.Texts.{numbersText};
+ghost use Rattle.model.specs.Writings.{writeGave};
+ghost use Rattle.model.specs.Reports.{reportText, reportOf};
 ghost use Rattle.text.specs.Puts.{Put};
+ghost use Rattle.report.specs.Rows.{rowsText};
 
 // [9.115] No recording has more steps: 65,536 bytes less those of the first lines, eight a step.
 const MOST_STEPS: usize = 8187;
@@ -30,52 +28,39 @@ fn list() -> [u64; 8187]
     [0; MOST_STEPS]
 }
 
-// [7.35] The line that is printed with a refusal.
-fn fault_line(code: u64, line: u64) -> u64
-    ensures { λ r. ⌜ r ≡ faultLine code line ⌝ }
+// Room for the answers to them.
+fn rows() -> [[u64; 3]; 8187]
+    ensures { λ r. ⌜ 8187 ≡ length r ⌝ }
 {
-    if code == 11 {
-        return 2;
-    }
-    if code == 12 {
-        return 2;
-    }
-    line
+    [[0; 3]; MOST_STEPS]
 }
 
 // [7.25] One line of a report, which has at most 84 bytes: four numbers of at most 20 digits, and their ends.
-fn put_line(out: &mut [u8], at: u32, line: u64, code: u64, process: u64, time: u64) -> usize
-    ensures { λ r. ⌜ Put (now (out .entry)) (now (out .exit)) at (valuesText line code process time) r ⌝ }
+fn put_line(out: &mut [u8], at: u32, line: u64, row: [u64; 3]) -> usize
+    ensures { λ r. ⌜ Put (now (out .entry)) (now (out .exit)) at (numbersText line row) r ⌝ }
     ensures { λ r. ⌜ r ≤ 84 ⌝ }
 {
-    put_values(out, at, line, code, process, time)
+    put_numbers(out, at, line, &row)
 }
 
-// [7.40] [7.45] Runs the steps in the lists, at most 8,187, from a table on, and puts a line for each after the names line.
-fn put_run(out: &mut [u8], first: State, times: &[u64], processes: &[u64], actions: &[u64]) -> usize
-    requires { ⌜ length (now times) ≤ 8187 ⌝ }
-    requires { ⌜ length (now processes) ≡ length (now times) ⌝ }
-    requires { ⌜ length (now actions) ≡ length (now times) ⌝ }
-    ensures { λ r. ⌜ Put (now (out .entry)) (now (out .exit)) 26 (runText 4 first (eventsOf (lists (now (times .entry)) (now (processes .entry)) (now (actions .entry))))) r ⌝ }
+// [7.40] Puts a line for each row after the names line; the first has the number `line`.
+fn put_rows(out: &mut [u8], line: u64, answers: &[[u64; 3]]) -> usize
+    requires { ⌜ line ≤ 65536 ⌝ }
+    requires { ⌜ length (now answers) ≤ 8187 ⌝ }
+    ensures { λ r. ⌜ Put (now (out .entry)) (now (out .exit)) 26 (rowsText line (now (answers .entry))) r ⌝ }
     ensures { λ r. ⌜ r ≤ 687708 ⌝ }
 {
-    let mut state = first;
     let mut size: usize = 0;
     let mut i: usize = 0;
-    while i < times.len() {
-        let outcome = step(state, actions[i], processes[i], times[i]);
-        let answer = outcome.answer;
+    while i < answers.len() {
         let at = (size + 26) as u32;
-        let line = (i as u64) + 4;
-        size += put_line(out, at, line, answer.code, answer.process, answer.time);
-        let next = outcome.state;
-        state = next;
+        size += put_line(out, at, line + (i as u64), answers[i]);
         i += 1;
     }
     size
 }
 
-// [7.20] [7.30] [7.40] [7.45] Puts the report, as much of it as there is room for, and answers how many bytes it has.
+// [7.20] [7.30] [7.35] [7.40] [7.45] Puts the report, as much of it as there is room for, and answers how many bytes it has.
 fn put_report(text: &[u8], out: &mut [u8]) -> usize
     ensures { λ r. ⌜ Put (now (out .entry)) (now (out .exit)) 0 (reportText (now (text .entry))) r ⌝ }
     ensures { λ r. ⌜ r ≤ 687734 ⌝ }
@@ -83,24 +68,14 @@ fn put_report(text: &[u8], out: &mut [u8]) -> usize
     let mut times = list();
     let mut processes = list();
     let mut actions = list();
+    let mut answers = rows();
     let names = put_text(out, 0, b"line,answer,window,moment\n");
-    let reading = read(text, &mut times, &mut processes, &mut actions);
-    let answer = reading.answer;
-    if answer.code != 0 {
-        let line = fault_line(answer.code, answer.time);
-        return names + put_line(out, 26, line, answer.code, 0, 0);
+    let found = execute(text, &mut times, &mut processes, &mut actions, &mut answers);
+    if found.code != 0 {
+        return names + put_line(out, 26, found.line, [found.code, 0, 0]);
     }
-    let count = answer.time as usize;
-    let outcome = fresh(reading.n, reading.a, reading.b, reading.c);
-    let state = outcome.state;
-    let lines = put_run(
-        out,
-        state,
-        &times[..count],
-        &processes[..count],
-        &actions[..count],
-    );
-    names + lines
+    let count = found.size;
+    names + put_rows(out, found.line, &answers[..count])
 }
 
 // [7.50] [7.55] [21.110] Writes what `replay` prints for a recording. An output that may be too short is measured first, so that it stays;
