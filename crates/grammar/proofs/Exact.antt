@@ -123,6 +123,7 @@ module _ (text : List ℕ) (h : Scan) (told : HeadTook text h) (body : Body) (r 
   split : text ≡ headText (h .parameters) ++ (eventsText (body .events) ++ r .rest)
   split = told .took .split ∙ ap (λ (l : List ℕ). headText (h .parameters) ++ l) (r .split)
 
+  -- steps to the end of the text
   says : body .fault ≡ 0 → Says text (h .line) (h .parameters) (body .events)
   says z =
       let text-is : text ≡ traceText (h .parameters) (body .events) = rw (r .ends z, append-nil) at split in
@@ -132,6 +133,7 @@ module _ (text : List ℕ) (h : Scan) (told : HeadTook text h) (body : Body) (r 
         formed = record { stand = told .stand; forms = r .forms (firstLine (h .parameters)); short = rw text-is at (told .short) };
       }
 
+  -- or to a line that is none
   faulty : body .fault ≢ 0 → Fault text 14 (body .fault)
   faulty n =
       let o = r .stops n in

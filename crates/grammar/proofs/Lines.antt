@@ -132,7 +132,7 @@ from-was line (suc more) i at got s h =
       kept = λ j g. r .kept j (omega arith) ∙ getD-set-other got i j v 0 (λ (q : j ≡ i). omega arith);
     })
 
--- a line that is read was written
+-- a line that is read was written, where there is a place for each number
 pub numbers-was : (line more : ℕ) (s : List ℕ) (l : Line) → more < 4 → numbersAt line more s ≡ l → l .code ≡ 0 → LineTook s more l
 numbers-was line more s l h e z =
     let r = rw e at (from-was line more 0 0 (replicate 4 0) s (omega arith)) z in
