@@ -9,17 +9,18 @@ use native.Mathlib.Omega.{arith}
 use lib.Dec.{eqb}
 use lib.ListN.{length, drop, length-append, length-drop}
 use lib.Seq.{drop-append-seam}
-use borrow.Author.Tests.{eqb-true, eqb-false}
+use borrow.Author.Tests.{eqb-true, eqb-false, ne-eqb}
 use Rattle.model.specs.declared.Row.{Row}
 use Rattle.model.specs.declared.Row.the-variants.{Step, Unread}
 use Rattle.model.specs.declared.Parameters.{Parameters}
 use Rattle.model.specs.declared.Scan.{Scan}
 use Rattle.model.specs.Texts.{Event, event, eventText, headText, firstLine, eventsText, traceText, hasForm}
-use Rattle.model.specs.Readings.{eventAt, scanOf, headOf, Body, bodyIn, bodyOf, Trace, refused, trace, ofBody, ofHead, traceOf}
+use Rattle.model.specs.Readings.{eventAt, scanOf, headOf, Body, bodyIn, bodyOf, Trace, refused, trace, ofBody, ofHead, traceOf, scannedOf, readOf}
 use Rattle.model.specs.Writings.{formlessFrom}
-use Rattle.grammar.specs.Exact.{Formed, Says, ReadExactly}
-use Rattle.grammar.specs.Faults.{Differs, Fault, step, RefusedFor}
+use Rattle.grammar.specs.Exact.{Formed, Says, ReadExactly, WordForEachAct}
+use Rattle.grammar.specs.Faults.{Differs, Fault, step, RefusedFor, RefusalTold}
 use Rattle.model.proofs.Tests.{by-test, by-cond}
+use Rattle.grammar.proofs.Faults.{fault-some}
 use Rattle.grammar.proofs.Lines.{event-some, event-was, event-reads}
 use Rattle.grammar.proofs.Bodies.{body-step, body-end}
 use Rattle.grammar.proofs.Heads.{first-line, HeadTook, head-line, HeadTells, head-tells, head-reads, trace-events}
@@ -163,3 +164,12 @@ read-exactly text line k events =
 
 pub refused-for : RefusedFor
 refused-for text code line e = rw e at (trace-tells text)
+
+pub refusal-told : RefusalTold
+unfolding scannedOf readOf
+refusal-told text l code line e =
+    let some : code ≢ 0 = λ z. omega (arith, fault-some (refused-for text code line e)) in
+    rw e (simp (ne-eqb code 0 some))
+
+pub word-for-each-act : WordForEachAct
+word-for-each-act = refl

@@ -7,17 +7,17 @@ use Rattle.model.specs.Answers.{firstFrom, firstDeadline, criticalFrom, critica
 use Rattle.model.specs.Folds.{resultsBy}
 use Rattle.model.specs.Texts.{decimalIn, decimal, numberText, numbersText, firstLine}
 use Rattle.model.specs.Readings.{startsWith, numberFrom, wordFrom, eventAt, numbersFrom, headOf, bodyIn, bodyOf, traceOf}
-use Rattle.model.specs.Reports.{answersText, reportText}
+use Rattle.model.specs.Reports.{rowsText, reportText}
 use Rattle.grammar.specs.Wholes.{WholeCase, NamesCase, EmptyCase}
 
 pub whole-case : WholeCase
 unfolding leaves limitIn entriesSound soundOf entryOf transitionOf effect firstFrom firstDeadline criticalFrom criticalOf stepOf freshOf
     resultsBy decimalIn decimal numberText numbersText firstLine startsWith numberFrom wordFrom
-    eventAt numbersFrom headOf bodyIn bodyOf traceOf answersText reportText
+    eventAt numbersFrom headOf bodyIn bodyOf traceOf rowsText reportText
 whole-case = refl
 
 pub names-case : NamesCase
-unfolding resultsBy startsWith numberFrom numbersFrom headOf bodyIn bodyOf traceOf answersText reportText
+unfolding resultsBy startsWith numberFrom numbersFrom headOf bodyIn bodyOf traceOf rowsText reportText
 names-case = refl
 
 pub empty-case : EmptyCase

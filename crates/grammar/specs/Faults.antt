@@ -9,7 +9,8 @@ use lib.ListN.{length}
 use Rattle.model.specs.declared.Parameters.{Parameters}
 use Rattle.model.specs.States.{countStands, limitsStand, parametersStand}
 use Rattle.model.specs.Texts.{numberBound, Event, valueNames, valuesText, eventNames, eventText, headText, firstLine, eventsText, hasForm, textLimit}
-use Rattle.model.specs.Readings.{refused, traceOf}
+use Rattle.model.specs.Answers.{answerOf}
+use Rattle.model.specs.Readings.{refused, traceOf, Lists, lineTold, readOf}
 use Rattle.model.specs.Writings.{formlessFrom}
 
 -- helper: a text does not start with this one
@@ -53,3 +54,8 @@ pub data Fault (text : List ℕ) : ℕ → ℕ → Type 0 where
 -- [6.195] of a text that is refused
 abbrev pub RefusedFor : Type 0
 RefusedFor = (text : List ℕ) (code line : ℕ) → traceOf text ≡ refused code line → Fault text code line
+
+-- [6.110] [6.195] the answer to a reading of such a text, whatever lists are lent: the code, and the line that a caller is told
+abbrev pub RefusalTold : Type 0
+RefusalTold = (text : List ℕ) (l : Lists) (code line : ℕ) → traceOf text ≡ refused code line
+    → readOf text l .reading .answer ≡ answerOf code 0 (lineTold code line)
