@@ -1,37 +1,69 @@
 -- Section 20 of the specification, what a row of the table of cases means: the call that it makes, what must come of it, and that
--- all rows of a table hold. `src/lib.rt` gives the order of a row's 18 numbers. Assumes nothing.
-use Prim.Native.Nat.{ℕ}
+-- all rows of a table hold. The numbers of a row have names here, and a state is said by what differs from a fresh one. Assumes nothing.
+use Prim.Native.Nat.{ℕ, _+_}
 use mathlib.Core.Path.{_≡_}
 use mathlib.Core.Bool.{cond}
-use mathlib.Core.List.{List, [], _∷_, _++_}
-use lib.ListN.{getD, drop, replicate}
+use mathlib.Core.List.{List, [], _∷_}
+use lib.ListN.{getD, drop}
 use lib.Dec.{eqb}
+use Rattle.model.specs.declared.Parameters.{Parameters}
+use Rattle.model.specs.declared.Process.{Process}
 use Rattle.model.specs.declared.State.{State}
+use Rattle.model.specs.declared.Answer.{Answer}
 use Rattle.model.specs.declared.Outcome.{Outcome}
+use Rattle.model.specs.States.{parametersOf, entry, initial, locationAt}
+use Rattle.model.specs.Actions.{changed}
 use Rattle.model.specs.Answers.{answerOf, freshOf, stepOf}
-use Rattle.layout.specs.Encodings.{stateIn}
 
--- The call: 0 and n, a, b, c for a fresh state; 1 and an action, a process and a time for a step from the state s
+-- The call
 
--- [20.120] what a row's call gives back
+-- helper: 0 for a fresh state, 1 for a step
+abbrev pub kindOf : List ℕ → ℕ
+kindOf row = getD row 0 0
+
+-- helper: four numbers from a place on
+abbrev pub parametersFrom : ℕ → List ℕ → Parameters
+parametersFrom at row = parametersOf (getD row at 0) (getD row (at + 1) 0) (getD row (at + 2) 0) (getD row (at + 3) 0)
+
+-- helper: the action of a step
+abbrev pub actionOf : List ℕ → ℕ
+actionOf row = getD row 1 0
+
+-- helper: its process
+abbrev pub processOf : List ℕ → ℕ
+processOf row = getD row 2 0
+
+-- helper: its time
+abbrev pub timeOf : List ℕ → ℕ
+timeOf row = getD row 3 0
+
+-- [20.120] what a row's call gives back, a step from the state s
 unfoldable pub outcomeOf : State → List ℕ → Outcome
-outcomeOf s row =
-    cond (eqb (getD row 0 0) 0) (freshOf (getD row 1 0) (getD row 2 0) (getD row 3 0) (getD row 4 0))
-    (stepOf s (getD row 1 0) (getD row 2 0) (getD row 3 0))
+outcomeOf s row = cond (eqb (kindOf row) 0) (freshOf (parametersFrom 1 row)) (stepOf s (actionOf row) (processOf row) (timeOf row))
 
--- What must come of it, read off numbers in the order of a row
+-- What must come of it
 
--- helper: the answer, and the numbers of the state
-unfoldable pub outcomeIn : List ℕ → Outcome
-outcomeIn xs = record { answer = answerOf (getD xs 0 0) (getD xs 1 0) (getD xs 2 0); state = stateIn (drop 3 xs) }
+-- helper: the answer
+abbrev pub answerTold : List ℕ → Answer
+answerTold row = answerOf (getD row 5 0) (getD row 6 0) (getD row 7 0)
 
--- helper: what a row tells: all that follows the call, and of each of the other 94 processes the remainder, stage 0, and no since
-unfoldable pub toldBy : List ℕ → List ℕ
-toldBy row = drop 5 row ++ replicate 188 0
+-- helper: an entry, by its stage and its since
+abbrev pub entryTold : ℕ → List ℕ → Process
+entryTold at row = entry (locationAt (getD row at 0) (getD row (at + 1) 0))
+
+-- helper: the fresh state that the told one is compared with
+abbrev pub startTold : List ℕ → State
+startTold row = initial (parametersFrom 8 row)
+
+-- helper: clock, word, and the entries of processes 1 and 2; all else is as in a fresh state
+abbrev pub stateTold : List ℕ → State
+stateTold row =
+    changed (startTold row) (getD row 12 0) (getD row 13 0)
+    (entryTold 14 row ∷ entryTold 16 row ∷ drop 2 (startTold row .processes))
 
 -- [20.120] the outcome that a row tells
-abbrev pub expectedOf : List ℕ → Outcome
-expectedOf row = outcomeIn (toldBy row)
+unfoldable pub expectedOf : List ℕ → Outcome
+expectedOf row = record { answer = answerTold row; state = stateTold row }
 
 -- [20.120] Each row's call, at the state that the row before it gave back, has the whole outcome that the row tells; the first at
 -- the state s.

@@ -1,10 +1,11 @@
 // The cases of section 20 of the specification: one table of numbers, proved to be what the definitions of `model` give, and
 // the call that a row of it makes. The program `run_cases` runs the same table.
 use model::Outcome;
+use model::Parameters;
 use model::State;
 ghost use mathlib.Core.Path.{_≡_};
 ghost use Rattle.model.specs.Answers.{blank};
-ghost use Rattle.cases.specs.Cases.{outcomeOf, Hold};
+ghost use Rattle.cases.specs.Cases.{parametersFrom, outcomeOf, Hold};
 
 // [2.40] the clock's end
 const END: u64 = 1000000000000;
@@ -13,7 +14,7 @@ const END: u64 = 1000000000000;
 //   0 for a fresh state or 1 for a step, then what is handed over: n, a, b, c, or action, process, time, 0;
 //   the answer: code, process, time;
 //   the state given back: n, a, b, c, clock, word, then stage and since of process 1 and of process 2.
-// All other processes are in the remainder.
+// All that is not said is as in a fresh state.
 pub type Row = [u64; 18];
 
 // A fresh row starts a case, and a step goes on from the state of the row before it. The row of a refused step has the state
@@ -99,12 +100,24 @@ pub fn table() -> [Row; 57]
     CASES
 }
 
+// The parameters that a fresh row asks for.
+fn asked(row: Row) -> Parameters
+    ensures { λ r. ⌜ r ≡ parametersFrom 1 row ⌝ }
+{
+    Parameters {
+        n: row[1],
+        a: row[2],
+        b: row[3],
+        c: row[4],
+    }
+}
+
 // The call that a row makes, a step at the state that the row before it gave back.
 pub fn call(state: State, row: Row) -> Outcome
     ensures { λ r. ⌜ r ≡ outcomeOf state row ⌝ }
 {
     if row[0] == 0 {
-        return machine::fresh(row[1], row[2], row[3], row[4]);
+        return machine::fresh(asked(row));
     }
     machine::step(state, row[1], row[2], row[3])
 }

@@ -5,25 +5,39 @@ mod tables;
 
 use crate::summaries::SUMMARY;
 use crate::tables::TABLE;
-use machine::answers::answer_with;
 use machine::fresh;
 use machine::step;
 use model::Answer;
+use model::Parameters;
 use model::Reading;
 use report::report;
 use statistics::record;
+use values::answer_with;
 ghost use mathlib.Core.Path.{_≡_};
-ghost use Rattle.model.specs.Readings.{lists, readGave, readOf};
+ghost use Rattle.model.specs.States.{parametersOf};
+ghost use Rattle.model.specs.Readings.{lent, readGave, readOf};
 ghost use Rattle.model.specs.Writings.{eventsOf, writeGave, writeOf};
 ghost use Rattle.model.specs.Reports.{reportOf};
 ghost use Rattle.layout.specs.Interface.{lentGave, lentFresh, lentStep, recordGave, lentRecord, summaryGave, lentSummary};
 
+// The parameters that a call is handed as numbers.
+fn parameters_of(n: u64, a: u64, b: u64, c: u64) -> Parameters
+    ensures { λ r. ⌜ r ≡ parametersOf n a b c ⌝ }
+{
+    Parameters {
+        n: n,
+        a: a,
+        b: b,
+        c: c,
+    }
+}
+
 // [9.50] [21.110] A fresh table, in the lent numbers.
 #[no_mangle]
 pub extern "C" fn funnelfawn_fresh(n: u64, a: u64, b: u64, c: u64, table: &mut [u64]) -> Answer
-    ensures { λ r. ⌜ lentGave r (now (table .exit)) ≡ lentFresh n a b c (now (table .entry)) ⌝ }
+    ensures { λ r. ⌜ lentGave r (now (table .exit)) ≡ lentFresh (parametersOf n a b c) (now (table .entry)) ⌝ }
 {
-    let outcome = fresh(n, a, b, c);
+    let outcome = fresh(parameters_of(n, a, b, c));
     let answer = outcome.answer;
     if answer.code != 0 {
         return answer;
@@ -76,7 +90,8 @@ pub extern "C" fn funnelfawn_record(
     process: u64,
     time: u64,
 ) -> Answer
-    ensures { λ r. ⌜ recordGave r (now (table .exit)) (now (summary .exit)) ≡ lentRecord (now (table .entry)) (now (summary .entry)) action process time ⌝ }
+    ensures { λ r. ⌜ recordGave r (now (table .exit)) (now (summary .exit))
+        ≡ lentRecord (now (table .entry)) (now (summary .entry)) action process time ⌝ }
 {
     if table.len() < TABLE {
         return answer_with(1, 0, 0);
@@ -108,7 +123,8 @@ pub extern "C" fn funnelfawn_read(
     processes: &mut [u64],
     actions: &mut [u64],
 ) -> Reading
-    ensures { λ r. ⌜ readGave r (lists (now (times .exit)) (now (processes .exit)) (now (actions .exit))) ≡ readOf (now (text .entry)) (lists (now (times .entry)) (now (processes .entry)) (now (actions .entry))) ⌝ }
+    ensures { λ r. ⌜ readGave r (lent (times .exit) (processes .exit) (actions .exit))
+        ≡ readOf (now (text .entry)) (lent (times .entry) (processes .entry) (actions .entry)) ⌝ }
 {
     trace::read(text, times, processes, actions)
 }
@@ -125,9 +141,11 @@ pub extern "C" fn funnelfawn_write(
     actions: &[u64],
     out: &mut [u8],
 ) -> Answer
-    ensures { λ r. ⌜ writeGave r (now (out .exit)) ≡ writeOf n a b c (eventsOf (lists (now (times .entry)) (now (processes .entry)) (now (actions .entry)))) (now (out .entry)) ⌝ }
+    ensures { λ r. ⌜ writeGave r (now (out .exit))
+        ≡ writeOf (parametersOf n a b c) (eventsOf (lent (times .entry) (processes .entry) (actions .entry))) (now (out .entry)) ⌝ }
 {
-    trace::write(n, a, b, c, times, processes, actions, out)
+    let parameters = parameters_of(n, a, b, c);
+    trace::write(parameters, times, processes, actions, out)
 }
 
 // [9.110] [21.110] Writes what `replay` prints for a recording.

@@ -1,6 +1,6 @@
 // A table of windows in lent numbers: n, a, b, c, clock, word, and then of each window its place and its arrival. A table is read
 // whole, for `step` takes it by value; of an accepted act only what may have changed is written.
-use machine::limits::Numbers;
+use machine::entry_at;
 use machine::limits::numbers_stand;
 use machine::stages::LEAVING;
 use machine::stages::REMAINDER;
@@ -9,6 +9,7 @@ use machine::stages::since_of;
 use machine::stages::stage_of;
 use machine::survey::entry_stands;
 use model::Location;
+use model::Parameters;
 use model::Process;
 use model::State;
 ghost use mathlib.Core.Path.{_≡_};
@@ -17,9 +18,10 @@ ghost use Prim.Native.Nat.{_+_, _*_, _<_, _≤_};
 ghost use lib.ListN.{length, drop, set};
 ghost use lib.Dec.{eqb};
 ghost use Rattle.model.specs.Stages.{remainder};
-ghost use Rattle.model.specs.States.{entrySound, locationAt};
+ghost use Rattle.model.specs.States.{entry, entrySound, locationAt};
 ghost use Rattle.layout.specs.Encodings.{headerLength, stride, tableLength, isEntry, stateIn, stateNumbers};
-ghost use Rattle.machine.specs.Survey.{bare, numbersOf};
+ghost use Rattle.model.specs.Readings.{parametersIn};
+ghost use Rattle.machine.specs.Survey.{bare};
 ghost use Rattle.funnelfawn.specs.Loading.{areIdle, Loads, placedAt, stored};
 
 // [9.10] the numbers before the entries
@@ -48,13 +50,13 @@ fn is_entry(stage: u64, since: u64) -> bool
 
 // A stage and an arrival that tell a sound entry. Most processes are in the remainder: that is looked at first. The order of the other
 // two is the faster one.
-fn stands(numbers: Numbers, process: u64, stage: u64, since: u64) -> bool
-    ensures { λ r. ⌜ r ≡ (isEntry stage since && entrySound (bare numbers) process (record { location = locationAt stage since })) ⌝ }
+fn stands(parameters: Parameters, clock: u64, process: u64, stage: u64, since: u64) -> bool
+    ensures { λ r. ⌜ r ≡ (isEntry stage since && entrySound (bare parameters clock) process (entry (locationAt stage since))) ⌝ }
 {
     if stage == REMAINDER {
         return since == 0;
     }
-    if !entry_stands(numbers, process, location_at(stage, since)) {
+    if !entry_stands(parameters, clock, process, location_at(stage, since)) {
         return false;
     }
     is_entry(stage, since)
@@ -87,17 +89,16 @@ fn are_idle(table: &[u64], from: usize) -> bool
     i == 96
 }
 
-fn numbers_in(table: &[u64]) -> Numbers
+// [9.10] n, a, b and c.
+fn parameters_in(table: &[u64]) -> Parameters
     requires { ⌜ length (now table) ≡ tableLength ⌝ }
-    ensures { λ r. ⌜ r ≡ numbersOf (stateIn (now (table .entry))) ⌝ }
+    ensures { λ r. ⌜ r ≡ parametersIn (now (table .entry)) ⌝ }
 {
-    Numbers {
+    Parameters {
         n: table[0],
         a: table[1],
         b: table[2],
         c: table[3],
-        clock: table[CLOCK],
-        word: table[WORD],
     }
 }
 
@@ -113,22 +114,24 @@ pub(crate) fn load(table: &[u64]) -> Loaded
     requires { ⌜ length (now table) ≡ tableLength ⌝ }
     ensures { λ r. ⌜ Loads (now (table .entry)) r ⌝ }
 {
-    let numbers = numbers_in(table);
+    let parameters = parameters_in(table);
+    let clock = table[CLOCK];
+    let word = table[WORD];
     let mut processes = [Process {
         location: Location::Remainder,
     }; 96];
     let mut faults: u64 = 1;
-    if numbers_stand(numbers) {
-        let n = numbers.n as usize;
+    if numbers_stand(parameters, clock, word) {
+        let n = parameters.n as usize;
         let mut i: usize = 0;
         while i < n {
             let stage = table[HEADER + STRIDE * i];
             let since = table[HEADER + STRIDE * i + 1];
-            if !stands(numbers, (i as u64) + 1, stage, since) {
+            if !stands(parameters, clock, (i as u64) + 1, stage, since) {
                 break;
             }
             let location = location_at(stage, since);
-            processes[i] = Process { location: location };
+            processes[i] = entry_at(location);
             i += 1;
         }
         if i == n {
@@ -140,12 +143,9 @@ pub(crate) fn load(table: &[u64]) -> Loaded
     Loaded {
         faults: faults,
         state: State {
-            n: numbers.n,
-            a: numbers.a,
-            b: numbers.b,
-            c: numbers.c,
-            clock: numbers.clock,
-            word: numbers.word,
+            parameters: parameters,
+            clock: clock,
+            word: word,
             processes: processes,
         },
     }
@@ -175,8 +175,9 @@ pub(crate) fn save(table: &mut [u64], state: State)
     requires { ⌜ length (now table) ≡ tableLength ⌝ }
     ensures { λ _. ⌜ now (table .exit) ≡ stateNumbers state ⌝ }
 {
-    put_pair(table, 0, state.n, state.a);
-    put_pair(table, 2, state.b, state.c);
+    let parameters = state.parameters;
+    put_pair(table, 0, parameters.n, parameters.a);
+    put_pair(table, 2, parameters.b, parameters.c);
     put_pair(table, CLOCK, state.clock, state.word);
     let mut i: usize = 0;
     while i < 96 {

@@ -6,12 +6,14 @@ use mathlib.Core.Bool.{not}
 use mathlib.Core.List.{List, [], _∷_, map}
 use lib.Dec.{eqb}
 use lib.ListN.{length, getD, set, take}
+use denote.Ref.{RefT, now}
+use Rattle.model.specs.declared.Parameters.{Parameters}
 use Rattle.model.specs.declared.State.{State}
 use Rattle.model.specs.declared.Outcome.{Outcome}
 use Rattle.model.specs.declared.Statistics.{Statistics}
 use Rattle.model.specs.declared.Recorded.{Recorded}
 use Rattle.model.specs.Readings.{over}
-use Rattle.model.specs.Answers.{freshOf}
+use Rattle.model.specs.Answers.{answerNumbers, freshOf}
 use Rattle.model.specs.Facts.{Accepted}
 use Rattle.model.specs.Summaries.{statisticsOf}
 use Rattle.model.specs.Summaries.{countsIn, countsNumbers}
@@ -50,6 +52,10 @@ pub record Rows : Type 0 where
 abbrev pub rows : List Tuple → List Tuple → List Tuple → Rows
 rows counts tries answers = record { counts = counts; tries = tries; answers = answers }
 
+-- helper: three lists of rows as they are lent
+abbrev pub lentRows : RefT (List Tuple) → RefT (List Tuple) → RefT (List Tuple) → Rows
+lentRows counts tries answers = rows (now counts) (now tries) (now answers)
+
 -- [8.156] as many calls as the shortest of the first three lists has rows
 unfoldable pub callsIn : List Tuple → List Tuple → List Tuple → List Call
 callsIn [] cs ts = []
@@ -71,7 +77,7 @@ triesRow r = r .statistics .tries
 
 -- [8.154] the answer to a call
 abbrev pub answerRow : Recorded → Tuple
-answerRow r = r .outcome .answer .code ∷ r .outcome .answer .process ∷ r .outcome .answer .time ∷ []
+answerRow r = answerNumbers (r .outcome .answer)
 
 -- [8.152] [8.154] [8.156] each result in the rows of its call
 abbrev pub overwritten : List Recorded → Rows → Rows
@@ -98,8 +104,8 @@ abbrev pub ranFrom : Outcome → List Call → Rows → Run
 ranFrom o ds l = runGave (ending o (runOf (o .state) ds)) (overwritten (resultsOf (o .state) ds) l)
 
 -- [8.150] [8.158] as a whole
-unfoldable pub ranOf : ℕ → ℕ → ℕ → ℕ → List Tuple → Rows → Run
-ranOf n a b c calls l = ranFrom (freshOf n a b c) (callsOf calls l) l
+unfoldable pub ranOf : Parameters → List Tuple → Rows → Run
+ranOf k calls l = ranFrom (freshOf k) (callsOf calls l) l
 
 -- Demand 3, of what `run` is lent and gives back: from the table s, with the calls ds, the rows l became l′, and the last table is t
 
@@ -111,9 +117,9 @@ pub record Ran (s : State) (ds : List Call) (l l′ : Rows) (t : State) : Type 0
   pub demand3 : Demand3 s ds results t
 
 -- [8.10] [8.135] of whatever numbers and rows `run` is lent: a fresh table that was refused starts no list
-abbrev pub MeetsDemand3 : ℕ → ℕ → ℕ → ℕ → List Tuple → Rows → Rows → State → Type 0
-MeetsDemand3 n a b c calls l l′ t =
-    Accepted (freshOf n a b c) → Ran (freshOf n a b c .state) (callsOf calls l) l l′ t
+abbrev pub MeetsDemand3 : Parameters → List Tuple → Rows → Rows → State → Type 0
+MeetsDemand3 k calls l l′ t =
+    Accepted (freshOf k) → Ran (freshOf k .state) (callsOf calls l) l l′ t
 
 -- One turn of the loop: the call in row i
 

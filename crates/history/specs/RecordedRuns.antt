@@ -3,16 +3,19 @@
 use Prim.Native.Nat.{ℕ}
 use mathlib.Core.List.{List, [], _∷_, map}
 use lib.ListN.{length, getD, set, take}
+use Rattle.model.specs.declared.Parameters.{Parameters}
 use Rattle.model.specs.declared.Recorded.{Recorded}
-use Rattle.model.specs.Texts.{Event}
+use Rattle.model.specs.Answers.{freshOf}
+use Rattle.model.specs.Summaries.{newStatistics, beside}
+use Rattle.model.specs.Texts.{Event, event}
 use Rattle.model.specs.Tallies.{Attempt, attempt}
-use Rattle.tallies.specs.Tallies.{recordNext, recordAll, recordsOf, startOf}
+use Rattle.tallies.specs.Tallies.{recordNext, recordAll, recordsOf}
 use Rattle.model.specs.Readings.{over}
 use Rattle.history.specs.Lists.{Tuple, answerRow, ending}
 
 -- [8.160] action, process, time
 abbrev pub eventIn : Tuple → Event
-eventIn row = record { time = getD row 2 0; process = getD row 1 0; action = getD row 0 0 }
+eventIn row = event (getD row 2 0) (getD row 1 0) (getD row 0 0)
 
 -- [8.160] as many as the shorter list has rows
 abbrev pub eventsOf : List Tuple → List Tuple → List Event
@@ -52,8 +55,8 @@ abbrev pub recordedRunFrom : Recorded → List Event → List Tuple → Recorded
 recordedRunFrom r es answers = recordedRunGave (started r (recordAll r es)) (over (map answerRow (recordsOf r es)) answers)
 
 -- [8.160] [8.164] as a whole
-unfoldable pub recordedRunOf : ℕ → ℕ → ℕ → ℕ → List Tuple → List Tuple → RecordedRun
-recordedRunOf n a b c acts answers = recordedRunFrom (startOf n a b c) (eventsOf acts answers) answers
+unfoldable pub recordedRunOf : Parameters → List Tuple → List Tuple → RecordedRun
+recordedRunOf k acts answers = recordedRunFrom (beside newStatistics (freshOf k)) (eventsOf acts answers) answers
 
 -- One turn of the loop: the step in row i
 

@@ -4,31 +4,27 @@ mod lend;
 pub mod rows;
 
 use crate::lend::lent_step;
-use crate::rows::answer_row;
 use crate::rows::summary_in;
 use crate::rows::tuple_of;
 use machine::fresh;
 use machine::step;
 use model::Outcome;
+use model::Parameters;
 use model::Recorded;
 use model::State;
 use model::Statistics;
 use statistics::new_statistics;
+use values::answer_row;
+use values::least;
 ghost use mathlib.Core.Path.{_≡_};
-ghost use Prim.Native.Nat.{_<_, min};
+ghost use Prim.Native.Nat.{_<_};
 ghost use lib.ListN.{length};
 ghost use Rattle.model.specs.Answers.{freshOf};
 ghost use Rattle.model.specs.Facts.{Accepted};
 ghost use Rattle.model.specs.Calls.{callOf};
 ghost use Rattle.tallies.specs.Tallies.{Tallied};
-ghost use Rattle.history.specs.Lists.{callIn, rows, runGave, ranOf, MeetsDemand3, turnGave, turnOf};
+ghost use Rattle.history.specs.Lists.{callIn, lentRows, runGave, ranOf, MeetsDemand3, turnGave, turnOf};
 ghost use Rattle.history.specs.RecordedRuns.{logOf, recordedRunGave, recordedRunOf, recordAt};
-
-fn least(a: usize, b: usize) -> usize
-    ensures { λ r. ⌜ r ≡ min a b ⌝ }
-{
-    if a < b { a } else { b }
-}
 
 // [8.20] [8.30] One call: a step without a summary (kind 0), or a recorded step with the one that is lent.
 fn make_call(state: State, row: [u64; 4], lent: Statistics) -> Recorded
@@ -55,7 +51,8 @@ fn make_turn(
     i: usize,
 ) -> State
     requires { ⌜ (i < length (now calls)) × (i < length (now counts)) × (i < length (now tries)) × (i < length (now answers)) ⌝ }
-    ensures { λ r. ⌜ turnGave r (rows (now (counts .exit)) (now (tries .exit)) (now (answers .exit))) ≡ turnOf state (now (calls .entry)) (rows (now (counts .entry)) (now (tries .entry)) (now (answers .entry))) i ⌝ }
+    ensures { λ r. ⌜ turnGave r (lentRows (counts .exit) (tries .exit) (answers .exit))
+        ≡ turnOf state (now (calls .entry)) (lentRows (counts .entry) (tries .entry) (answers .entry)) i ⌝ }
 {
     let made = make_call(state, calls[i], summary_in(counts[i], tries[i]));
     let outcome = made.outcome;
@@ -75,19 +72,18 @@ fn make_turn(
 // of `fresh`, the state that of the last call. Each call's summary is lent in its row, brought up to date there, and its answer stored;
 // the contract is demand 3.
 pub fn run(
-    n: u64,
-    a: u64,
-    b: u64,
-    c: u64,
+    parameters: Parameters,
     calls: &[[u64; 4]],
     counts: &mut [[u64; 5]],
     tries: &mut [[u64; 96]],
     answers: &mut [[u64; 3]],
 ) -> Outcome
-    ensures equals { λ r. ⌜ runGave r (rows (now (counts .exit)) (now (tries .exit)) (now (answers .exit))) ≡ ranOf n a b c (now (calls .entry)) (rows (now (counts .entry)) (now (tries .entry)) (now (answers .entry))) ⌝ }
-    ensures demand3 { λ r. ⌜ MeetsDemand3 n a b c (now (calls .entry)) (rows (now (counts .entry)) (now (tries .entry)) (now (answers .entry))) (rows (now (counts .exit)) (now (tries .exit)) (now (answers .exit))) (r .state) ⌝ }
+    ensures equals { λ r. ⌜ runGave r (lentRows (counts .exit) (tries .exit) (answers .exit))
+        ≡ ranOf parameters (now (calls .entry)) (lentRows (counts .entry) (tries .entry) (answers .entry)) ⌝ }
+    ensures demand3 { λ r. ⌜ MeetsDemand3 parameters (now (calls .entry)) (lentRows (counts .entry) (tries .entry) (answers .entry))
+        (lentRows (counts .exit) (tries .exit) (answers .exit)) (r .state) ⌝ }
 {
-    let start = fresh(n, a, b, c);
+    let start = fresh(parameters);
     let answer = start.answer;
     let mut state = start.state;
     let count = least(
@@ -124,18 +120,11 @@ fn record_turn(last: Recorded, acts: &[[u64; 3]], answers: &mut [[u64; 3]], i: u
 
 // [5.120] [5.125] [5.130] [8.160] [8.162] [8.164] [21.110] Recorded steps from a fresh table, all lent one summary that is new at first.
 // The answer is that of `fresh`, the state and the summary those after the last step; the contract has the tally of the acts and their answers.
-pub fn run_recorded(
-    n: u64,
-    a: u64,
-    b: u64,
-    c: u64,
-    acts: &[[u64; 3]],
-    answers: &mut [[u64; 3]],
-) -> Recorded
-    ensures equals { λ r. ⌜ recordedRunGave r (now (answers .exit)) ≡ recordedRunOf n a b c (now (acts .entry)) (now (answers .entry)) ⌝ }
-    ensures tallied { λ r. ⌜ (Accepted (freshOf n a b c) → Tallied (logOf (now (acts .entry)) (now (answers .exit))) r) ⌝ }
+pub fn run_recorded(parameters: Parameters, acts: &[[u64; 3]], answers: &mut [[u64; 3]]) -> Recorded
+    ensures equals { λ r. ⌜ recordedRunGave r (now (answers .exit)) ≡ recordedRunOf parameters (now (acts .entry)) (now (answers .entry)) ⌝ }
+    ensures tallied { λ r. ⌜ (Accepted (freshOf parameters) → Tallied (logOf (now (acts .entry)) (now (answers .exit))) r) ⌝ }
 {
-    let start = fresh(n, a, b, c);
+    let start = fresh(parameters);
     let answer = start.answer;
     let mut last = Recorded {
         outcome: start,

@@ -1,9 +1,8 @@
-// Summaries and answers as rows of numbers.
-use model::Answer;
+// Summaries as rows of numbers.
+// A summary is two rows, since arrays of different lengths cannot share one.
 use model::Counts;
 use model::Statistics;
 ghost use mathlib.Core.Path.{_≡_};
-ghost use mathlib.Core.List.{[], _∷_};
 ghost use Rattle.model.specs.Summaries.{countsNumbers};
 ghost use Rattle.history.specs.Lists.{summaryOf};
 
@@ -34,11 +33,4 @@ pub fn tuple_of(counts: Counts) -> [u64; 5]
         counts.exits,
         counts.longest,
     ]
-}
-
-// [8.154]
-pub fn answer_row(answer: Answer) -> [u64; 3]
-    ensures { λ r. ⌜ r ≡ answer .code ∷ answer .process ∷ answer .time ∷ [] ⌝ }
-{
-    [answer.code, answer.process, answer.time]
 }

@@ -1,5 +1,5 @@
--- A table and a summary come back from their numbers, and numbers from what they tell: the laws of `model`, of the front of a lent
--- list. Assumes nothing.
+-- A table and a summary come back from their numbers, and numbers from what they tell: the laws of `Numbers`, of the front of a
+-- lent list. Assumes nothing.
 use Prim.Native.Nat.{ℕ, _≤_}
 use mathlib.Core.Path.{_≡_, ap}
 use mathlib.Core.Bool.{true}

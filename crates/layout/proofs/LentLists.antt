@@ -4,9 +4,11 @@ use Prim.Native.Nat.{ℕ}
 use mathlib.Core.Path.{_≡_, refl, sym, ap, subst, _∙_}
 use mathlib.Core.List.{List, [], _∷_, _++_, map}
 use lib.ListN.{drop}
+use Rattle.model.specs.declared.Parameters.{Parameters}
 use Rattle.model.specs.declared.State.{State}
 use Rattle.model.specs.States.{soundOf}
 use Rattle.model.specs.Answers.{answerOf, freshOf}
+use Rattle.model.specs.Folds.{endBy, resultsBy}
 use Rattle.model.specs.Calls.{callOf, tableOf, runOf, resultsOf}
 use Rattle.model.specs.Readings.{over}
 use Rattle.layout.specs.Encodings.{tableLength, stateNumbers, isSoundTable}
@@ -19,7 +21,7 @@ use Rattle.layout.proofs.Encodings.{table-length, table-comes-back}
 use Rattle.layout.specs.Interface.{Lent, LentBoth, recordGave}
 use Rattle.layout.specs.Guarantees.{LentCall, lentCall, lentResults, lentRun, callIn, summaryAfter}
 use Rattle.layout.specs.Guarantees.{inNumbers, allInNumbers, LentDemand3, EveryLentList}
-use Rattle.layout.proofs.LentSteps.{FreshGiven, fresh-given, summary-kept, CallGiven, given}
+use Rattle.layout.proofs.LentSteps.{FreshGiven, fresh-given, fresh-is, summary-kept, CallGiven, given}
 
 -- One call
 
@@ -57,7 +59,7 @@ module _ (s : State) (whole : Whole s) (rest : List ℕ) where
 module _ (rest : List ℕ) where
   results-in-numbers : (s : State) → Whole s → (ds : List LentCall)
       → lentResults (stateNumbers s ++ rest) ds ≡ allInNumbers rest ds (resultsOf s (map callIn ds))
-  unfolding lentResults resultsOf allInNumbers
+  unfolding resultsBy allInNumbers
   results-in-numbers s whole [] = refl
   results-in-numbers s whole (d ∷ ds) =
       ap (λ (g : LentBoth). g ∷ lentResults (g .table) ds) (call-in-numbers s whole rest d)
@@ -66,7 +68,7 @@ module _ (rest : List ℕ) where
 
   run-in-numbers : (s : State) → Whole s → (ds : List LentCall)
       → lentRun (stateNumbers s ++ rest) ds ≡ stateNumbers (runOf s (map callIn ds)) ++ rest
-  unfolding lentRun runOf
+  unfolding endBy
   run-in-numbers s whole [] = refl
   run-in-numbers s whole (d ∷ ds) =
       ap (λ (g : LentBoth). lentRun (g .table) ds) (call-in-numbers s whole rest d)
@@ -74,23 +76,23 @@ module _ (rest : List ℕ) where
 
 -- From a fresh table
 
-module _ (n a b c : ℕ) (table : List ℕ) (ds : List LentCall) where
+module _ (k : Parameters) (table : List ℕ) (ds : List LentCall) where
   abbrev From : List ℕ → Type 0
-  From l = LentDemand3 (freshOf n a b c .state) l (drop tableLength table) ds
+  From l = LentDemand3 (freshOf k .state) l (drop tableLength table) ds
 
-  fresh-list : {g : Lent} → FreshGiven n a b c table g → g .answer .code ≡ 0 → From (g .table)
+  fresh-list : {g : Lent} → FreshGiven k table g → g .answer .code ≡ 0 → From (g .table)
   fresh-list (FreshGiven.refused n) e = absurd (n e)
   fresh-list (FreshGiven.made _ _) e =
-      let s = freshOf n a b c .state in
-      let whole = fresh-is-plain n a b c .fresh e .size in
+      let s = freshOf k .state in
+      let whole = fresh-is-plain k .fresh e .size in
       rw (table-length s whole)
       (record {
         results = resultsOf s (map callIn ds);
         last = runOf s (map callIn ds);
         results-are = results-in-numbers (drop tableLength table) s whole ds;
         last-is = run-in-numbers (drop tableLength table) s whole ds;
-        demand3 = every-list n a b c e (map callIn ds);
+        demand3 = every-list s (fresh-is k e) (map callIn ds);
       })
 
 pub every-lent-list : EveryLentList
-every-lent-list n a b c table ds = fresh-list n a b c table ds (fresh-given n a b c table)
+every-lent-list k table ds = fresh-list k table ds (fresh-given k table)

@@ -9,11 +9,14 @@ use native.Mathlib.Omega.{arith}
 use lib.Dec.{ltb, eqb}
 use lib.ListN.{length}
 use borrow.Author.Tests.{ltb-true, ltb-false, eqb-true, eqb-false, lt-ltb, le-ltb, not-true, not-false}
+use Rattle.model.specs.declared.Parameters.{Parameters}
 use Rattle.model.specs.declared.State.{State}
 use Rattle.model.specs.declared.Answer.{Answer}
+use Rattle.model.specs.declared.Outcome.{Outcome}
 use Rattle.model.specs.declared.Recorded.{Recorded}
+use Rattle.model.specs.States.{countStands, limitsStand}
 use Rattle.model.specs.Answers.{answerOf, freshOf, stepOf}
-use Rattle.model.specs.Facts.{Accepted}
+use Rattle.model.specs.Facts.{Accepted, IsFresh}
 use Rattle.model.specs.Readings.{over}
 use Rattle.model.specs.Summaries.{newStatistics, statisticsSound, beside, recordedOf}
 use Rattle.model.specs.Calls.{callOf}
@@ -27,17 +30,32 @@ use Rattle.layout.specs.Guarantees.{LentCall, lentCall, noSummary, callI
 
 -- A fresh table
 
-module _ (n a b c : ℕ) (table : List ℕ) where
+module _ (k : Parameters) (table : List ℕ) where
   pub data FreshGiven : Lent → Type 0 where
     refused : {r : Answer} → r .code ≢ 0 → FreshGiven (lentGave r table)
-    made : Accepted (freshOf n a b c) → tableLength ≤ length table → FreshGiven (outcomeLent (freshOf n a b c) table)
+    made : Accepted (freshOf k) → tableLength ≤ length table → FreshGiven (outcomeLent (freshOf k) table)
 
-  pub fresh-given : FreshGiven (lentFresh n a b c table)
+  pub fresh-given : FreshGiven (lentFresh k table)
   unfolding lentFresh
   fresh-given =
-      by-cond FreshGiven (not (eqb (freshOf n a b c .answer .code) 0)) (λ e. refused (eqb-false _ _ (not-true _ e)))
+      by-cond FreshGiven (not (eqb (freshOf k .answer .code) 0)) (λ e. refused (eqb-false _ _ (not-true _ e)))
       (λ g. by-cond FreshGiven (ltb (length table) tableLength) (λ _. refused (omega arith))
       (λ e. made (eqb-true _ _ (not-false _ g)) (ltb-false _ _ e)))
+
+module _ (k : Parameters) (e : Accepted (freshOf k)) where
+  -- an accepted call gives a fresh table
+  pub fresh-is : IsFresh (freshOf k .state)
+  fresh-is = record { parameters = k; accepted = e; is = refl }
+
+  abbrev Bare : Outcome → Type 0
+  Bare o = Accepted o → o .answer ≡ answerOf 0 0 0
+
+  -- and an answer with nothing in it
+  pub fresh-answer : freshOf k .answer ≡ answerOf 0 0 0
+  unfolding freshOf
+  fresh-answer =
+      by-cond Bare (not (countStands k)) (λ _ n. absurd (omega arith))
+      (λ _. by-cond Bare (not (limitsStand k)) (λ _ n. absurd (omega arith)) (λ _ _. refl)) e
 
 -- A new summary
 

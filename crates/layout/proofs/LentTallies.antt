@@ -8,7 +8,9 @@ use native.Mathlib.Omega.{arith}
 use lib.Dec.{ltb}
 use lib.ListN.{length, drop, length-append}
 use borrow.Author.Tests.{le-ltb}
+use Rattle.model.specs.declared.Parameters.{Parameters}
 use Rattle.model.specs.declared.Recorded.{Recorded}
+use Rattle.model.specs.Folds.{endBy, resultsBy}
 use Rattle.model.specs.Texts.{Event}
 use Rattle.model.specs.Answers.{freshOf}
 use Rattle.model.specs.Facts.{Accepted}
@@ -23,7 +25,7 @@ use Rattle.tallies.proofs.Tallies.{every-tally}
 use Rattle.layout.proofs.Encodings.{table-length, summary-length, summary-comes-back}
 use Rattle.layout.specs.Interface.{Lent, LentSummary, LentBoth, recordGave}
 use Rattle.layout.specs.Guarantees.{LentCall, lentCall, callIn, inNumbers, lentAll, lentRecords, bothInNumbers, EveryLentTally}
-use Rattle.layout.proofs.LentSteps.{FreshGiven, fresh-given, NewGiven, new-given, recordCall}
+use Rattle.layout.proofs.LentSteps.{FreshGiven, fresh-given, fresh-is, fresh-answer, NewGiven, new-given, recordCall}
 use Rattle.layout.proofs.LentLists.{call-in-numbers}
 
 -- One recorded step
@@ -74,7 +76,7 @@ module _ (rest spare : List ℕ) (r : Recorded) (whole : BothWhole r) (e : Event
 module _ (rest spare : List ℕ) where
   records-in-numbers : (r : Recorded) → BothWhole r → (es : List Event)
       → lentRecords (bothInNumbers rest spare r) es ≡ map (bothInNumbers rest spare) (recordsOf r es)
-  unfolding lentCall lentRecords recordsOf
+  unfolding lentCall resultsBy
   records-in-numbers r whole [] = refl
   records-in-numbers r whole (e ∷ es) =
       ap (λ (g : LentBoth). g ∷ lentRecords g es) (record-in-numbers rest spare r whole e)
@@ -83,7 +85,7 @@ module _ (rest spare : List ℕ) where
 
   all-in-numbers : (r : Recorded) → BothWhole r → (es : List Event)
       → lentAll (bothInNumbers rest spare r) es ≡ bothInNumbers rest spare (recordAll r es)
-  unfolding lentCall lentAll recordAll
+  unfolding lentCall endBy
   all-in-numbers r whole [] = refl
   all-in-numbers r whole (e ∷ es) =
       ap (λ (g : LentBoth). lentAll g es) (record-in-numbers rest spare r whole e)
@@ -91,29 +93,30 @@ module _ (rest spare : List ℕ) where
 
 -- From the start, a fresh table with a new summary
 
-module _ (n a b c : ℕ) (table summary : List ℕ) where
-  fresh-in-numbers : {g : Lent} {h : LentSummary} → FreshGiven n a b c table g → NewGiven summary h
+module _ (k : Parameters) (table summary : List ℕ) where
+  fresh-in-numbers : {g : Lent} {h : LentSummary} → FreshGiven k table g → NewGiven summary h
       → g .answer .code ≡ 0 → h .answer .code ≡ 0
       → recordGave (g .answer) (g .table) (h .summary)
-      ≡ bothInNumbers (drop tableLength table) (drop summaryLength summary) (startOf n a b c)
+      ≡ bothInNumbers (drop tableLength table) (drop summaryLength summary) (startOf (freshOf k .state))
   fresh-in-numbers (FreshGiven.refused n) _ e f = absurd (n e)
   fresh-in-numbers (FreshGiven.made _ _) NewGiven.refused e f = absurd (omega arith)
   fresh-in-numbers (FreshGiven.made _ _) (NewGiven.made _) e f =
-      rw (table-length (freshOf n a b c .state) (fresh-is-plain n a b c .fresh e .size), summary-length newStatistics refl)
+      rw (fresh-answer k e, table-length (freshOf k .state) (fresh-is-plain k .fresh e .size), summary-length newStatistics refl)
 
-  fresh-accepted : {g : Lent} → FreshGiven n a b c table g → g .answer .code ≡ 0 → Accepted (freshOf n a b c)
+  fresh-accepted : {g : Lent} → FreshGiven k table g → g .answer .code ≡ 0 → Accepted (freshOf k)
   fresh-accepted (FreshGiven.refused n) e = absurd (n e)
   fresh-accepted (FreshGiven.made a _) e = a
 
 pub every-lent-tally : EveryLentTally
-every-lent-tally n a b c table summary es e f =
+every-lent-tally k table summary es e f =
     let rest = drop tableLength table in
     let spare = drop summaryLength summary in
-    let accepted = fresh-accepted n a b c table summary (fresh-given n a b c table) e in
-    let start = fresh-in-numbers n a b c table summary (fresh-given n a b c table) (new-given summary) e f in
-    let whole : BothWhole (startOf n a b c) = record { table = fresh-is-plain n a b c .fresh accepted .size; summary = refl } in
+    let s = freshOf k .state in
+    let accepted = fresh-accepted k table summary (fresh-given k table) e in
+    let start = fresh-in-numbers k table summary (fresh-given k table) (new-given summary) e f in
+    let whole : BothWhole (startOf s) = record { table = fresh-is-plain k .fresh accepted .size; summary = refl } in
     record {
-      results-are = ap (λ (g : LentBoth). lentRecords g es) start ∙ records-in-numbers rest spare (startOf n a b c) whole es;
-      last-is = ap (λ (g : LentBoth). lentAll g es) start ∙ all-in-numbers rest spare (startOf n a b c) whole es;
-      tallied = every-tally n a b c accepted es;
+      results-are = ap (λ (g : LentBoth). lentRecords g es) start ∙ records-in-numbers rest spare (startOf s) whole es;
+      last-is = ap (λ (g : LentBoth). lentAll g es) start ∙ all-in-numbers rest spare (startOf s) whole es;
+      tallied = every-tally s (fresh-is k accepted) es;
     }

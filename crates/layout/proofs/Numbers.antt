@@ -13,7 +13,7 @@ use Rattle.model.specs.declared.Process.{Process}
 use Rattle.model.specs.declared.State.{State}
 use Rattle.model.specs.declared.Statistics.{Statistics}
 use Rattle.model.specs.Stages.{leaving}
-use Rattle.model.specs.States.{idle, stageOf, sinceOf, locationAt}
+use Rattle.model.specs.States.{entry, idle, stageOf, sinceOf, locationAt}
 use Rattle.layout.specs.Encodings.{headerLength, stride, processNumbers, stateNumbers, processesIn, stateIn, isEntry, areEntries}
 use Rattle.layout.specs.Encodings.{countsLength, statisticsNumbers, statisticsIn}
 use Rattle.model.proofs.Lists.{drop-at}
@@ -60,7 +60,7 @@ entry-told stage since e =
 pub processes-told : (qs : List Process) → processesIn (processNumbers qs) ≡ qs
 unfolding processesIn processNumbers
 processes-told [] = refl
-processes-told (q ∷ qs) = λ i. record { location = sym (location-is (q .location)) i } ∷ processes-told qs i
+processes-told (q ∷ qs) = λ i. entry (sym (location-is (q .location)) i) ∷ processes-told qs i
 
 pub processes-are-entries : (qs : List Process) → areEntries (processNumbers qs) ≡ true
 unfolding areEntries processNumbers

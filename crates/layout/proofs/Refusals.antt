@@ -7,6 +7,7 @@ use mathlib.Core.List.{List}
 use native.Mathlib.Omega.{arith}
 use lib.ListN.{length, getD, set}
 use lib.Seq.{getD-take}
+use Rattle.model.specs.declared.Parameters.{Parameters}
 use Rattle.model.specs.declared.State.{State}
 use Rattle.model.specs.declared.Outcome.{Outcome}
 use Rattle.model.specs.Readings.{over}
@@ -26,7 +27,7 @@ use Rattle.layout.proofs.LentSteps.{stepCall, recordCall, CallGiven, Gi
 
 -- A fresh table and a new summary
 
-fresh-stays : {n a b c : ℕ} {table : List ℕ} {r : Lent} → FreshGiven n a b c table r → r .answer .code ≢ 0 → r .table ≡ table
+fresh-stays : {k : Parameters} {table : List ℕ} {r : Lent} → FreshGiven k table r → r .answer .code ≢ 0 → r .table ≡ table
 fresh-stays (FreshGiven.refused _) n = refl
 fresh-stays (FreshGiven.made e _) n = absurd (n e)
 
@@ -35,7 +36,7 @@ new-stays NewGiven.refused n = refl
 new-stays (NewGiven.made _) n = absurd (n refl)
 
 pub refused-fresh-stays : RefusedFreshStays
-refused-fresh-stays n a b c table = fresh-stays (fresh-given n a b c table)
+refused-fresh-stays k table = fresh-stays (fresh-given k table)
 
 pub refused-summary-stays : RefusedSummaryStays
 refused-summary-stays summary = new-stays (new-given summary)

@@ -9,16 +9,17 @@ use native.Mathlib.Omega.{arith}
 use lib.ListN.{length, getD, drop}
 use lib.Seq.{getD-append-add, getD-set-other}
 use Rattle.model.specs.declared.Process.{Process}
+use Rattle.model.specs.declared.Parameters.{Parameters}
 use Rattle.model.specs.declared.State.{State}
 use Rattle.model.specs.declared.Outcome.{Outcome}
 use Rattle.model.specs.declared.Statistics.{Statistics}
 use Rattle.model.specs.States.{idle, stageOf, sinceOf, entryOf}
 use Rattle.model.specs.Answers.{freshOf}
 use Rattle.model.specs.Readings.{over}
-use Rattle.model.specs.Summaries.{newStatistics, recordedOf}
+use Rattle.model.specs.Summaries.{countsNumbers, newStatistics, recordedOf}
 use Rattle.model.specs.Calls.{Call, tableOf}
 use Rattle.layout.specs.Encodings.{headerLength, stride, tableLength, processNumbers, stateNumbers, tableIn, isSoundTable}
-use Rattle.layout.specs.Encodings.{countsLength, countsNumbers, summaryLength, statisticsNumbers, summaryIn}
+use Rattle.layout.specs.Encodings.{countsLength, summaryLength, statisticsNumbers, summaryIn}
 use Rattle.model.proofs.Lists.{length-over}
 use Rattle.model.proofs.Tests.{if-eq}
 use Rattle.layout.proofs.Numbers.{numbers-at}
@@ -66,10 +67,10 @@ module _ {s t : State} {act p m : ℕ} (changed : Changed s act p m t) where
 
   changed-stays : (k : ℕ) → Elsewhere p k → getD (stateNumbers t) k 0 ≡ getD (stateNumbers s) k 0
   unfolding stateNumbers
-  changed-stays zero e = changed .n-stays
-  changed-stays (suc zero) e = changed .a-stays
-  changed-stays (suc (suc zero)) e = changed .b-stays
-  changed-stays (suc (suc (suc zero))) e = changed .c-stays
+  changed-stays zero e = ap (λ (k : Parameters). k .n) (changed .parameters-stay)
+  changed-stays (suc zero) e = ap (λ (k : Parameters). k .a) (changed .parameters-stay)
+  changed-stays (suc (suc zero)) e = ap (λ (k : Parameters). k .b) (changed .parameters-stay)
+  changed-stays (suc (suc (suc zero))) e = ap (λ (k : Parameters). k .c) (changed .parameters-stay)
   changed-stays (suc (suc (suc (suc zero)))) e = absurd (e .not-clock refl)
   changed-stays (suc (suc (suc (suc (suc zero))))) e = absurd (e .not-word refl)
   changed-stays (suc (suc (suc (suc (suc (suc k)))))) e = processes-stay k (subst (Elsewhere p) (omega arith) e)
@@ -191,11 +192,11 @@ summary-writes-its-own table summary act p m = counted-writes table summary act 
 
 -- All lengths
 
-fresh-as-long : {n a b c : ℕ} {table : List ℕ} {g : Lent} → FreshGiven n a b c table g → length (g .table) ≡ length table
+fresh-as-long : {k : Parameters} {table : List ℕ} {g : Lent} → FreshGiven k table g → length (g .table) ≡ length table
 fresh-as-long (FreshGiven.refused _) = refl
-fresh-as-long {n} {a} {b} {c} {table} (FreshGiven.made e fits) =
-    let s = freshOf n a b c .state in
-    over-as-long (stateNumbers s) table (table-length s (fresh-is-plain n a b c .fresh e .size)) fits
+fresh-as-long {k} {table} (FreshGiven.made e fits) =
+    let s = freshOf k .state in
+    over-as-long (stateNumbers s) table (table-length s (fresh-is-plain k .fresh e .size)) fits
 
 new-as-long : {summary : List ℕ} {g : LentSummary} → NewGiven summary g → length (g .summary) ≡ length summary
 new-as-long NewGiven.refused = refl
@@ -205,7 +206,7 @@ new-as-long {summary} (NewGiven.made fits) =
 pub lengths-stay : LengthsStay
 unfolding lentCall
 lengths-stay = record {
-  fresh = λ n a b c table. fresh-as-long (fresh-given n a b c table);
+  fresh = λ k table. fresh-as-long (fresh-given k table);
   step = λ table act p m. call-as-long table (stepCall act p m);
   new-summary = λ summary. new-as-long (new-given summary);
   record-table = λ table summary act p m. call-as-long table (recordCall summary act p m);

@@ -8,7 +8,6 @@ use lib.Dec.{leb, eqb}
 use Rattle.model.specs.declared.Process.{Process}
 use Rattle.model.specs.declared.Parameters.{Parameters}
 use Rattle.model.specs.declared.State.{State}
-use Rattle.model.specs.declared.Counts.{Counts}
 use Rattle.model.specs.declared.Statistics.{Statistics}
 use Rattle.model.specs.Stages.{leaving}
 use Rattle.model.specs.States.{entry, stageOf, sinceOf, soundOf, locationAt}

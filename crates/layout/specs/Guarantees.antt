@@ -14,7 +14,8 @@ use Rattle.model.specs.declared.Recorded.{Recorded}
 use Rattle.model.specs.Answers.{freshOf}
 use Rattle.model.specs.Readings.{over}
 use Rattle.model.specs.Summaries.{countsOf, statisticsOf, mostActs}
-use Rattle.layout.specs.Encodings.{headerLength, stride, tableLength, clockPlace, wordPlace, stateNumbers, countsLength, summaryLength, statisticsNumbers, summaryIn}
+use Rattle.layout.specs.Encodings.{headerLength, stride, tableLength, clockPlace, wordPlace, stateNumbers}
+use Rattle.layout.specs.Encodings.{countsLength, summaryLength, statisticsNumbers, summaryIn}
 use Rattle.model.specs.Folds.{endBy, resultsBy}
 use Rattle.model.specs.Calls.{Call}
 use Rattle.model.specs.Texts.{Event}

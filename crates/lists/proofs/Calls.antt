@@ -1,10 +1,10 @@
--- What a call gives back: what an accepted step does, or a refusal with the table as it was. `callOf` is taken apart here for all of
--- the theory. Assumes nothing.
+-- What a call gives back: what an accepted step does, or a refusal with the table as it was; so calls keep what accepted steps keep.
+-- `callOf` is taken apart here for all theorems of lists. Assumes nothing.
 use Prim.Native.Nat.{ℕ}
 use mathlib.Core.Path.{_≡_, refl, ap}
 use mathlib.Core.Logic.{_≢_}
 use mathlib.Core.Bool.{false}
-use mathlib.Core.List.{List, [], _∷_, _++_}
+use mathlib.Core.List.{List, [], _∷_}
 use native.Mathlib.Omega.{arith}
 use Rattle.model.specs.declared.State.{State}
 use Rattle.model.specs.declared.Outcome.{Outcome}
@@ -13,6 +13,7 @@ use Rattle.model.specs.States.{soundOf}
 use Rattle.model.specs.Answers.{answers, stepOf}
 use Rattle.model.specs.Facts.{Accepted}
 use Rattle.model.specs.Summaries.{beside}
+use Rattle.model.specs.Folds.{endBy}
 use Rattle.model.specs.Calls.{Call, callOf, outcomeOf, tableOf, runOf}
 use Rattle.model.proofs.Tests.{if-eq, by-cond}
 use Rattle.theory.proofs.Steps.{unsound-is}
@@ -56,9 +57,19 @@ module _ (s : State) (d : Call) where
       (λ _. unsound-recorded s (d .lent) (d .action) (d .process) (d .time) e)
       (λ _. ap (beside (d .lent)) (unsound-is s (d .action) (d .process) (d .time) e))
 
--- A list of calls
+-- What steps keep
 
-pub run-append : (s : State) (ds es : List Call) → runOf s (ds ++ es) ≡ runOf (runOf s ds) es
-unfolding runOf
-run-append s [] es = refl
-run-append s (d ∷ ds) es = run-append (tableOf s d) ds es
+-- what every accepted step keeps is kept by every call, and by every list of calls
+module _ (P : State → Type 0)
+    (keeps : (s : State) (act p m : ℕ) → Accepted (stepOf s act p m) → P s → P (stepOf s act p m .state)) where
+  called-keeps : {s : State} {d : Call} {o : Outcome} → Called s d o → P s → P (o .state)
+  called-keeps {s} {d} (Called.accepted a) h = keeps s (d .action) (d .process) (d .time) a h
+  called-keeps (Called.refused n e) h = rw e h
+
+  pub call-keeps : {s : State} (d : Call) → P s → P (tableOf s d)
+  call-keeps {s} d = called-keeps (called s d)
+
+  pub run-keeps : {s : State} (ds : List Call) → P s → P (runOf s ds)
+  unfolding endBy
+  run-keeps [] h = h
+  run-keeps (d ∷ ds) h = run-keeps ds (call-keeps d h)

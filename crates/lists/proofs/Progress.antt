@@ -6,6 +6,7 @@ use mathlib.Core.Logic.{inl, inr, _↔_}
 use native.Mathlib.Omega.{arith}
 use Rattle.model.specs.declared.Location.{Location}
 use Rattle.model.specs.declared.State.{State}
+use Rattle.model.specs.Acts.{waitAct, testAct, setAct, checkAct, critAct, resetAct, remAct}
 use Rattle.model.specs.Answers.{stepOf}
 use Rattle.model.specs.Facts.{Accepted, Deadline, HasDeadline}
 use Rattle.theory.specs.Soundness.{Sound}
@@ -17,12 +18,12 @@ use Rattle.theory.proofs.Acceptance.{accepted-iff-allowed}
 
 -- where a location has a deadline it has an act, which by then is no longer early
 due-from : {a b c m : ℕ} {l : Location} → b ≤ c → Deadline a c l m → (act : ℕ) × From b m act l
-due-from h Deadline.testing = (2, From.test)
-due-from h Deadline.setting = (3, From.set)
-due-from h (Deadline.checking {t = t}) = (4, From.check {t = t} (omega arith))
-due-from h Deadline.entering = (5, From.crit)
-due-from h Deadline.resetting = (7, From.reset)
-due-from h Deadline.leaving = (8, From.rem)
+due-from h Deadline.testing = (testAct, From.test)
+due-from h Deadline.setting = (setAct, From.set)
+due-from h (Deadline.checking {t = t}) = (checkAct, From.check {t = t} (omega arith))
+due-from h Deadline.entering = (critAct, From.crit)
+due-from h Deadline.resetting = (resetAct, From.reset)
+due-from h Deadline.leaving = (remAct, From.rem)
 
 module _ (s : State) (sound : Sound s) where
   allowed : (act p m : ℕ) → Accepted (stepOf s act p m) ↔ Allowed s act p m
@@ -30,8 +31,8 @@ module _ (s : State) (sound : Sound s) where
 
   pub waits-unless-due : WaitsUnlessDue s
   waits-unless-due below = (
-    λ a i h. omega (arith, allowed 0 0 (s .clock + 1) .0 a .in-time i (s .clock) h),
-    λ none. allowed 0 0 (s .clock + 1) .1 (record {
+    λ a i h. omega (arith, allowed waitAct 0 (s .clock + 1) .0 a .in-time i (s .clock) h),
+    λ none. allowed waitAct 0 (s .clock + 1) .1 (record {
       forward = omega arith;
       within = omega arith;
       in-time = λ i d h. if-eq d (s .clock)
@@ -47,7 +48,7 @@ module _ (s : State) (sound : Sound s) where
 
   pub due-may-act : DueMayAct s
   due-may-act i h =
-      let due = due-from (sound .limits .order) (h .is) in (
+      let due = due-from (sound .parameters .limits .order) (h .is) in (
         due .0,
         allowed (due .0) i (s .clock) .1 (record {
           forward = omega arith;

@@ -4,33 +4,31 @@ use Prim.Native.Nat.{ℕ, _-_, _≤_}
 use mathlib.Core.Path.{_≡_, refl, _∙_}
 use mathlib.Core.Logic.{_⊎_, inl, inr}
 use mathlib.Core.List.{List}
-use lib.Dec.{eqb}
 use lib.ListN.{length, set, length-set}
+use lib.Seq.{set-getD}
 use Rattle.model.specs.declared.State.{State}
-use Rattle.model.specs.declared.Outcome.{Outcome}
 use Rattle.model.specs.declared.Statistics.{Statistics}
 use Rattle.model.specs.declared.Recorded.{Recorded}
 use Rattle.model.specs.Answers.{stepOf}
+use Rattle.model.specs.Facts.{Accepted}
 use Rattle.model.specs.Summaries.{acceptedCounted, recordedOf}
 use Rattle.model.specs.Calls.{Call, tableOf}
 use Rattle.theory.specs.Acceptance.{Waits, Acts}
-use Rattle.model.proofs.Tests.{if-eq, by-cond}
+use Rattle.model.proofs.Tests.{if-eq}
 use Rattle.theory.proofs.Acceptance.{accepted-iff-allowed, next-is-changed}
 use Rattle.theory.proofs.RecordedSteps.{Judged, judged, noted-accepted, noted-refused}
-use Rattle.lists.proofs.Calls.{Called, called}
+use Rattle.lists.proofs.Calls.{call-keeps}
 
 -- Tables
 
 abbrev pub Whole : State → Type 0
 Whole s = length (s .processes) ≡ 96
 
-module _ (s : State) (whole : Whole s) where
-  called-whole : {d : Call} {o : Outcome} → Called s d o → Whole (o .state)
-  called-whole {d} (Called.accepted a) = next-is-changed s whole (d .action) (d .process) (d .time) a .size-stays ∙ whole
-  called-whole (Called.refused _ e) = rw e whole
+step-whole : (s : State) (act p m : ℕ) → Accepted (stepOf s act p m) → Whole s → Whole (stepOf s act p m .state)
+step-whole s act p m a whole = next-is-changed s whole act p m a .size-stays ∙ whole
 
-  pub call-whole : (d : Call) → Whole (tableOf s d)
-  call-whole d = called-whole (called s d)
+pub call-whole : (s : State) → Whole s → (d : Call) → Whole (tableOf s d)
+call-whole s whole d = call-keeps Whole step-whole d whole
 
 -- Summaries
 
@@ -39,9 +37,8 @@ module _ (s : State) (x : Statistics) (act p m : ℕ) (P : List ℕ → Type 0)
     (same : P (x .tries)) (other : 1 ≤ p → (t : ℕ) → P (set (x .tries) (p - 1) t)) where
   accepted-tries : Waits act p ⊎ Acts s act p m → P (acceptedCounted x act p m .tries)
   unfolding acceptedCounted
-  accepted-tries (inl w) = rw (w .wait) same
-  accepted-tries (inr a) =
-      by-cond P (eqb act 1) (λ _. other (a .some) m) (λ _. by-cond P (eqb act 5) (λ _. other (a .some) 0) (λ _. same))
+  accepted-tries (inl w) = rw (w .wait, w .nobody, set-getD (x .tries) 0 0) same
+  accepted-tries (inr a) = other (a .some) _
 
   judged-tries : {r : Recorded} → Judged s x act p m r → P (r .statistics .tries)
   judged-tries (Judged.no-table _) = same

@@ -2,18 +2,17 @@
 use Prim.Native.Nat.{ℕ, zero, suc, _≤_}
 use mathlib.Core.Path.{_≡_, refl, ap, _∙_}
 use mathlib.Core.Logic.{_≢_}
-use mathlib.Core.Bool.{true, false≢true}
 use native.Mathlib.Omega.{arith}
 use Rattle.model.specs.declared.Location.{Location}
-use Rattle.model.specs.declared.Location.the-variants.{Remainder, Testing, Setting, Checking, Entering, Critical, Resetting, Leaving}
+use Rattle.model.specs.declared.Location.the-variants.{Remainder}
+use Rattle.model.specs.declared.Parameters.{Parameters}
 use Rattle.model.specs.declared.State.{State}
-use Rattle.model.specs.Stages.{testing, entering, critical}
-use Rattle.model.specs.States.{stageOf, sinceOf, trying, limitOf, entryOf}
+use Rattle.model.specs.States.{sinceOf, limitIn, limitOf, entryOf}
 use Rattle.model.specs.Facts.{IsCritical, IsTrying}
 use Rattle.theory.specs.Soundness.{Sound, Fresh}
 use Rattle.theory.specs.Lateness.{AllInTime}
-use Rattle.model.proofs.Locations.{stage-location}
-use Rattle.theory.proofs.Locations.{InTime, past-iff, in-time}
+use Rattle.theory.proofs.Locations.{past-iff}
+use Rattle.lists.proofs.Ranks.{atTesting, atEntering, atCritical, rankOf, critical-at, trying-between, InTime, in-time}
 use Rattle.lists.proofs.View.{Lock, View, Owns, Timely}
 use Rattle.lists.proofs.View.{Fresh as FreshView}
 
@@ -28,43 +27,33 @@ abbrev pub viewOf : State → View
 viewOf s = record {
   clock = s .clock;
   word = s .word;
-  stage = λ j. stageOf (locationOf s j);
+  rank = λ j. rankOf (locationOf s j);
   since = λ j. sinceOf (locationOf s j);
 }
 
 -- from a check that finds its own word one act, of at most a, leads to the critical stage
-abbrev pub lockOf : State → Lock
-lockOf s = record { a = s .parameters .a; b = s .parameters .b; c = s .parameters .c; tail = s .parameters .a }
+abbrev pub lockOf : Parameters → Lock
+lockOf k = record { a = k .a; b = k .b; c = k .c; tail = k .a }
 
 pub location-of : (s : State) (i : ℕ) → 1 ≤ i → locationOf s i ≡ entryOf s i .location
 location-of s zero h = absurd (omega arith)
 location-of s (suc i) h = refl
 
-pub fresh-view : {n a b c : ℕ} {s : State} → Fresh n a b c s → FreshView (viewOf s)
-fresh-view f = record { word = f .word-is; all = λ j. elim j [ zero ↦ refl | suc i ↦ ap stageOf (f .all (suc i)) ] }
+pub fresh-view : {k : Parameters} {s : State} → Fresh k s → FreshView (viewOf s)
+fresh-view f = record { word = f .word-is; all = λ j. elim j [ zero ↦ refl | suc i ↦ ap rankOf (f .all (suc i)) ] }
 
--- Stages
-
-trying-between : (l : Location) → trying l ≡ true → (testing ≤ stageOf l) × (stageOf l ≤ entering)
-trying-between Remainder e = absurd (false≢true e)
-trying-between (Testing t) e = omega arith
-trying-between (Setting t) e = omega arith
-trying-between (Checking t) e = omega arith
-trying-between (Entering t) e = omega arith
-trying-between Critical e = absurd (false≢true e)
-trying-between (Resetting t) e = absurd (false≢true e)
-trying-between (Leaving t) e = absurd (false≢true e)
+-- Places
 
 module _ {s : State} {i : ℕ} where
   pub critical-owns : IsCritical s i → Owns (viewOf s) i
-  critical-owns h = omega (arith, ap stageOf (location-of s i (h .from) ∙ h .at))
+  critical-owns h = omega (arith, ap rankOf (location-of s i (h .from) ∙ h .at))
 
-  pub trying-stage : IsTrying s i → (testing ≤ viewOf s .stage i) × (viewOf s .stage i ≤ entering)
-  trying-stage h = omega (arith, ap stageOf (location-of s i (h .from)), trying-between (entryOf s i .location) (h .at))
+  pub trying-rank : IsTrying s i → (atTesting ≤ viewOf s .rank i) × (viewOf s .rank i ≤ atEntering)
+  trying-rank h = omega (arith, ap rankOf (location-of s i (h .from)), trying-between (entryOf s i .location) (h .at))
 
-pub none-critical : {s : State} → ((i : ℕ) → IsCritical s i → ⊥) → (i : ℕ) → viewOf s .stage i ≢ critical
+pub none-critical : {s : State} → ((i : ℕ) → IsCritical s i → ⊥) → (i : ℕ) → viewOf s .rank i ≢ atCritical
 none-critical h zero e = omega arith
-none-critical {s} h (suc i) e = h (suc i) (record { from = omega arith; at = stage-location (locationOf s (suc i)) e })
+none-critical {s} h (suc i) e = h (suc i) (record { from = omega arith; at = critical-at (locationOf s (suc i)) e })
 
 -- Arrivals and deadlines
 
@@ -72,21 +61,21 @@ pub view-past : {s : State} → Sound s → (j : ℕ) → viewOf s .since j ≤ 
 view-past sound zero = omega arith
 view-past {s} sound (suc j) = past-iff (s .clock) (locationOf s (suc j)) .1 (sound .past (suc j))
 
-limit-most : (s : State) (i : ℕ) → limitOf s i ≤ s .parameters .a
-unfolding limitOf
-limit-most s i = omega arith
+limit-most : (k : Parameters) (i : ℕ) → limitIn k i ≤ lockOf k .a
+unfolding limitIn
+limit-most k i = omega arith
 
 module _ {s : State} {m : ℕ} (h : AllInTime s m) where
   process-in-time : (j : ℕ) → InTime (limitOf s j) (s .parameters .c) m (locationOf s j)
   process-in-time zero = omega arith
   process-in-time (suc j) = in-time (locationOf s (suc j)) (λ d k. h (suc j) d (record { from = omega arith; is = k }))
 
-  pub view-timely : Timely (lockOf s) (viewOf s) m
+  pub view-timely : Timely (lockOf (s .parameters)) (viewOf s) m
   view-timely = record {
     short = λ j k. omega (
       arith,
       process-in-time j .short (k .not-remainder) (k .not-checking) (k .not-critical),
-      limit-most s j,
+      limit-most (s .parameters) j,
     );
     long = λ j k. process-in-time j .long (k .at);
   }

@@ -1,11 +1,11 @@
 -- Laws of lists and of their parts. Assumes nothing.
-use Prim.Native.Nat.{ℕ, _+_, _-_, _≤_, _<_}
-use mathlib.Core.Path.{_≡_, sym}
-use mathlib.Core.List.{List, [], _∷_, _++_}
+use Prim.Native.Nat.{ℕ, zero, suc, _+_, _-_, _≤_, _<_}
+use mathlib.Core.Path.{_≡_, refl, sym, _∙_}
+use mathlib.Core.List.{List, [], _∷_, _++_, map, map-append, append-assoc}
 use native.Mathlib.Omega.{arith}
 use native.Mathlib.Numerals.{add-one}
-use lib.ListN.{length, getD, take, drop, set, length-drop, length-append, length-set, take-append-drop}
-use lib.Seq.{drop-cons, drop-length, take-all, length-take-le, set-append-left}
+use lib.ListN.{length, getD, take, drop, set, length-drop, length-append, length-set, length-map, take-append-drop}
+use lib.Seq.{drop-cons, drop-length, take-all, length-take-le, set-append-left, set-at, getD-at}
 use lib.Seq.{drop-at as seam-at}
 use Rattle.model.specs.Readings.{over}
 
@@ -23,6 +23,12 @@ drop-end l i h g = let q : i ≡ length l = omega arith in rw q (drop-length l)
 pub part-is : {A : Type 0} (l : List A) (i : ℕ) → take (length l - i) (drop i l) ≡ drop i l
 part-is l i = take-all (length l - i) (drop i l) (omega (arith, length-drop i l))
 
+-- a row that is there is the same, whatever stands for one past the end
+pub row-at : {A : Type 0} (l : List A) (i : ℕ) (x y : A) → i < length l → getD l i x ≡ getD l i y
+row-at [] i x y h = absurd (omega arith)
+row-at (r ∷ l) zero x y h = refl
+row-at (r ∷ l) (suc i) x y h = row-at l i x y (omega arith)
+
 -- What is stored over the front of a list
 
 -- its own front changes nothing
@@ -39,3 +45,29 @@ over-set xs l i a h = rw (length-set xs i a) (sym (set-append-left xs (drop (len
 
 pub length-over : {A : Type 0} (xs l : List A) → length xs ≤ length l → length (over xs l) ≡ length l
 length-over xs l h = rw (length-append xs (drop (length xs) l), length-drop (length xs) l) (omega arith)
+
+-- Row after row is stored over the front of a list, and i of them have been
+
+module _ {A : Type 0} (xs l : List A) (i : ℕ) (written : length xs ≡ i) (inside : i < length l) where
+  -- the row after those stored is as it was
+  pub over-next : (d : A) → getD (over xs l) i d ≡ getD l i d
+  over-next d = rw (written, drop-cons l i d) (getD-at xs (getD l i d) (drop (suc i) l) d i written)
+
+  pub over-snoc : (x : A) → set (over xs l) i x ≡ over (xs ++ (x ∷ [])) l
+  over-snoc x =
+      let more : length (xs ++ (x ∷ [])) ≡ suc i = simp length-append (omega arith) in
+      rw (written, drop-cons l i x, more, append-assoc) (set-at xs (getD l i x) (drop (suc i) l) x i written)
+
+-- the rows that each of i results makes
+module _ {A B : Type 0} (f : A → B) (rs : List A) (l : List B) (i : ℕ) (made : length rs ≡ i) where
+  rows-made : length (map f rs) ≡ i
+  rows-made = length-map rs f ∙ made
+
+  pub rows-next : i < length l → (d : B) → getD (over (map f rs) l) i d ≡ getD l i d
+  rows-next h d = over-next (map f rs) l i rows-made h d
+
+  pub rows-snoc : i < length l → (r : A) → set (over (map f rs) l) i (f r) ≡ over (map f (rs ++ (r ∷ []))) l
+  rows-snoc h r = rw (map-append f rs (r ∷ [])) (over-snoc (map f rs) l i rows-made h (f r))
+
+  pub rows-long : i ≤ length l → length (over (map f rs) l) ≡ length l
+  rows-long h = length-over (map f rs) l (omega (arith, rows-made))

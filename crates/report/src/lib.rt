@@ -1,24 +1,25 @@
-// The whole text that `replay` prints, as a function from bytes to bytes: a recording is read, and each of its steps runs
-// from a fresh table on.
-use machine::answers::answer_with;
-use machine::fresh;
-use machine::step;
+// The whole text that `replay` prints, as a function from bytes to bytes: a recording is run, and there is a line for each of its
+// steps, or one for what is at fault.
+use execution::execute;
 use model::Answer;
-use model::State;
-use trace::puts::put_text;
-use trace::puts::put_values;
-use trace::read;
+use text::numbers::put_numbers;
+use text::puts::put_text;
+use values::answer_with;
 ghost use mathlib.Core.Path.{_≡_};
+ghost use mathlib.Core.List.{[], _∷_};
 ghost use Prim.Native.Nat.{_≤_};
 ghost use lib.ListN.{length};
-ghost use Rattle.model.specs.Texts.{valuesText};
-ghost use Rattle.model.specs.Readings.{lists};
-ghost use Rattle.model.specs.Writings.{eventsOf, writeGave};
-ghost use Rattle.model.specs.Reports.{faultLine, runText, reportText, reportOf};
+ghost use Rattle.model.specs.Texts.{numbersText};
+ghost use Rattle.model.specs.Writings.{writeGave};
+ghost use Rattle.model.specs.Reports.{reportText, reportOf};
 ghost use Rattle.text.specs.Puts.{Put};
+ghost use Rattle.report.specs.Rows.{rowsText};
 
 // [9.115] No recording has more steps: 65,536 bytes less those of the first lines, eight a step.
 const MOST_STEPS: usize = 8187;
+
+// How many steps are taken before their lines are put; more did not make it faster.
+const ROWS: usize = 64;
 
 // [7.55] No report has more bytes: the names line, and at most 84 a step.
 const MOST_BYTES: usize = 687734;
@@ -30,52 +31,77 @@ fn list() -> [u64; 8187]
     [0; MOST_STEPS]
 }
 
-// [7.35] The line that is printed with a refusal.
-fn fault_line(code: u64, line: u64) -> u64
-    ensures { λ r. ⌜ r ≡ faultLine code line ⌝ }
+// Room for the answers to some of them: they are taken as many at a time.
+fn rows() -> [[u64; 3]; 64]
+    ensures { λ r. ⌜ 64 ≡ length r ⌝ }
 {
-    if code == 11 {
-        return 2;
-    }
-    if code == 12 {
-        return 2;
-    }
-    line
+    [[0; 3]; ROWS]
 }
 
 // [7.25] One line of a report, which has at most 84 bytes: four numbers of at most 20 digits, and their ends.
-fn put_line(out: &mut [u8], at: u32, line: u64, code: u64, process: u64, time: u64) -> usize
-    ensures { λ r. ⌜ Put (now (out .entry)) (now (out .exit)) at (valuesText line code process time) r ⌝ }
+fn put_line(out: &mut [u8], at: u32, line: u64, row: [u64; 3]) -> usize
+    ensures { λ r. ⌜ Put (now (out .entry)) (now (out .exit)) at (numbersText line row) r ⌝ }
     ensures { λ r. ⌜ r ≤ 84 ⌝ }
 {
-    put_values(out, at, line, code, process, time)
+    put_numbers(out, at, line, &row)
 }
 
-// [7.40] [7.45] Runs the steps in the lists, at most 8,187, from a table on, and puts a line for each after the names line.
-fn put_run(out: &mut [u8], first: State, times: &[u64], processes: &[u64], actions: &[u64]) -> usize
-    requires { ⌜ length (now times) ≤ 8187 ⌝ }
-    requires { ⌜ length (now processes) ≡ length (now times) ⌝ }
-    requires { ⌜ length (now actions) ≡ length (now times) ⌝ }
-    ensures { λ r. ⌜ Put (now (out .entry)) (now (out .exit)) 26 (runText 4 first (eventsOf (lists (now (times .entry)) (now (processes .entry)) (now (actions .entry))))) r ⌝ }
-    ensures { λ r. ⌜ r ≤ 687708 ⌝ }
+// [7.40] Puts a line for each row from place `at` on; the first has the number `line`.
+fn put_rows(out: &mut [u8], at: u32, line: u64, answers: &[[u64; 3]]) -> usize
+    requires { ⌜ (at ≤ 687734) × (line ≤ 4294967296) × (length (now answers) ≤ 64) ⌝ }
+    ensures { λ r. ⌜ Put (now (out .entry)) (now (out .exit)) at (rowsText line (now (answers .entry))) r ⌝ }
+    ensures { λ r. ⌜ r ≤ 84 * length (now (answers .entry)) ⌝ }
 {
-    let mut state = first;
     let mut size: usize = 0;
     let mut i: usize = 0;
-    while i < times.len() {
-        let outcome = step(state, actions[i], processes[i], times[i]);
-        let answer = outcome.answer;
-        let at = (size + 26) as u32;
-        let line = (i as u64) + 4;
-        size += put_line(out, at, line, answer.code, answer.process, answer.time);
-        let next = outcome.state;
-        state = next;
+    while i < answers.len() {
+        let place = (at as usize) + size;
+        size += put_line(out, place as u32, line + (i as u64), answers[i]);
         i += 1;
     }
     size
 }
 
-// [7.20] [7.30] [7.40] [7.45] Puts the report, as much of it as there is room for, and answers how many bytes it has.
+// [7.40] [7.45] Takes the steps in the lists, at most 8,187, from a state on, and puts a line for each after the names line.
+fn put_run(
+    out: &mut [u8],
+    first: State,
+    line: u64,
+    times: &[u64],
+    processes: &[u64],
+    actions: &[u64],
+) -> usize
+    requires { ⌜ (line ≤ 65536) × (length (now times) ≤ 8187) ⌝ }
+    requires { ⌜ (length (now processes) ≡ length (now times)) × (length (now actions) ≡ length (now times)) ⌝ }
+    ensures { λ r. ⌜ Put (now (out .entry)) (now (out .exit)) 26
+        (runText line first (eventsOf (lent (times .entry) (processes .entry) (actions .entry)))) r ⌝ }
+    ensures { λ r. ⌜ r ≤ 687708 ⌝ }
+{
+    let mut answers = rows();
+    let mut state = first;
+    let mut size: usize = 0;
+    let mut i: usize = 0;
+    while i < times.len() {
+        let count = least(ROWS, times.len() - i);
+        state = run_steps(
+            state,
+            &times[i..],
+            &processes[i..],
+            &actions[i..],
+            &mut answers,
+        );
+        size += put_rows(
+            out,
+            (size + 26) as u32,
+            line + (i as u64),
+            &answers[..count],
+        );
+        i += count;
+    }
+    size
+}
+
+// [7.20] [7.30] [7.35] [7.40] [7.45] Puts the report, as much of it as there is room for, and answers how many bytes it has.
 fn put_report(text: &[u8], out: &mut [u8]) -> usize
     ensures { λ r. ⌜ Put (now (out .entry)) (now (out .exit)) 0 (reportText (now (text .entry))) r ⌝ }
     ensures { λ r. ⌜ r ≤ 687734 ⌝ }
@@ -84,18 +110,16 @@ fn put_report(text: &[u8], out: &mut [u8]) -> usize
     let mut processes = list();
     let mut actions = list();
     let names = put_text(out, 0, b"line,answer,window,moment\n");
-    let reading = read(text, &mut times, &mut processes, &mut actions);
-    let answer = reading.answer;
-    if answer.code != 0 {
-        let line = fault_line(answer.code, answer.time);
-        return names + put_line(out, 26, line, answer.code, 0, 0);
+    let started = start(text, &mut times, &mut processes, &mut actions);
+    let found = started.found;
+    if found.code != 0 {
+        return names + put_line(out, 26, found.line, [found.code, 0, 0]);
     }
-    let count = answer.time as usize;
-    let outcome = fresh(reading.n, reading.a, reading.b, reading.c);
-    let state = outcome.state;
+    let count = found.size;
     let lines = put_run(
         out,
-        state,
+        started.state,
+        found.line,
         &times[..count],
         &processes[..count],
         &actions[..count],

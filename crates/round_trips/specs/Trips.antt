@@ -1,14 +1,18 @@
 -- Section 6 of the specification: what a round trip gives back, refusals included. Assumes nothing.
-use Prim.Native.Nat.{ℕ}
+use Prim.Native.Nat.{ℕ, _≤_}
+use mathlib.Core.Path.{_≡_}
 use mathlib.Core.Bool.{cond}
 use mathlib.Core.List.{List}
 use lib.Dec.{eqb}
+use lib.ListN.{length}
+use Rattle.model.specs.declared.Parameters.{Parameters}
 use Rattle.model.specs.declared.Answer.{Answer}
 use Rattle.model.specs.declared.Reading.{Reading}
 use Rattle.model.specs.States.{noParameters}
-use Rattle.model.specs.Readings.{Lists, Read, readGave}
-use Rattle.model.specs.Writings.{Written, writeGave}
-use Rattle.grammar.specs.RoundTrips.{rewritten, reread}
+use Rattle.model.specs.Texts.{Event}
+use Rattle.model.specs.Readings.{Lists, room, over, Read, readGave, readOf}
+use Rattle.model.specs.Writings.{Written, writeGave, writeOf}
+use Rattle.grammar.specs.RoundTrips.{eventsRead, rewritten, reread}
 
 -- [6.205] a reading, and the writing of what was read, or the reading's refusal
 unfoldable pub rewriteOf : Read → List ℕ → Written
@@ -21,3 +25,11 @@ notRead answer = record { answer = answer; parameters = noParameters }
 -- [6.215] a writing, and the reading of what was written, or the writing's refusal
 unfoldable pub rereadOf : Written → Lists → Read
 rereadOf w l = cond (eqb (w .answer .code) 0) (reread w l) (readGave (notRead (w .answer)) l)
+
+-- [6.200] the text stands in an output that has room for it, where it is read
+abbrev pub ComesBack : List ℕ → Lists → List ℕ → List ℕ → Type 0
+ComesBack text l out out′ = readOf text l .reading .answer .code ≡ 0 → length text ≤ length out → out′ ≡ over text out
+
+-- [6.210] the steps are read again, where they are written and there is room for them
+abbrev pub StepsComeBack : Parameters → List Event → List ℕ → Lists → Read → Type 0
+StepsComeBack k events out l r = writeOf k events out .answer .code ≡ 0 → length events ≤ room l → eventsRead r ≡ events

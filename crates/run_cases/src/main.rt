@@ -6,6 +6,7 @@ use machine::stages::since_of;
 use machine::stages::stage_of;
 use model::Outcome;
 use model::Process;
+use values::no_parameters;
 
 fn print_next(number: u64) {
     io::write_all(STDOUT_FILENO, b",");
@@ -56,7 +57,7 @@ fn main() {
     print_names();
     let rows = cases::table();
     // the state before the first row, which is a fresh one and has no use for it
-    let made = machine::fresh(0, 0, 0, 0);
+    let made = machine::fresh(no_parameters());
     let mut state = made.state;
     for i in 0..rows.len() {
         let row = rows[i];

@@ -10,11 +10,12 @@ use crate::prints::print_line;
 use crate::prints::print_state;
 use crate::prints::print_statistics;
 use crate::prints::print_summary;
-use history::rows::answer_row;
 use model::Answer;
+use model::Parameters;
 use streams::kept;
 use streams::open_argument;
 use streams::read_text;
+use values::answer_row;
 ghost use mathlib.Core.Path.{_≡_};
 ghost use Prim.Native.Nat.{_<_, _≤_};
 ghost use lib.ListN.{length};
@@ -119,6 +120,12 @@ fn run_list(text: &[u8]) {
     let size = head.size;
     let values = head.numbers;
     let n = values[0];
+    let parameters = Parameters {
+        n: n,
+        a: values[1],
+        b: values[2],
+        c: values[3],
+    };
     let mut calls = call_rows();
     let mut counts = counts_rows();
     let mut tries = tries_rows();
@@ -133,23 +140,13 @@ fn run_list(text: &[u8]) {
         &mut acts,
     );
     let outcome = history::run(
-        n,
-        values[1],
-        values[2],
-        values[3],
+        parameters,
         &calls[..count],
         &mut counts,
         &mut tries,
         &mut answers,
     );
-    let recorded = history::run_recorded(
-        n,
-        values[1],
-        values[2],
-        values[3],
-        &acts[..count],
-        &mut second,
-    );
+    let recorded = history::run_recorded(parameters, &acts[..count], &mut second);
     print_fresh(outcome.answer);
     print_calls(n, count, answers, second, counts, tries);
     print_state(n, outcome.state);

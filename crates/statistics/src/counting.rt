@@ -1,8 +1,11 @@
-// The counts after one more act, of a summary that is not full.
+// A summary that is not full after one more act: the counts, and the try moment of the acting window.
+use machine::actions::CRIT;
+use machine::actions::EXIT;
+use machine::actions::TRY;
 use model::Counts;
 ghost use mathlib.Core.Path.{_≡_};
-ghost use Prim.Native.Nat.{max};
-ghost use Rattle.model.specs.Summaries.{oneRefused, oneAccepted, oneEntry, oneExit};
+ghost use Prim.Native.Nat.{_≤_, max};
+ghost use Rattle.model.specs.Summaries.{oneRefused, oneAccepted, oneEntry, oneExit, countsAfter, triedAfter};
 ghost use Rattle.statistics.specs.Countings.{Room};
 
 // [5.100]
@@ -15,7 +18,7 @@ pub(crate) fn with_refused(mut counts: Counts) -> Counts
 }
 
 // [5.70] Neither a crit nor an exit.
-pub(crate) fn with_accepted(mut counts: Counts) -> Counts
+fn with_accepted(mut counts: Counts) -> Counts
     requires { ⌜ Room counts ⌝ }
     ensures { λ r. ⌜ r ≡ oneAccepted counts ⌝ }
 {
@@ -30,7 +33,7 @@ fn greater(a: u64, b: u64) -> u64
 }
 
 // [5.70] [5.90] A crit, and the wait that it ends.
-pub(crate) fn with_entry(mut counts: Counts, wait: u64) -> Counts
+fn with_entry(mut counts: Counts, wait: u64) -> Counts
     requires { ⌜ Room counts ⌝ }
     ensures { λ r. ⌜ r ≡ oneEntry counts wait ⌝ }
 {
@@ -41,11 +44,39 @@ pub(crate) fn with_entry(mut counts: Counts, wait: u64) -> Counts
 }
 
 // [5.70] An exit.
-pub(crate) fn with_exit(mut counts: Counts) -> Counts
+fn with_exit(mut counts: Counts) -> Counts
     requires { ⌜ Room counts ⌝ }
     ensures { λ r. ⌜ r ≡ oneExit counts ⌝ }
 {
     counts.accepted += 1;
     counts.exits += 1;
     counts
+}
+
+// [5.70] [5.90] The counts after an accepted act of a window that tried at `tried`.
+pub(crate) fn counts_after(counts: Counts, action: u64, time: u64, tried: u64) -> Counts
+    requires { ⌜ Room counts ⌝ }
+    requires { ⌜ tried ≤ time ⌝ }
+    ensures { λ r. ⌜ r ≡ countsAfter counts action time tried ⌝ }
+{
+    if action == CRIT {
+        return with_entry(counts, time - tried);
+    }
+    if action == EXIT {
+        return with_exit(counts);
+    }
+    with_accepted(counts)
+}
+
+// [5.80] The try moment of the acting window after its act.
+pub(crate) fn tried_after(tried: u64, action: u64, time: u64) -> u64
+    ensures { λ r. ⌜ r ≡ triedAfter tried action time ⌝ }
+{
+    if action == TRY {
+        return time;
+    }
+    if action == CRIT {
+        return 0;
+    }
+    tried
 }

@@ -3,23 +3,20 @@
 mod counting;
 mod soundness;
 
-use crate::counting::with_accepted;
-use crate::counting::with_entry;
-use crate::counting::with_exit;
+use crate::counting::counts_after;
+use crate::counting::tried_after;
 use crate::counting::with_refused;
 use crate::soundness::fault_by;
 use crate::soundness::tries_stand;
-use machine::actions::CRIT;
-use machine::actions::EXIT;
-use machine::actions::TRY;
 use machine::actions::WAIT;
-use machine::answers::answer_with;
+use machine::slot_of;
 use machine::step;
 use model::Counts;
 use model::Outcome;
 use model::Recorded;
 use model::State;
 use model::Statistics;
+use values::answer_with;
 ghost use mathlib.Core.Path.{_≡_};
 ghost use mathlib.Core.Bool.{cond};
 ghost use Rattle.model.specs.States.{soundOf};
@@ -80,20 +77,10 @@ pub fn record(
     let outcome = step(state, action, process, time);
     let answer = outcome.answer;
     if answer.code == 0 {
-        if action == TRY {
-            let slot = (process - 1) as usize;
-            statistics.counts = with_accepted(counts);
-            statistics.tries[slot] = time;
-        } else if action == CRIT {
-            let slot = (process - 1) as usize;
-            let tried = statistics.tries[slot];
-            statistics.counts = with_entry(counts, time - tried);
-            statistics.tries[slot] = 0;
-        } else if action == EXIT {
-            statistics.counts = with_exit(counts);
-        } else {
-            statistics.counts = with_accepted(counts);
-        }
+        let slot = slot_of(process);
+        let tried = statistics.tries[slot];
+        statistics.counts = counts_after(counts, action, time, tried);
+        statistics.tries[slot] = tried_after(tried, action, time);
     } else if answer.code != 1 {
         statistics.counts = with_refused(counts);
     }

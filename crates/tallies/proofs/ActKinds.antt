@@ -11,6 +11,7 @@ use Rattle.model.specs.declared.Location.{Location}
 use Rattle.model.specs.declared.Location.the-variants.{Remainder, Testing, Entering, Critical, Resetting}
 use Rattle.model.specs.declared.Process.{Process}
 use Rattle.model.specs.declared.State.{State}
+use Rattle.model.specs.Acts.{tryAct, testAct, setAct, checkAct, critAct, exitAct, resetAct, remAct}
 use Rattle.model.specs.States.{idle, trying, entryOf}
 use Rattle.model.specs.Tallies.{criticalCount}
 use Rattle.theory.specs.Acceptance.{From, Effect, Waits, Acts, Changed}
@@ -22,9 +23,9 @@ use Rattle.tallies.proofs.CountLaws.{weight, count-set}
 
 -- an act that no count but that of the accepted acts tells apart
 pub record Plain (act : ℕ) : Type 0 where
-  pub not-try : act ≢ 1
-  pub not-crit : act ≢ 5
-  pub not-exit : act ≢ 6
+  pub not-try : act ≢ tryAct
+  pub not-crit : act ≢ critAct
+  pub not-exit : act ≢ exitAct
 
 -- a move that does not lead into trying, nor into critical or out of it
 pub record Alike (l l′ : Location) : Type 0 where
@@ -33,22 +34,22 @@ pub record Alike (l l′ : Location) : Type 0 where
 
 -- an act of a process at the time m, by where the process was and where it is after
 pub data Kind (m : ℕ) : ℕ → Location → Location → Type 0 where
-  try : Kind m 1 Remainder (Testing m)
-  crit : {t : ℕ} → Kind m 5 (Entering t) Critical
-  exit : Kind m 6 Critical (Resetting m)
+  try : Kind m tryAct Remainder (Testing m)
+  crit : {t : ℕ} → Kind m critAct (Entering t) Critical
+  exit : Kind m exitAct Critical (Resetting m)
   other : {act : ℕ} {l l′ : Location} → Plain act → Alike l l′ → Kind m act l l′
 
 act-kind : {b p m act w w′ : ℕ} {l l′ : Location} → From b m act l → Effect p m act w l′ w′ → Kind m act l l′
 act-kind From.try Effect.try = try
-act-kind From.test Effect.test-free = other {act = 2} (omega arith) (record { weighs = refl; tries = λ e. e })
-act-kind From.test (Effect.test-taken _) = other {act = 2} (omega arith) (record { weighs = refl; tries = λ e. e })
-act-kind From.set Effect.set = other {act = 3} (omega arith) (record { weighs = refl; tries = λ e. e })
-act-kind (From.check _) Effect.check-own = other {act = 4} (omega arith) (record { weighs = refl; tries = λ e. e })
-act-kind (From.check _) (Effect.check-other _) = other {act = 4} (omega arith) (record { weighs = refl; tries = λ e. e })
+act-kind From.test Effect.test-free = other {act = testAct} (omega arith) (record { weighs = refl; tries = λ e. e })
+act-kind From.test (Effect.test-taken _) = other {act = testAct} (omega arith) (record { weighs = refl; tries = λ e. e })
+act-kind From.set Effect.set = other {act = setAct} (omega arith) (record { weighs = refl; tries = λ e. e })
+act-kind (From.check _) Effect.check-own = other {act = checkAct} (omega arith) (record { weighs = refl; tries = λ e. e })
+act-kind (From.check _) (Effect.check-other _) = other {act = checkAct} (omega arith) (record { weighs = refl; tries = λ e. e })
 act-kind From.crit Effect.crit = crit
 act-kind From.exit Effect.exit = exit
-act-kind From.reset Effect.reset = other {act = 7} (omega arith) (record { weighs = refl; tries = λ e. e })
-act-kind From.rem Effect.rem = other {act = 8} (omega arith) (record { weighs = refl; tries = λ e. e })
+act-kind From.reset Effect.reset = other {act = resetAct} (omega arith) (record { weighs = refl; tries = λ e. e })
+act-kind From.rem Effect.rem = other {act = remAct} (omega arith) (record { weighs = refl; tries = λ e. e })
 
 -- The state after an act
 
@@ -64,7 +65,7 @@ module _ {s s′ : State} {act p m : ℕ} (changed : Changed s act p m s′) whe
   pub turn-kind : Waits act p ⊎ Acts s act p m → Kind m act (entryOf s p .location) (entryOf s′ p .location)
   unfolding entryOf
   turn-kind (inl w) = stays-kind (omega arith) (rw (w .nobody) (changed .others-stay 1 (omega arith) (omega arith)))
-  turn-kind (inr a) = act-kind (a .from) (changed .effect (from-ready (a .from) .some))
+  turn-kind (inr a) = act-kind (a .from) (changed .effect (from-ready (a .from) .not-wait))
 
   -- one entry takes the place of another
   next-entries : p - 1 < length (s .processes) → s′ .processes ≡ set (s .processes) (p - 1) (entryOf s′ p)

@@ -1,4 +1,4 @@
--- Laws of counts over lists: how many entries are critical, that no try moment is after the clock, and what an attempt adds to
+-- Laws of counts over lists: how many entries are critical, that no try time is after the clock, and what an attempt adds to
 -- the tally of a log. Assumes nothing.
 use Prim.Native.Nat.{ℕ, zero, suc, _+_, _≤_, _<_}
 use mathlib.Core.Path.{_≡_, refl}
@@ -6,7 +6,7 @@ use mathlib.Core.Bool.{false, cond}
 use mathlib.Core.List.{List, [], _∷_}
 use native.Mathlib.Omega.{arith}
 use lib.Dec.{eqb}
-use lib.ListN.{length, getD, set, replicate}
+use lib.ListN.{length, getD, set}
 use Rattle.model.specs.declared.Location.{Location}
 use Rattle.model.specs.declared.Location.the-variants.{Remainder}
 use Rattle.model.specs.declared.Process.{Process}
@@ -33,7 +33,7 @@ unfolding criticalCount
 count-idle [] h = refl
 count-idle (q ∷ qs) h = rw (h 0) (omega (arith, count-idle qs (λ k. h (suc k))))
 
--- Try moments
+-- Try times
 
 pub past-set : {clock : ℕ} (ts : List ℕ) (i v : ℕ) → v ≤ clock → ((k : ℕ) → getD ts k 0 ≤ clock)
     → (k : ℕ) → getD (set ts i v) k 0 ≤ clock
@@ -42,12 +42,6 @@ past-set (t ∷ ts) zero v f h zero = f
 past-set (t ∷ ts) zero v f h (suc k) = h (suc k)
 past-set (t ∷ ts) (suc i) v f h zero = h 0
 past-set (t ∷ ts) (suc i) v f h (suc k) = past-set ts i v f (λ j. h (suc j)) k
-
--- those of a new summary
-pub past-new : {clock : ℕ} (n k : ℕ) → getD (replicate n 0) k 0 ≤ clock
-past-new zero k = omega arith
-past-new (suc n) zero = omega arith
-past-new (suc n) (suc k) = past-new n k
 
 -- Logs
 

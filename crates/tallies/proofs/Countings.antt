@@ -7,31 +7,30 @@ use mathlib.Core.Bool.{true, false, false≢true}
 use mathlib.Core.List.{List, _∷_}
 use native.Mathlib.Omega.{arith}
 use lib.Dec.{eqb}
-use lib.ListN.{length, getD, set, length-set}
-use lib.Seq.{getD-set-same, getD-set-other}
+use lib.ListN.{length, getD, length-set}
+use lib.Seq.{set-getD, getD-set-same, getD-set-other}
 use borrow.Author.Tests.{ne-eqb, eq-eqb, le-leb}
 use Rattle.model.specs.declared.Location.{Location}
 use Rattle.model.specs.declared.Statistics.{Statistics}
+use Rattle.model.specs.Acts.{waitAct, tryAct, critAct, exitAct}
 use Rattle.model.specs.States.{lastTime, trying}
-use Rattle.model.specs.Summaries.{triedAt, acceptedCounted, refusedCounted}
+use Rattle.model.specs.Summaries.{triedAt, triedAfter, acceptedCounted, refusedCounted}
 use Rattle.model.specs.Tallies.{Attempt, attempt, isAccepted, isRefused, isEntry, isExit, countOf, lastTry, longestWait}
 use Rattle.theory.specs.Summaries.{CountsSound, NotFull}
+use Rattle.model.proofs.Tests.{by-cond}
 use Rattle.tallies.proofs.CountLaws.{weight, past-set, Unmarked, skipped}
 use Rattle.tallies.proofs.ActKinds.{Plain, Kind}
 use Rattle.theory.proofs.Steps.{Refuses}
 
 -- What a summary holds
 
--- there are 96 try moments, none after the clock
+-- there are 96 try times, none after the clock
 pub record TriesStand (clock : ℕ) (ts : List ℕ) : Type 0 where
   pub size : length ts ≡ 96
   pub past : (k : ℕ) → getD ts k 0 ≤ clock
 
 pub tries-later : {clock m : ℕ} {ts : List ℕ} → clock ≤ m → TriesStand clock ts → TriesStand m ts
 tries-later h t = record { size = t .size; past = λ k. omega (arith, t .past k) }
-
-tries-set : {clock : ℕ} {ts : List ℕ} (p v : ℕ) → v ≤ clock → TriesStand clock ts → TriesStand clock (set ts (p - 1) v)
-tries-set {clock} {ts} p v h t = record { size = length-set ts (p - 1) v ∙ t .size; past = past-set ts (p - 1) v h (t .past) }
 
 -- its counts and its longest wait are those of the log
 pub record Counted (log : List Attempt) (x : Statistics) : Type 0 where
@@ -77,11 +76,16 @@ refused-counted {log} act p m {code} h c =
 -- An accepted act
 
 -- the tests of an act that is no try, crit or exit
-plain-tests : {act : ℕ} → Plain act → (eqb act 1 ≡ false) × (eqb act 5 ≡ false) × (eqb act 6 ≡ false)
-plain-tests h = (ne-eqb _ 1 (h .not-try), ne-eqb _ 5 (h .not-crit), ne-eqb _ 6 (h .not-exit))
+plain-tests : {act : ℕ} → Plain act → (eqb act tryAct ≡ false) × (eqb act critAct ≡ false) × (eqb act exitAct ≡ false)
+plain-tests h = (ne-eqb _ tryAct (h .not-try), ne-eqb _ critAct (h .not-crit), ne-eqb _ exitAct (h .not-exit))
 
 plain-unmarked : (p m : ℕ) {act : ℕ} → Plain act → Unmarked (attempt act p m 0)
 plain-unmarked p m h = let t = plain-tests h in record { no-try = λ i. rw (t .0); no-entry = t .1; no-exit = t .2 }
+
+-- the try time of its process becomes its time or 0, or stays
+tried-past : {tried m : ℕ} (act : ℕ) → tried ≤ m → triedAfter tried act m ≤ m
+tried-past {m = m} act h = by-cond (λ (t : ℕ). t ≤ m) (eqb act tryAct) (λ _. omega arith)
+    (λ _. by-cond (λ (t : ℕ). t ≤ m) (eqb act critAct) (λ _. omega arith) (λ _. h))
 
 module _ (x : Statistics) (p m : ℕ) where
   pub accepted-stands : {act : ℕ} {l l′ : Location} → Kind m act l l′ → NotFull x → m ≤ lastTime
@@ -92,13 +96,12 @@ module _ (x : Statistics) (p m : ℕ) where
   accepted-stands Kind.exit room within c = omega arith
   accepted-stands (Kind.other k _) room within c = let t = plain-tests k in rw (t .1, t .2) (omega arith)
 
-  pub accepted-tries : {act : ℕ} {l l′ : Location} → Kind m act l l′
-      → TriesStand m (x .tries) → TriesStand m (acceptedCounted x act p m .tries)
+  pub accepted-tries : (act : ℕ) → TriesStand m (x .tries) → TriesStand m (acceptedCounted x act p m .tries)
   unfolding acceptedCounted
-  accepted-tries Kind.try t = tries-set p m (omega arith) t
-  accepted-tries Kind.crit t = tries-set p 0 (omega arith) t
-  accepted-tries Kind.exit t = t
-  accepted-tries (Kind.other k _) t = let u = plain-tests k in rw (u .0, u .1) t
+  accepted-tries act t = record {
+    size = length-set (x .tries) (p - 1) _ ∙ t .size;
+    past = past-set (x .tries) (p - 1) _ (tried-past act (t .past (p - 1))) (t .past);
+  }
 
   -- entries are exits and critical processes, `count` before the act and `count′` after it
   pub accepted-balance : {act : ℕ} {l l′ : Location} (count count′ : ℕ) → Kind m act l l′
@@ -112,7 +115,7 @@ module _ (x : Statistics) (p m : ℕ) where
 
 module _ (log : List Attempt) (x : Statistics) (p m : ℕ) where
   pub accepted-counted : {act : ℕ} {l l′ : Location} → Kind m act l l′
-      → (act ≢ 0 → trying l ≡ true → triedAt x p ≡ lastTry p log)
+      → (act ≢ waitAct → trying l ≡ true → triedAt x p ≡ lastTry p log)
       → Counted log x → Counted (attempt act p m 0 ∷ log) (acceptedCounted x act p m)
   unfolding acceptedCounted countOf longestWait
   accepted-counted Kind.try tried c = omega arith
@@ -122,7 +125,7 @@ module _ (log : List Attempt) (x : Statistics) (p m : ℕ) where
       let t = plain-tests k in
       rw (t .1, t .2) (omega (arith, skipped log (plain-unmarked p m k)))
 
-  -- the try moment of the process that acts, where it is trying after it
+  -- the try time of the process that acts, where it is trying after it
   pub own-tried : {act : ℕ} {l l′ : Location} → Kind m act l l′ → p - 1 < length (x .tries)
       → (trying l ≡ true → triedAt x p ≡ lastTry p log)
       → trying l′ ≡ true → triedAt (acceptedCounted x act p m) p ≡ lastTry p (attempt act p m 0 ∷ log)
@@ -130,15 +133,17 @@ module _ (log : List Attempt) (x : Statistics) (p m : ℕ) where
   own-tried Kind.try h tried e = getD-set-same (x .tries) (p - 1) m 0 h ∙ rw (eq-eqb p p refl)
   own-tried Kind.crit h tried e = absurd (false≢true e)
   own-tried Kind.exit h tried e = absurd (false≢true e)
-  own-tried (Kind.other k a) h tried e = let t = plain-tests k in rw (t .0, t .1) (tried (a .tries e))
+  own-tried (Kind.other k a) h tried e =
+      let t = plain-tests k in rw (t .0, t .1, set-getD (x .tries) (p - 1) 0) (tried (a .tries e))
 
   -- that of another
-  pub other-tried : {act : ℕ} {l l′ : Location} → Kind m act l l′ → (act ≢ 0 → 1 ≤ p) → (i : ℕ) → 1 ≤ i → i ≢ p
+  pub other-tried : {act : ℕ} {l l′ : Location} → Kind m act l l′ → (act ≢ waitAct → 1 ≤ p) → (i : ℕ) → 1 ≤ i → i ≢ p
       → triedAt x i ≡ lastTry i log → triedAt (acceptedCounted x act p m) i ≡ lastTry i (attempt act p m 0 ∷ log)
   unfolding acceptedCounted lastTry
   other-tried Kind.try named i some n tried =
       getD-set-other (x .tries) (p - 1) (i - 1) m 0 (omega (arith, named (omega arith))) ∙ tried ∙ rw (ne-eqb p i (omega arith))
   other-tried Kind.crit named i some n tried =
       getD-set-other (x .tries) (p - 1) (i - 1) 0 0 (omega (arith, named (omega arith))) ∙ tried
-  other-tried Kind.exit named i some n tried = tried
-  other-tried (Kind.other k _) named i some n tried = let t = plain-tests k in rw (t .0, t .1) tried
+  other-tried Kind.exit named i some n tried = rw (set-getD (x .tries) (p - 1) 0) tried
+  other-tried (Kind.other k _) named i some n tried =
+      let t = plain-tests k in rw (t .0, t .1, set-getD (x .tries) (p - 1) 0) tried

@@ -8,14 +8,17 @@ use mathlib.Core.List.{List, [], _∷_}
 use native.Mathlib.Omega.{arith}
 use lib.ListN.{length}
 use Rattle.model.specs.declared.Process.{Process}
+use Rattle.model.specs.declared.Parameters.{Parameters}
 use Rattle.model.specs.declared.State.{State}
 use Rattle.model.specs.declared.Outcome.{Outcome}
 use Rattle.model.specs.declared.Statistics.{Statistics}
 use Rattle.model.specs.declared.Recorded.{Recorded}
 use Rattle.model.specs.Texts.{Event}
+use Rattle.model.specs.Acts.{waitAct}
 use Rattle.model.specs.States.{trying, soundOf, entryOf}
 use Rattle.model.specs.Answers.{stepOf, freshOf}
-use Rattle.model.specs.Facts.{Accepted, IsTrying}
+use Rattle.model.specs.Facts.{Accepted, IsFresh, IsTrying}
+use Rattle.model.specs.Folds.{endBy}
 use Rattle.model.specs.Summaries.{newStatistics, triedAt, acceptedCounted, refusedCounted, noted}
 use Rattle.model.specs.Tallies.{Attempt, attempt, countOf, lastTry, longestWait, criticalCount}
 use Rattle.theory.specs.Acceptance.{Allowed, Changed}
@@ -25,7 +28,8 @@ use Rattle.model.proofs.Tests.{if-eq, clash}
 use Rattle.theory.proofs.Acceptance.{accepted-iff-allowed, next-is-changed, refused-stays}
 use Rattle.theory.proofs.Soundness.{sound-iff-plain, fresh-is-plain}
 use Rattle.theory.proofs.StaysSound.{sound-kept}
-use Rattle.tallies.proofs.CountLaws.{count-idle, past-new, skipped}
+use Rattle.theory.proofs.Entries.{same-at}
+use Rattle.tallies.proofs.CountLaws.{count-idle, skipped}
 use Rattle.tallies.proofs.ActKinds.{Kind, entry-at, turn-kind, next-count}
 use Rattle.theory.proofs.Steps.{Refuses, step-refuses}
 use Rattle.theory.proofs.RecordedSteps.{Judged, judged, noted-accepted, noted-refused}
@@ -36,7 +40,7 @@ use Rattle.tallies.proofs.Countings.{accepted-stands, accepted-tries, a
 
 -- The invariant
 
--- the try moment of each process that is trying is the time of its last try
+-- the try time of each process that is trying is the time of its last try
 abbrev Tried : List Attempt → State → Statistics → Type 0
 Tried log s x = (i : ℕ) → IsTrying s i → triedAt x i ≡ lastTry i log
 
@@ -80,13 +84,13 @@ module _ {log : List Attempt} {s : State} {x : Statistics} (along : Along log s 
   }
 
   module _ {s′ : State} (allowed : Allowed s act p m) (changed : Changed s act p m s′) where
-    -- the process has an entry, and a place for its try moment
+    -- the process has an entry, and a place for its try time
     has-place : p - 1 < 96
     has-place =
-        let most = sound-iff-plain s .0 (along .sound) .count .most in
+        let most = sound-iff-plain s .0 (along .sound) .parameters .count .most in
         ⊎-elim (λ w. omega arith) (λ a. omega arith) (allowed .turn)
 
-    named : act ≢ 0 → 1 ≤ p
+    named : act ≢ waitAct → 1 ≤ p
     named n = ⊎-elim (λ w. absurd (n (w .wait))) (λ a. a .some) (allowed .turn)
 
     kind : Kind m act (entryOf s p .location) (entryOf s′ p .location)
@@ -112,7 +116,7 @@ module _ {log : List Attempt} {s : State} {x : Statistics} (along : Along log s 
       sound = sound;
       size = changed .size-stays ∙ along .size;
       stands = accepted-stands x p m kind room (allowed .within) (along .stands);
-      tries = rw (changed .clock-is) (accepted-tries x p m kind (tries-later (allowed .forward) (along .tries)));
+      tries = rw (changed .clock-is) (accepted-tries x p m act (tries-later (allowed .forward) (along .tries)));
       counted = accepted-counted log x p m kind (λ n. own-before (named n)) (along .counted);
       tried = tried-after;
       balance = accepted-balance x p m _ _ kind (next-count changed (omega (arith, has-place, along .size))) (along .balance);
@@ -142,30 +146,33 @@ module _ {log : List Attempt} {s : State} {x : Statistics} (along : Along log s 
 
 along-all : (log : List Attempt) (r : Recorded) (es : List Event) → Along log (r .outcome .state) (r .statistics)
     → Along (logFrom log r es) (recordAll r es .outcome .state) (recordAll r es .statistics)
-unfolding logFrom recordAll
+unfolding logFrom endBy
 along-all log r [] h = h
 along-all log r (e ∷ es) h = along-all _ (recordNext r e) es
     (along-judged h (e .action) (e .process) (e .time)
     (judged (r .outcome .state) (r .statistics) (e .action) (e .process) (e .time)))
 
-along-start : (n a b c : ℕ) → Accepted (freshOf n a b c) → Along [] (freshOf n a b c .state) newStatistics
+along-fresh : (k : Parameters) → Accepted (freshOf k) → Along [] (freshOf k .state) newStatistics
 unfolding countOf longestWait
-along-start n a b c e =
-    let made = fresh-is-plain n a b c in
+along-fresh k e =
+    let made = fresh-is-plain k in
     let all = made .fresh e .all in
     record {
       sound = made .sound e;
       size = made .fresh e .size;
       stands = omega arith;
-      tries = record { size = refl; past = past-new 96 };
+      tries = record { size = refl; past = λ i. omega (arith, same-at {A = ℕ} 96 i 0) };
       counted = omega arith;
       tried = λ i t. absurd (false≢true (sym (ap trying (all i)) ∙ t .at));
       balance = omega (
         arith,
-        count-idle (freshOf n a b c .state .processes)
-            (λ k. ap (λ (q : Process). q .location) (sym (entry-at (freshOf n a b c .state) k)) ∙ all (k + 1)),
+        count-idle (freshOf k .state .processes)
+            (λ i. ap (λ (q : Process). q .location) (sym (entry-at (freshOf k .state) i)) ∙ all (i + 1)),
       );
     }
+
+along-start : {s : State} → IsFresh s → Along [] s newStatistics
+along-start f = rw (f .is) (along-fresh (f .parameters) (f .accepted))
 
 along-tallied : {log : List Attempt} {r : Recorded} → Along log (r .outcome .state) (r .statistics) → Tallied log r
 along-tallied h = record {
@@ -180,4 +187,4 @@ along-tallied h = record {
 }
 
 pub every-tally : EveryTally
-every-tally n a b c e es = along-tallied (along-all [] (startOf n a b c) es (along-start n a b c e))
+every-tally s f es = along-tallied (along-all [] (startOf s) es (along-start f))

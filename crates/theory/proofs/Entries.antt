@@ -1,18 +1,25 @@
 -- The entries of a state as a relation, so that what a definition says of a list of entries is proved by following the list;
 -- and the way between this relation and `entryOf`. Assumes nothing.
 use Prim.Native.Nat.{ℕ, zero, suc, _+_, _-_, _≤_}
-use mathlib.Core.Path.{_≡_, ap, subst, _∙_}
+use mathlib.Core.Path.{_≡_, refl, ap, subst, _∙_}
 use mathlib.Core.Logic.{_≢_}
 use mathlib.Core.List.{List, [], _∷_}
 use native.Mathlib.Omega.{arith}
 use native.Mathlib.Nat.{sub-self}
-use lib.ListN.{length, getD}
+use lib.ListN.{length, getD, replicate}
 use lib.Seq.{getD-set-same, getD-set-other}
 use Rattle.model.specs.declared.Process.{Process}
 use Rattle.model.specs.declared.State.{State}
 use Rattle.model.specs.declared.Transition.{Transition}
-use Rattle.model.specs.States.{idle, entryOf}
+use Rattle.model.specs.States.{entry, idle, entryOf}
 use Rattle.model.specs.Actions.{moved}
+
+-- A list that has one value everywhere, as those of a fresh table and of a new summary do, gives it past its end too
+
+pub same-at : {A : Type 0} (n i : ℕ) (a : A) → getD (replicate n a) i a ≡ a
+same-at zero i a = refl
+same-at (suc n) zero a = refl
+same-at (suc n) (suc i) a = same-at n i a
 
 -- A list of entries
 
@@ -60,7 +67,7 @@ among-entry s a = among-at a
 -- The entries after a move
 
 module _ (s : State) (p m : ℕ) (t : Transition) where
-  pub moved-own : 1 ≤ p → p ≤ length (s .processes) → entryOf (moved s p m t) p ≡ record { location = t .to }
+  pub moved-own : 1 ≤ p → p ≤ length (s .processes) → entryOf (moved s p m t) p ≡ entry (t .to)
   unfolding entryOf
   moved-own some most = getD-set-same (s .processes) (p - 1) _ idle (omega arith)
 

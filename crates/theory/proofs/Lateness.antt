@@ -1,140 +1,167 @@
--- The search for a missed deadline: it names the smallest, then the lowest process, and none exactly where all are kept.
--- Assumes nothing.
+-- The first deadline of a state: the smallest, then that of the lowest process, and none exactly where no process has one; and the
+-- answer 8, which names it where it is missed. Assumes nothing.
 use Prim.Native.Nat.{ℕ, _+_, _≤_, _<_}
 use mathlib.Core.Path.{_≡_, refl}
 use mathlib.Core.Logic.{_≢_, _↔_}
-use mathlib.Core.Bool.{cond}
+use mathlib.Core.Bool.{true, false, cond}
 use mathlib.Core.List.{List, [], _∷_}
 use native.Mathlib.Omega.{arith}
+use borrow.Author.Tests.{ltb-true, ne-eqb}
 use Rattle.model.specs.declared.Process.{Process}
 use Rattle.model.specs.declared.State.{State}
-use Rattle.model.specs.declared.Answer.{Answer}
 use Rattle.model.specs.declared.Outcome.{Outcome}
-use Rattle.model.specs.States.{deadline, late}
-use Rattle.model.specs.Answers.{answerOf, soonest, lateOf}
-use Rattle.theory.specs.Lateness.{FirstMissed, AllInTime, Admissible}
-use Rattle.theory.specs.Lateness.{LateNamesTheFirst, NoneFoundIffAllInTime, NotLateIffAllInTime, LateIsAdmissible}
-use Rattle.model.proofs.Tests.{by-cond}
+use Rattle.model.specs.States.{bounded, deadline}
+use Rattle.model.specs.Answers.{Due, due, noneDue, sooner, firstFrom, firstDeadline, missed}
+use Rattle.model.specs.Facts.{HasDeadline}
+use Rattle.theory.specs.Lateness.{IsFirst, FirstTold, FirstMissed, Admissible, FirstIsFirst}
+use Rattle.theory.specs.Lateness.{LateNamesTheFirst, NoneMissedIffAllInTime, NotLateIffAllInTime, LateIsAdmissible}
+use Rattle.model.proofs.Tests.{by-cond, if-eq, clash, and-true-iff, tests}
 use Rattle.theory.proofs.Entries.{Among, here, there, each-cons, each-entry, among-from, among-entry}
-use Rattle.theory.proofs.Locations.{Latest, deadline-unique, late-missed, not-late-iff}
+use Rattle.theory.proofs.Locations.{Latest, deadline-timed, deadline-unique, bounded-latest}
 use Rattle.theory.proofs.Steps.{Stepped, stepped}
 
 -- The search
 
--- every deadline of the entries qs, from process i on, is at the time m or after it
-abbrev Kept : State → ℕ → List Process → ℕ → Type 0
-Kept s i qs m = (j : ℕ) (q : Process) → Among i qs j q → (d : ℕ) → Latest s j q d → m ≤ d
+-- a deadline d comes before the one found so far, if one was found
+abbrev Before : Due → ℕ → Type 0
+Before first d = first .process ≢ 0 → d < first .time
 
--- `FirstMissed` of these entries
-record First (s : State) (i : ℕ) (qs : List Process) (m p d : ℕ) : Type 0 where
+-- one was found, and d does not come before it
+record After (first : Due) (d : ℕ) : Type 0 where
+  some : first .process ≢ 0
+  time : first .time ≤ d
+
+-- the deadline d of process p is found rather than the deadline e of process j
+record Precedes (p d j e : ℕ) : Type 0 where
+  smaller : d ≤ e
+  lower : d ≡ e → p ≤ j
+
+-- what holds of every deadline of the entries qs, from process i on
+abbrev Each : State → ℕ → List Process → (ℕ → ℕ → Type 0) → Type 0
+Each s i qs P = (j : ℕ) (q : Process) → Among i qs j q → (d : ℕ) → Latest s j q d → P j d
+
+-- `IsFirst` of these entries
+record First (s : State) (i : ℕ) (qs : List Process) (p d : ℕ) : Type 0 where
   entry : Process
   among : Among i qs p entry
   latest : Latest s p entry d
-  missed : d < m
-  smallest : Kept s i qs d
-  lowest : (j : ℕ) (q : Process) → Among i qs j q → Latest s j q d → p ≤ j
+  all : Each s i qs (Precedes p d)
 
--- what the search gives that begins with the answer `least`
-data Searched (s : State) (i : ℕ) (least : Answer) (qs : List Process) : Answer → Type 0 where
-  none : Kept s i qs (least .time) → Searched s i least qs least
-  found : {p d : ℕ} → First s i qs (least .time) p d → Searched s i least qs (answerOf 8 p d)
+-- what the search among them gives that begins with `first`
+data Searched (s : State) (i : ℕ) (first : Due) (qs : List Process) : Due → Type 0 where
+  none : Each s i qs (λ j d. After first d) → Searched s i first qs first
+  found : {p d : ℕ} → First s i qs p d → Before first d → Searched s i first qs (due p d)
 
 -- what the search makes of one entry
-data Picked (s : State) (i : ℕ) (q : Process) (least : Answer) : Answer → Type 0 where
-  kept : ((d : ℕ) → Latest s i q d → least .time ≤ d) → Picked s i q least least
-  taken : {d : ℕ} → Latest s i q d → d < least .time → Picked s i q least (answerOf 8 i d)
+data Picked (s : State) (i : ℕ) (q : Process) (first : Due) : Due → Type 0 where
+  kept : ((d : ℕ) → Latest s i q d → After first d) → Picked s i q first first
+  taken : {d : ℕ} → Latest s i q d → Before first d → Picked s i q first (due i d)
 
-picked : (s : State) (i : ℕ) (q : Process) (least : Answer)
-    → Picked s i q least (cond (late s (least .time) i q) (answerOf 8 i (deadline s i q)) least)
-picked s i q least = by-cond (Picked s i q least) (late s (least .time) i q)
-    (λ e. taken (late-missed s (least .time) i q e .0) (late-missed s (least .time) i q e .1))
-    (λ e. kept (not-late-iff s (least .time) i q .0 e))
+picked : (s : State) (i : ℕ) (q : Process) (first : Due)
+    → Picked s i q first (cond (sooner s i q first) (due i (deadline s i q)) first)
+picked s i q first = by-cond (Picked s i q first) (sooner s i q first)
+    (λ e. let h = and-true-iff (bounded s q) _ .0 e in
+    taken (bounded-latest s i q (h .0)) (λ n. ltb-true _ _ (simp (ne-eqb _ 0 n) at (h .1))))
+    (λ e. kept (λ d h. omega (arith, deadline-timed h .1, (simp tests at e) (deadline-timed h .0))))
 
--- the first of the rest is the first of all where the entry before the rest keeps the time of its search
-first-of-rest : {s : State} {i m k p d : ℕ} {q : Process} {qs : List Process} → k ≤ m → ((e : ℕ) → Latest s i q e → k ≤ e)
-    → First s (i + 1) qs k p d → First s i (q ∷ qs) m p d
-first-of-rest {d = d} l h f = record {
+-- the first of the rest is the first of all where it comes before the entry before the rest
+first-of-rest : {s : State} {i p d : ℕ} {q : Process} {qs : List Process} → ((e : ℕ) → Latest s i q e → d < e)
+    → First s (i + 1) qs p d → First s i (q ∷ qs) p d
+first-of-rest h f = record {
   entry = f .entry;
   among = there (f .among);
   latest = f .latest;
-  missed = omega (arith, f .missed);
-  smallest = each-cons _ (λ e g. omega (arith, f .missed, h e g)) (f .smallest);
-  lowest = each-cons _ (λ g. absurd (omega (arith, f .missed, h d g))) (f .lowest);
+  all = each-cons _ (λ e g. omega (arith, h e g)) (f .all);
 }
 
-searched-cons : {s : State} {i : ℕ} {q : Process} {qs : List Process} {least next r : Answer}
-    → Picked s i q least next → Searched s (i + 1) next qs r → Searched s i least (q ∷ qs) r
-searched-cons (kept h) (none k) = none (each-cons _ h k)
-searched-cons (kept h) (found f) = found (first-of-rest (omega arith) h f)
-searched-cons (taken h l) (none k) = found (record {
+searched-cons : {s : State} {i : ℕ} {q : Process} {qs : List Process} {first next r : Due} → 1 ≤ i
+    → Picked s i q first next → Searched s (i + 1) next qs r → Searched s i first (q ∷ qs) r
+searched-cons some (kept h) (none k) = none (each-cons _ h k)
+searched-cons some (kept h) (found f b) = found (first-of-rest (λ e g. omega (arith, b (h e g .some), h e g .time)) f) b
+searched-cons some (taken h b) (none k) = found (record {
   entry = _;
   among = here;
   latest = h;
-  missed = l;
-  smallest = each-cons _ (λ e g. omega (arith, deadline-unique h g)) k;
-  lowest = λ j r a g. among-from a;
-})
-searched-cons (taken h l) (found f) = found (first-of-rest (omega arith) (λ e g. omega (arith, deadline-unique h g)) f)
+  all = each-cons _ (λ e g. omega (arith, deadline-unique h g)) (λ j r a e g. omega (arith, among-from a, k j r a e g .time));
+}) b
+searched-cons some (taken h b) (found f c) =
+    let smaller = c (omega arith) in
+    found (first-of-rest (λ e g. omega (arith, deadline-unique h g)) f) (λ n. omega (arith, b n))
 
-searched : (s : State) (i : ℕ) (least : Answer) (qs : List Process) → Searched s i least qs (soonest s i least qs)
-unfolding soonest
-searched s i least [] = none (λ j q a. elim a [ ])
-searched s i least (q ∷ qs) = searched-cons (picked s i q least) (searched s (i + 1) _ qs)
+searched : (s : State) (i : ℕ) (first : Due) (qs : List Process) → 1 ≤ i → Searched s i first qs (firstFrom s i first qs)
+unfolding firstFrom
+searched s i first [] some = none (λ j q a. elim a [ ])
+searched s i first (q ∷ qs) some = searched-cons some (picked s i q first) (searched s (i + 1) _ qs (omega arith))
 
 -- The search of a state
 
 module _ (s : State) where
-  late-searched : (m : ℕ) → Searched s 1 (answerOf 0 0 m) (s .processes) (lateOf s m)
-  unfolding lateOf
-  late-searched m = searched s 1 (answerOf 0 0 m) (s .processes)
+  first-searched : Searched s 1 noneDue (s .processes) (firstDeadline s)
+  unfolding firstDeadline
+  first-searched = searched s 1 noneDue (s .processes) (omega arith)
 
-  kept-in-time : {m : ℕ} → Kept s 1 (s .processes) m → AllInTime s m
-  kept-in-time {m} k i d h = each-entry (λ j q. (e : ℕ) → Latest s j q e → m ≤ e) (λ j e g. elim g [ ]) s k i (h .from) d (h .is)
+  -- what holds of every deadline of the entries holds of every deadline of a process
+  of-deadline : (P : ℕ → ℕ → Type 0) → Each s 1 (s .processes) P → (i d : ℕ) → HasDeadline s i d → P i d
+  of-deadline P k i d h = each-entry (λ j q. (e : ℕ) → Latest s j q e → P j e) (λ j e g. elim g [ ]) s k i (h .from) d (h .is)
 
-  first-missed : {m p d : ℕ} → First s 1 (s .processes) m p d → FirstMissed s m p d
-  first-missed {m} {p} {d} f = record {
-    has = record { from = among-from (f .among); is = rw (among-entry s (f .among)) (f .latest) };
-    missed = f .missed;
-    smallest = kept-in-time (f .smallest);
-    lowest = λ i h. each-entry (λ j q. Latest s j q d → p ≤ j) (λ j g. elim g [ ]) s (f .lowest) i (h .from) (h .is);
+  is-first : {p d : ℕ} → First s 1 (s .processes) p d → IsFirst s p d
+  is-first {p} {d} f =
+      let all = of-deadline (Precedes p d) (f .all) in
+      record {
+        has = record { from = among-from (f .among); is = rw (among-entry s (f .among)) (f .latest) };
+        smallest = λ i e h. all i e h .smaller;
+        lowest = λ i h. all i d h .lower refl;
+      }
+
+  first-told : {first : Due} → Searched s 1 noneDue (s .processes) first → FirstTold s first
+  first-told (none k) = record {
+    none = (λ e i d h. of-deadline (λ j d. After noneDue d) k i d h .some refl, λ h. refl);
+    some = λ n. absurd (n refl);
+  }
+  first-told (found f _) = record {
+    none = (λ e. absurd (omega (arith, among-from (f .among))), λ h. absurd (h _ _ (is-first f .has)));
+    some = λ n. is-first f;
   }
 
-  found-first : {m : ℕ} {r : Answer} → Searched s 1 (answerOf 0 0 m) (s .processes) r → r .code ≡ 8
-      → FirstMissed s m (r .process) (r .time)
-  found-first (none k) e = absurd (omega arith)
-  found-first (found f) e = first-missed f
+pub first-is-first : FirstIsFirst
+first-is-first s = first-told s (first-searched s)
 
-  none-found : {m : ℕ} {r : Answer} → Searched s 1 (answerOf 0 0 m) (s .processes) r → r .code ≢ 8 → AllInTime s m
-  none-found (none k) n = kept-in-time k
-  none-found (found f) n = absurd (n refl)
-
-pub none-found-iff-all-in-time : NoneFoundIffAllInTime
-none-found-iff-all-in-time s m = (
-  none-found s (late-searched s m),
-  λ h e. let f = found-first s (late-searched s m) e in omega (arith, f .missed, h _ _ (f .has)),
-)
+pub none-missed-iff-all-in-time : NoneMissedIffAllInTime
+none-missed-iff-all-in-time s m =
+    let told = first-is-first s in (
+      λ e i d h. if-eq (firstDeadline s .process) 0
+          (λ z. absurd (told .none .0 z i d h))
+          (λ n. omega (arith, (simp tests at e) n, told .some n .smallest i d h)),
+      λ h. simp tests (λ n. omega (arith, h _ _ (told .some n .has))),
+    )
 
 -- The answer of a step
+
+missed-first : {s : State} {m : ℕ} → missed (firstDeadline s) m ≡ true
+    → FirstMissed s m (firstDeadline s .process) (firstDeadline s .time)
+missed-first {s} {m} e =
+    let h = simp tests at e in
+    record { first = first-is-first s .some (h .0); missed = h .1 }
 
 late-first : {s : State} {act p m : ℕ} {o : Outcome} → Stepped s act p m o → o .answer .code ≡ 8
     → FirstMissed s m (o .answer .process) (o .answer .time)
 late-first (Stepped.refused r) e = absurd (r .numbered .not-late e)
-late-first {s} {m = m} (Stepped.late a l) e = found-first s (late-searched s m) l
+late-first (Stepped.late a l) e = missed-first l
 late-first (Stepped.accepted g) e = absurd (omega arith)
 
 pub late-names-the-first : LateNamesTheFirst
 late-names-the-first s act p m = late-first (stepped s act p m)
 
-searches-none : {s : State} {act p m : ℕ} {o : Outcome} → Stepped s act p m o → Admissible s act p m
-    → (o .answer .code ≢ 8) ↔ (lateOf s m .code ≢ 8)
-searches-none (Stepped.refused r) d = (λ _. r .none-late d, λ _. r .numbered .not-late)
-searches-none (Stepped.late a l) d = (λ h. h, λ h. h)
-searches-none (Stepped.accepted g) d = (λ _. g .in-time, λ _. omega arith)
+not-late-none-missed : {s : State} {act p m : ℕ} {o : Outcome} → Stepped s act p m o → Admissible s act p m
+    → (o .answer .code ≢ 8) ↔ (missed (firstDeadline s) m ≡ false)
+not-late-none-missed (Stepped.refused r) d = (λ _. r .none-missed d, λ _. r .numbered .not-late)
+not-late-none-missed (Stepped.late a l) d = (λ n. absurd (n refl), λ e. clash l e)
+not-late-none-missed (Stepped.accepted g) d = (λ _. g .in-time, λ _. omega arith)
 
 pub not-late-iff-all-in-time : NotLateIffAllInTime
 not-late-iff-all-in-time s act p m d =
-    let h = searches-none (stepped s act p m) d in
-    let k = none-found-iff-all-in-time s m in
+    let h = not-late-none-missed (stepped s act p m) d in
+    let k = none-missed-iff-all-in-time s m in
     (λ n. k .0 (h .0 n), λ a. h .1 (k .1 a))
 
 late-admissible : {s : State} {act p m : ℕ} {o : Outcome} → Stepped s act p m o → o .answer .code ≡ 8 → Admissible s act p m

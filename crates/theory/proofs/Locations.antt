@@ -1,6 +1,6 @@
 -- What a location tells, its arrival and its deadline: the relations of `Facts` against the functions of `States`.
 -- These laws look at the eight locations, so that other proofs need not. Assumes nothing.
-use Prim.Native.Nat.{ℕ, _+_, _≤_, _<_}
+use Prim.Native.Nat.{ℕ, _+_, _≤_}
 use mathlib.Core.Path.{_≡_, refl, sym, _∙_}
 use mathlib.Core.Logic.{_↔_, _≢_}
 use mathlib.Core.Bool.{true, false, cond, false≢true}
@@ -11,7 +11,7 @@ use Rattle.model.specs.declared.Location.the-variants.{Remainder, Testing, Sett
 use Rattle.model.specs.declared.Process.{Process}
 use Rattle.model.specs.declared.State.{State}
 use Rattle.model.specs.Stages.{remainder, checking, critical}
-use Rattle.model.specs.States.{stageOf, timed, sinceOf, limitOf, deadline, late}
+use Rattle.model.specs.States.{stageOf, timed, sinceOf, limitOf, bounded, deadline, late}
 use Rattle.model.specs.Facts.{Arrival, Deadline}
 use Rattle.model.proofs.Tests.{tests}
 
@@ -41,14 +41,14 @@ past-iff k l = (λ h t a. omega (arith, arrival-since a), since-past k l)
 
 -- Deadlines
 
--- process i, with the entry q, has the latest moment d
+-- process i, with the entry q, has the deadline d
 abbrev pub Latest : State → ℕ → Process → ℕ → Type 0
 Latest s i q d = Deadline (limitOf s i) (s .parameters .c) (q .location) d
 
 abbrev deadlineAt : ℕ → ℕ → Location → ℕ
 deadlineAt a c l = sinceOf l + cond (eqb (stageOf l) checking) c a
 
-deadline-timed : {a c d : ℕ} {l : Location} → Deadline a c l d → (timed l ≡ true) × (deadlineAt a c l ≡ d)
+pub deadline-timed : {a c d : ℕ} {l : Location} → Deadline a c l d → (timed l ≡ true) × (deadlineAt a c l ≡ d)
 deadline-timed Deadline.testing = (refl, refl)
 deadline-timed Deadline.setting = (refl, refl)
 deadline-timed Deadline.checking = (refl, refl)
@@ -70,18 +70,18 @@ pub deadline-unique : {a c d e : ℕ} {l : Location} → Deadline a c l d → De
 deadline-unique h k = sym (deadline-timed h .1) ∙ deadline-timed k .1
 
 -- what a deadline d in l tells, by the stage: l is timed, and d is not before the arrival
-pub record Due (l : Location) (d : ℕ) : Type 0 where
+pub record Bounded (l : Location) (d : ℕ) : Type 0 where
   pub not-remainder : stageOf l ≢ remainder
   pub not-critical : stageOf l ≢ critical
   pub after : sinceOf l ≤ d
 
-pub deadline-due : {a c d : ℕ} {l : Location} → Deadline a c l d → Due l d
-deadline-due Deadline.testing = omega arith
-deadline-due Deadline.setting = omega arith
-deadline-due Deadline.checking = omega arith
-deadline-due Deadline.entering = omega arith
-deadline-due Deadline.resetting = omega arith
-deadline-due Deadline.leaving = omega arith
+pub deadline-bounded : {a c d : ℕ} {l : Location} → Deadline a c l d → Bounded l d
+deadline-bounded Deadline.testing = omega arith
+deadline-bounded Deadline.setting = omega arith
+deadline-bounded Deadline.checking = omega arith
+deadline-bounded Deadline.entering = omega arith
+deadline-bounded Deadline.resetting = omega arith
+deadline-bounded Deadline.leaving = omega arith
 
 -- no deadline in l is before the time m, by the stage
 pub record InTime (a c m : ℕ) (l : Location) : Type 0 where
@@ -98,16 +98,13 @@ in-time Critical h = omega arith
 in-time (Resetting t) h = omega (arith, h _ Deadline.resetting)
 in-time (Leaving t) h = omega (arith, h _ Deadline.leaving)
 
--- a late process has missed its deadline
-pub late-missed : (s : State) (m i : ℕ) (q : Process) → late s m i q ≡ true
-    → Latest s i q (deadline s i q) × (deadline s i q < m)
-late-missed s m i q e =
-    let h = simp tests at e in
-    (timed-deadline (limitOf s i) (s .parameters .c) (q .location) (h .0), h .1)
+-- an entry that is bounded has the deadline that `deadline` gives
+pub bounded-latest : (s : State) (i : ℕ) (q : Process) → bounded s q ≡ true → Latest s i q (deadline s i q)
+bounded-latest s i q = timed-deadline (limitOf s i) (s .parameters .c) (q .location)
 
--- one that is not late keeps its deadline, if it has one
+-- a process that is not late keeps its deadline, if it has one
 pub not-late-iff : (s : State) (m i : ℕ) (q : Process) → (late s m i q ≡ false) ↔ ((d : ℕ) → Latest s i q d → m ≤ d)
 not-late-iff s m i q = (
   λ e d h. omega (arith, deadline-timed h .1, (simp tests at e) (deadline-timed h .0)),
-  λ h. simp tests (λ t. omega (arith, h _ (timed-deadline (limitOf s i) (s .parameters .c) (q .location) t))),
+  λ h. simp tests (λ t. omega (arith, h _ (bounded-latest s i q t))),
 )

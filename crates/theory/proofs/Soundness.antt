@@ -1,4 +1,4 @@
--- `soundOf` tells the sound states, and `freshOf` gives a fresh table exactly for the numbers that stand.
+-- `soundOf` tells the sound states, and `freshOf` gives a fresh table exactly for the parameters that stand.
 -- Assumes nothing.
 use Prim.Native.Nat.{ℕ, zero, suc, _+_, _-_, _≤_, _<_}
 use mathlib.Core.Path.{_≡_, refl, ap, subst}
@@ -7,18 +7,19 @@ use mathlib.Core.Bool.{true, false, not}
 use mathlib.Core.List.{List, [], _∷_}
 use native.Mathlib.Omega.{arith}
 use lib.Dec.{leb}
-use lib.ListN.{getD, replicate}
 use borrow.Author.Tests.{leb-true, leb-false, lt-leb}
 use Rattle.model.specs.declared.Location.the-variants.{Remainder}
 use Rattle.model.specs.declared.Process.{Process}
+use Rattle.model.specs.declared.Parameters.{Parameters}
 use Rattle.model.specs.declared.State.{State}
 use Rattle.model.specs.declared.Outcome.{Outcome}
-use Rattle.model.specs.States.{countStands, limitsStand, lastTime, idle, initial, stageOf, entrySound, entriesSound, soundOf, entryOf}
+use Rattle.model.specs.States.{noParameters, countStands, limitsStand, lastTime, idle, initial, stageOf}
+use Rattle.model.specs.States.{entrySound, entriesSound, soundOf, entryOf}
 use Rattle.model.specs.Answers.{answers, blank, freshOf}
 use Rattle.model.specs.Facts.{Accepted, Arrival}
-use Rattle.theory.specs.Soundness.{CountStands, LimitsStand, Sound, SoundIffPlain, Fresh, FreshIsPlain}
+use Rattle.theory.specs.Soundness.{ParametersStand, Sound, SoundIffPlain, Fresh, FreshIsPlain}
 use Rattle.model.proofs.Tests.{by-test, by-cond, clash, and-true-iff, tests}
-use Rattle.theory.proofs.Entries.{Among, here, there, each-entry, among-entry, among-from}
+use Rattle.theory.proofs.Entries.{same-at, Among, here, there, each-entry, among-entry, among-from}
 use Rattle.model.proofs.Locations.{stage-location}
 use Rattle.theory.proofs.Locations.{Latest, past-iff, not-late-iff}
 
@@ -70,8 +71,7 @@ entries-plain s e =
 
 -- the part of `Sound` that speaks of no process
 pub record NumbersPlain (s : State) : Type 0 where
-  pub count : CountStands (s .parameters .n)
-  pub limits : LimitsStand (s .parameters .a) (s .parameters .b) (s .parameters .c)
+  pub parameters : ParametersStand (s .parameters)
   pub clock : s .clock ≤ lastTime
   pub word : s .word ≤ s .parameters .n
 
@@ -79,8 +79,7 @@ pub record NumbersPlain (s : State) : Type 0 where
 pub sound-from : (s : State) → NumbersPlain s → ((i : ℕ) → 1 ≤ i → EntryPlain s i (entryOf s i)) → Sound s
 unfolding entryOf
 sound-from s h entry = record {
-  count = h .count;
-  limits = h .limits;
+  parameters = h .parameters;
   clock = h .clock;
   word = h .word;
   above = λ i k. entry i (omega arith) .above k;
@@ -108,36 +107,27 @@ sound-iff-plain s = (sound-plain s, plain-sound s)
 
 -- A fresh table
 
-idle-at : (k i : ℕ) → getD (replicate k idle) i idle ≡ idle
-idle-at zero i = refl
-idle-at (suc k) zero = refl
-idle-at (suc k) (suc i) = idle-at k i
-
-initial-fresh : (n a b c : ℕ) → Fresh n a b c (initial n a b c)
+initial-fresh : (k : Parameters) → Fresh k (initial k)
 unfolding entryOf
-initial-fresh n a b c = record {
-  n-is = refl;
-  a-is = refl;
-  b-is = refl;
-  c-is = refl;
+initial-fresh k = record {
+  parameters-are = refl;
   clock-is = refl;
   word-is = refl;
   size = refl;
-  all = λ i. ap (λ (q : Process). q .location) (idle-at 96 (i - 1));
+  all = λ i. ap (λ (q : Process). q .location) (same-at 96 (i - 1) idle);
 }
 
-initial-entry : (n a b c i : ℕ) → EntryPlain (initial n a b c) i (entryOf (initial n a b c) i)
-initial-entry n a b c i = remainder-plain (initial n a b c) i (entryOf (initial n a b c) i) (initial-fresh n a b c .all i)
+initial-entry : (k : Parameters) (i : ℕ) → EntryPlain (initial k) i (entryOf (initial k) i)
+initial-entry k i = remainder-plain (initial k) i (entryOf (initial k) i) (initial-fresh k .all i)
 
-initial-sound : {n a b c : ℕ} → CountStands n → LimitsStand a b c → soundOf (initial n a b c) ≡ true
-initial-sound {n} {a} {b} {c} count limits = plain-sound (initial n a b c) (record {
-  count = count;
-  limits = limits;
+initial-sound : (k : Parameters) → ParametersStand k → soundOf (initial k) ≡ true
+initial-sound k stands = plain-sound (initial k) (record {
+  parameters = stands;
   clock = omega arith;
   word = omega arith;
-  above = λ i. initial-entry n a b c i .above;
-  past = λ i. initial-entry n a b c i .past;
-  in-time = λ i d h. initial-entry n a b c i .in-time d (h .is);
+  above = λ i. initial-entry k i .above;
+  past = λ i. initial-entry k i .past;
+  in-time = λ i d h. initial-entry k i .in-time d (h .is);
 })
 
 blank-unsound : soundOf blank ≡ false
@@ -145,43 +135,43 @@ unfolding soundOf
 blank-unsound = refl
 
 -- what `freshOf` gives, and why
-data Made (n a b c : ℕ) : Outcome → Type 0 where
-  given : CountStands n → LimitsStand a b c → Made n a b c (answers 0 0 0 (initial n a b c))
-  refused : {code : ℕ} → code ≢ 0 → (CountStands n → LimitsStand a b c → ⊥) → Made n a b c (answers code 0 0 blank)
+data Made (k : Parameters) : Outcome → Type 0 where
+  given : ParametersStand k → Made k (answers 0 0 0 (initial k))
+  refused : {code : ℕ} → code ≢ 0 → (ParametersStand k → ⊥) → Made k (answers code 0 0 blank)
 
-made : (n a b c : ℕ) → Made n a b c (freshOf n a b c)
+made : (k : Parameters) → Made k (freshOf k)
 unfolding freshOf
-made n a b c =
-    by-cond (Made n a b c) (not (countStands n))
-    (λ e. refused (omega arith) (λ h _. omega (arith, (simp tests at e) (h .some))))
-    (λ f. by-cond (Made n a b c) (not (limitsStand a b c))
-    (λ e. refused (omega arith) (λ _ h. omega (arith, (simp tests at e) (omega arith))))
-    (λ g. given (omega (arith, simp tests at f)) (omega (arith, simp tests at g))))
+made k =
+    by-cond (Made k) (not (countStands k))
+    (λ e. refused (omega arith) (λ h. omega (arith, (simp tests at e) (h .count .some))))
+    (λ f. by-cond (Made k) (not (limitsStand k))
+    (λ e. refused (omega arith) (λ h. omega (arith, (simp tests at e) (omega arith))))
+    (λ g. given (omega (arith, simp tests at f, simp tests at g))))
 
-module _ {n a b c : ℕ} where
-  given-stands : {o : Outcome} → Made n a b c o → Accepted o → CountStands n × LimitsStand a b c
-  given-stands (given h k) e = (h, k)
-  given-stands (refused h _) e = absurd (h e)
+module _ {k : Parameters} where
+  given-stands : {o : Outcome} → Made k o → Accepted o → ParametersStand k
+  given-stands (given h) e = h
+  given-stands (refused n _) e = absurd (n e)
 
-  stands-given : {o : Outcome} → Made n a b c o → CountStands n × LimitsStand a b c → Accepted o
-  stands-given (given _ _) h = refl
-  stands-given (refused _ k) h = absurd (k (h .0) (h .1))
+  stands-given : {o : Outcome} → Made k o → ParametersStand k → Accepted o
+  stands-given (given _) h = refl
+  stands-given (refused _ n) h = absurd (n h)
 
-  given-state : {o : Outcome} → Made n a b c o → Accepted o → o .state ≡ initial n a b c
-  given-state (given _ _) e = refl
-  given-state (refused h _) e = absurd (h e)
+  given-state : {o : Outcome} → Made k o → Accepted o → o .state ≡ initial k
+  given-state (given _) e = refl
+  given-state (refused n _) e = absurd (n e)
 
-  refused-state : {o : Outcome} → Made n a b c o → o .answer .code ≢ 0 → o .state ≡ blank
-  refused-state (given _ _) h = absurd (h refl)
-  refused-state (refused _ _) h = refl
+  refused-state : {o : Outcome} → Made k o → o .answer .code ≢ 0 → o .state ≡ blank
+  refused-state (given _) n = absurd (n refl)
+  refused-state (refused _ _) n = refl
 
 pub fresh-is-plain : FreshIsPlain
-fresh-is-plain n a b c =
-    let m = made n a b c in
+fresh-is-plain k =
+    let m = made k in
     record {
       accepted = (given-stands m, stands-given m);
-      fresh = λ e. rw (given-state m e) (initial-fresh n a b c);
-      sound = λ e. rw (given-state m e) (initial-sound (given-stands m e .0) (given-stands m e .1));
-      refused = λ h. rw (refused-state m h) (initial-fresh 0 0 0 0);
-      unsound = λ h. rw (refused-state m h) blank-unsound;
+      fresh = λ e. rw (given-state m e) (initial-fresh k);
+      sound = λ e. rw (given-state m e) (initial-sound k (given-stands m e));
+      refused = λ n. rw (refused-state m n) (initial-fresh noParameters);
+      unsound = λ n. rw (refused-state m n) blank-unsound;
     }

@@ -1,21 +1,22 @@
 -- An accepted act leaves a sound state sound. Assumes nothing.
 use Prim.Native.Nat.{ℕ, _≤_}
-use mathlib.Core.Path.{_≡_, subst}
+use mathlib.Core.Path.{_≡_, sym, ap, subst}
 use mathlib.Core.Logic.{⊎-elim, _≢_}
 use mathlib.Core.Bool.{true}
 use native.Mathlib.Omega.{arith}
 use lib.ListN.{length}
 use Rattle.model.specs.declared.Location.{Location}
 use Rattle.model.specs.declared.Process.{Process}
+use Rattle.model.specs.declared.Parameters.{Parameters}
 use Rattle.model.specs.declared.State.{State}
 use Rattle.model.specs.Stages.{remainder, critical}
-use Rattle.model.specs.States.{stageOf, sinceOf, limitOf, entryOf, soundOf}
+use Rattle.model.specs.States.{stageOf, sinceOf, limitIn, entryOf, soundOf}
 use Rattle.model.specs.Answers.{stepOf}
 use Rattle.model.specs.Facts.{Accepted, Deadline}
-use Rattle.theory.specs.Soundness.{Sound}
+use Rattle.theory.specs.Soundness.{ParametersStand, Sound}
 use Rattle.theory.specs.Acceptance.{Effect, Acts, Allowed, Changed}
 use Rattle.model.proofs.Tests.{if-eq}
-use Rattle.theory.proofs.Locations.{Latest, past-iff, deadline-due}
+use Rattle.theory.proofs.Locations.{Latest, past-iff, deadline-bounded}
 use Rattle.theory.proofs.Rows.{from-ready}
 use Rattle.theory.proofs.Soundness.{EntryPlain, NumbersPlain, sound-from, sound-iff-plain}
 use Rattle.theory.proofs.Acceptance.{accepted-iff-allowed, next-is-changed}
@@ -43,38 +44,35 @@ effect-lands Effect.rem h k = omega arith
 -- The state after an accepted act
 
 module _ {s s′ : State} {act p m : ℕ} (sound : Sound s) (allowed : Allowed s act p m) (changed : Changed s act p m s′) where
-  limit-stays : (i : ℕ) → limitOf s′ i ≡ limitOf s i
-  unfolding limitOf
-  limit-stays i = changed .a-stays
+  count-stays : s′ .parameters .n ≡ s .parameters .n
+  count-stays = ap (λ (k : Parameters). k .n) (changed .parameters-stay)
 
   latest-stays : (i : ℕ) (q : Process) (d : ℕ) → Latest s′ i q d → Latest s i q d
-  latest-stays i q d h = subst (λ (c : ℕ). Deadline (limitOf s i) c (q .location) d) (changed .c-stays)
-      (subst (λ (a : ℕ). Deadline a (s′ .parameters .c) (q .location) d) (limit-stays i) h)
+  latest-stays i q d = subst (λ (k : Parameters). Deadline (limitIn k i) (k .c) (q .location) d) (changed .parameters-stay)
 
   lands : Acts s act p m → Lands (s .parameters .n) m (entryOf s′ p .location) (s′ .word)
-  lands a = effect-lands (changed .effect (from-ready (a .from) .some)) (a .most) (sound .word)
+  lands a = effect-lands (changed .effect (from-ready (a .from) .not-wait)) (a .most) (sound .word)
 
   numbers-stay : NumbersPlain s′
   numbers-stay = record {
-    count = omega arith;
-    limits = omega arith;
+    parameters = subst ParametersStand (sym (changed .parameters-stay)) (sound .parameters);
     clock = omega arith;
     word = ⊎-elim
-        (λ w. omega (arith, changed .wait-keeps (w .wait)))
-        (λ a. omega (arith, lands a .named))
+        (λ w. omega (arith, count-stays, changed .wait-keeps (w .wait)))
+        (λ a. omega (arith, count-stays, lands a .named))
         (allowed .turn);
   }
 
   own-stays : Acts s act p m → EntryPlain s′ p (entryOf s′ p)
   own-stays a = record {
-    above = λ h. absurd (omega arith);
+    above = λ h. absurd (omega (arith, count-stays));
     past = λ t h. omega (arith, past-iff m (entryOf s′ p .location) .0 (lands a .past) t h);
-    in-time = λ d h. let due = deadline-due h in omega (arith, lands a .now (due .not-remainder) (due .not-critical));
+    in-time = λ d h. let k = deadline-bounded h in omega (arith, lands a .now (k .not-remainder) (k .not-critical));
   }
 
   other-stays : (i : ℕ) → 1 ≤ i → i ≢ p → EntryPlain s′ i (entryOf s′ i)
   other-stays i some n = rw (changed .others-stay i some n) (record {
-    above = λ h. sound .above i (omega arith);
+    above = λ h. sound .above i (omega (arith, count-stays));
     past = λ t h. omega (arith, sound .past i t h);
     in-time = λ d h. omega (arith, allowed .in-time i d (record { from = some; is = latest-stays i (entryOf s i) d h }));
   })

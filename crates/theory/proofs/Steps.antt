@@ -5,13 +5,12 @@ use mathlib.Core.Path.{_≡_, refl}
 use mathlib.Core.Logic.{_≢_}
 use mathlib.Core.Bool.{true, false, not}
 use native.Mathlib.Omega.{arith}
-use lib.Dec.{eqb}
-use borrow.Author.Tests.{eqb-true, eqb-false, not-true, not-false}
+use borrow.Author.Tests.{not-true, not-false}
 use Rattle.model.specs.declared.State.{State}
 use Rattle.model.specs.declared.Outcome.{Outcome}
 use Rattle.model.specs.States.{soundOf}
 use Rattle.model.specs.Actions.{effect}
-use Rattle.model.specs.Answers.{answers, backward, beyond, unknown, misnamed, lateOf, misplaced, early, accepts, stepOf}
+use Rattle.model.specs.Answers.{answers, backward, beyond, unknown, misnamed, firstDeadline, missed, misplaced, early, accepts, stepOf}
 use Rattle.model.specs.Facts.{Accepted}
 use Rattle.theory.specs.Lateness.{Admissible}
 use Rattle.theory.specs.Soundness.{UnsoundIffOne}
@@ -22,8 +21,8 @@ use Rattle.model.proofs.Tests.{by-test, by-cond, clash}
 -- none of the answers 1 to 10 applies
 pub record Guards (s : State) (act p m : ℕ) : Type 0 where
   pub admissible : Admissible s act p m
-  pub in-time : lateOf s m .code ≢ 8
-  pub placed : misplaced s act p m ≡ false
+  pub in-time : missed (firstDeadline s) m ≡ false
+  pub placed : misplaced s act p ≡ false
   pub released : early s act p m ≡ false
 
 -- the numbers that a summary counts as refused
@@ -43,13 +42,14 @@ module _ (s : State) (act p m : ℕ) where
     pub not-accepted : o .answer .code ≢ 0
     pub numbered : Numbered (o .answer .code)
     pub stays : o .state ≡ s
-    -- 9 and 10 come after 8, so the search for a late process found none
-    pub none-late : Admissible s act p m → lateOf s m .code ≢ 8
+    -- 9 and 10 come after 8, so no deadline is missed
+    pub none-missed : Admissible s act p m → missed (firstDeadline s) m ≡ false
     pub barred : Guards s act p m → ⊥
 
   pub data Stepped : Outcome → Type 0 where
     refused : {o : Outcome} → Refused o → Stepped o
-    late : Admissible s act p m → lateOf s m .code ≡ 8 → Stepped (record { answer = lateOf s m; state = s })
+    late : Admissible s act p m → missed (firstDeadline s) m ≡ true
+        → Stepped (answers 8 (firstDeadline s .process) (firstDeadline s .time) s)
     accepted : Guards s act p m → Stepped (accepts (effect s act p m))
 
   one : not (soundOf s) ≡ true → Numbered 1
@@ -65,24 +65,24 @@ module _ (s : State) (act p m : ℕ) where
     not-accepted = h;
     numbered = k;
     stays = refl;
-    none-late = λ d. absurd (n d);
+    none-missed = λ d. absurd (n d);
     barred = λ g. n (g .admissible);
   })
 
   -- one of the answers 9 and 10
-  unfit : {code process time : ℕ} → code ≢ 0 → Numbered code → lateOf s m .code ≢ 8 → (Guards s act p m → ⊥)
+  unfit : {code process time : ℕ} → code ≢ 0 → Numbered code → missed (firstDeadline s) m ≡ false → (Guards s act p m → ⊥)
       → Stepped (answers code process time s)
   unfit h k t n = refused (record {
     not-accepted = h;
     numbered = k;
     stays = refl;
-    none-late = λ d. t;
+    none-missed = λ d. t;
     barred = n;
   })
 
   -- past the tests of 1 to 7
-  admitted : not (soundOf s) ≡ false → backward s m ≡ false → beyond m ≡ false → unknown act ≡ false → misnamed (s .parameters .n) act p ≡ false
-      → Admissible s act p m
+  admitted : not (soundOf s) ≡ false → backward s m ≡ false → beyond m ≡ false → unknown act ≡ false
+      → misnamed (s .parameters .n) act p ≡ false → Admissible s act p m
   admitted g₁ g₄ g₅ g₆ g₇ = record { sound = not-false _ g₁; forward = g₄; within = g₅; known = g₆; named = g₇ }
 
   pub stepped : Stepped (stepOf s act p m)
@@ -94,14 +94,14 @@ module _ (s : State) (act p m : ℕ) where
       (λ g₅. by-cond Stepped (unknown act) (λ e. inadmissible (omega arith) (past-one g₁ (omega arith)) (λ d. clash e (d .known)))
       (λ g₆. by-cond Stepped (misnamed (s .parameters .n) act p)
       (λ e. inadmissible (omega arith) (past-one g₁ (omega arith)) (λ d. clash e (d .named)))
-      (λ g₇. by-cond Stepped (eqb (lateOf s m .code) 8) (λ e. late (admitted g₁ g₄ g₅ g₆ g₇) (eqb-true _ _ e))
-      (λ g₈. by-cond Stepped (misplaced s act p m)
-      (λ e. unfit (omega arith) (past-one g₁ (omega arith)) (eqb-false _ _ g₈) (λ g. clash e (g .placed)))
+      (λ g₇. by-cond Stepped (missed (firstDeadline s) m) (λ e. late (admitted g₁ g₄ g₅ g₆ g₇) e)
+      (λ g₈. by-cond Stepped (misplaced s act p)
+      (λ e. unfit (omega arith) (past-one g₁ (omega arith)) g₈ (λ g. clash e (g .placed)))
       (λ g₉. by-cond Stepped (early s act p m)
-      (λ e. unfit (omega arith) (past-one g₁ (omega arith)) (eqb-false _ _ g₈) (λ g. clash e (g .released)))
+      (λ e. unfit (omega arith) (past-one g₁ (omega arith)) g₈ (λ g. clash e (g .released)))
       (λ g₁₀. accepted (record {
         admissible = admitted g₁ g₄ g₅ g₆ g₇;
-        in-time = eqb-false _ _ g₈;
+        in-time = g₈;
         placed = g₉;
         released = g₁₀;
       })))))))))
@@ -116,7 +116,7 @@ module _ {s : State} {act p m : ℕ} where
 
   pub guards-accept : {o : Outcome} → Stepped s act p m o → Guards s act p m → Accepted o
   guards-accept (refused r) g = absurd (r .barred g)
-  guards-accept (late a l) g = absurd (g .in-time l)
+  guards-accept (late a l) g = clash l (g .in-time)
   guards-accept (accepted _) g = refl
 
 -- 1, or one from 4 to 10

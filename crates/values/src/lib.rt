@@ -4,7 +4,7 @@ use model::Parameters;
 ghost use mathlib.Core.Path.{_≡_};
 ghost use Prim.Native.Nat.{min};
 ghost use Rattle.model.specs.States.{noParameters, countStands, limitsStand, parametersStand, limitIn};
-ghost use Rattle.model.specs.Answers.{answerOf};
+ghost use Rattle.model.specs.Answers.{answerOf, answerNumbers};
 
 // [4.50] An answer of three numbers.
 pub fn answer_with(code: u64, process: u64, time: u64) -> Answer
@@ -15,6 +15,13 @@ pub fn answer_with(code: u64, process: u64, time: u64) -> Answer
         process: process,
         time: time,
     }
+}
+
+// [4.50] Its three numbers.
+pub fn answer_row(answer: Answer) -> [u64; 3]
+    ensures { λ r. ⌜ r ≡ answerNumbers answer ⌝ }
+{
+    [answer.code, answer.process, answer.time]
 }
 
 // [4.100] [6.140] The parameters of what is refused: all of them 0.

@@ -1,18 +1,18 @@
 -- `cases::table` meets its contract: the table passes the test, which antt computes.
 -- Assumes nothing.
 use mathlib.Core.Path.{refl}
-use Rattle.model.specs.States.{limitOf, entriesSound, soundOf, entryOf}
+use Rattle.model.specs.Acts.{leaves}
+use Rattle.model.specs.States.{limitIn, entriesSound, soundOf, entryOf}
 use Rattle.model.specs.Actions.{transitionOf, effect}
-use Rattle.model.specs.Answers.{soonest, lateOf, criticalFrom, criticalOf, stepOf, freshOf}
-use Rattle.layout.specs.Encodings.{processNumbers, stateNumbers}
-use Rattle.cases.specs.Cases.{outcomeOf, toldBy}
-use Rattle.cases.proofs.Cases.{numbersOf, same, meets, passes, hold}
+use Rattle.model.specs.Answers.{firstFrom, firstDeadline, criticalFrom, criticalOf, stepOf, freshOf}
+use Rattle.cases.specs.Cases.{outcomeOf, expectedOf}
+use Rattle.cases.proofs.Cases.{sameAnswer, sameParameters, sameEntry, sameEntries, sameState, sameOutcome, passes, hold}
 use Rattle.cases.proofs.table.Statement.{statement}
 use Rattle.cases.proofs.table.Tie as tie
 
 returns : tie.Need-returns
-unfolding passes meets same numbersOf stateNumbers processNumbers outcomeOf toldBy freshOf stepOf soundOf entriesSound
-    lateOf soonest entryOf transitionOf effect criticalOf criticalFrom limitOf
+unfolding passes sameOutcome sameState sameEntries sameEntry sameParameters sameAnswer outcomeOf expectedOf freshOf stepOf soundOf entriesSound
+    firstDeadline firstFrom entryOf leaves transitionOf effect criticalOf criticalFrom limitIn
 returns c = hold _ _ refl
 
 pub table-spec : {M : Type 1} → statement M
