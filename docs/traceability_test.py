@@ -8,7 +8,7 @@ from traceability import BEGIN, END, PROPERTIES, SPECIFICATION
 ANSWERS = "crates/model/specs/Answers.antt"
 WHOLES = "crates/grammar/specs/Wholes.antt"
 STEP = "crates/machine/src/lib.rt"
-PUTS = "crates/trace/specs/Puts.antt"
+PUTS = "crates/text/specs/Puts.antt"
 NEW = "\n- [2.55] **New.**\n- [2.60] "
 STALE = "the table is not the one"
 
@@ -43,7 +43,7 @@ EDITS = [
         "it is cited above a constant only",
         [
             (SPECIFICATION, "\n- [2.60] ", NEW),
-            ("crates/trace/src/words.rt", "// [3.40]", "// [2.55]"),
+            ("crates/text/src/words.rt", "// [3.40]", "// [2.55]"),
         ],
         "[2.55] stands above no",
     ),
@@ -79,7 +79,7 @@ EDITS = [
     ),
     (
         "it does so on the line of its signature",
-        [(STEP, "c: u64) -> Outcome\n", "c: u64) -> Outcome requires { ⌜ 1 ≤ n ⌝ }\n")],
+        [(STEP, "fresh(parameters: Parameters) -> Outcome\n", "fresh(parameters: Parameters) -> Outcome requires { ⌜ 1 ≤ n ⌝ }\n")],
         "fresh is public and has a requires",
     ),
     # PROPERTIES

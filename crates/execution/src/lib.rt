@@ -1,5 +1,5 @@
-// A recording that is run: it is read, each of its steps runs from a fresh table on, and the answers are stored as rows of numbers.
-// What prints or judges a recording by its answers stands on this.
+// A trace that is run: it is read, and its steps are taken from a fresh state on, as many at a time as there are rows for their answers.
+// What prints or judges a trace by its answers stands on this, and needs no room for more of them than it looks at.
 use machine::fresh;
 use machine::step;
 use model::Scan;
@@ -12,8 +12,28 @@ ghost use Prim.Native.Nat.{_<_};
 ghost use lib.ListN.{length};
 ghost use Rattle.model.specs.Readings.{lent};
 ghost use Rattle.model.specs.Writings.{eventsOf};
-ghost use Rattle.model.specs.Executions.{executedGave, executedOf};
-ghost use Rattle.execution.specs.Turns.{turnGave, turnOf, ranOver};
+ghost use Rattle.model.specs.Executions.{startGave, startedOf, executedGave, executedOf};
+ghost use Rattle.execution.specs.Turns.{turnOf};
+
+// [7.46] What was found of a text, and the state that its first step is taken in.
+pub struct Start {
+    pub found: Scan,
+    pub state: State,
+}
+
+// [7.46] [21.110] Reads a trace into three lists. A refusal tells the line that it is reported at, and then nothing is stored.
+pub fn start(text: &[u8], times: &mut [u64], processes: &mut [u64], actions: &mut [u64]) -> Start
+    ensures { λ r. ⌜ startGave (r .found) (r .state) (lent (times .exit) (processes .exit) (actions .exit))
+        ≡ startedOf (now (text .entry)) (lent (times .entry) (processes .entry) (actions .entry)) ⌝ }
+{
+    let found = scan(text, times, processes, actions);
+    let made = fresh(found.parameters);
+    let state = made.state;
+    Start {
+        found: found,
+        state: state,
+    }
+}
 
 // The step in place i of the lists; its answer goes to row i.
 fn run_turn(
@@ -25,7 +45,7 @@ fn run_turn(
     i: usize,
 ) -> State
     requires { ⌜ (i < length (now times)) × (i < length (now processes)) × (i < length (now actions)) × (i < length (now answers)) ⌝ }
-    ensures { λ r. ⌜ turnGave r (now (answers .exit))
+    ensures { λ r. ⌜ executedGave r (now (answers .exit))
         ≡ turnOf state (lent (times .entry) (processes .entry) (actions .entry)) (now (answers .entry)) i ⌝ }
 {
     let outcome = step(state, actions[i], processes[i], times[i]);
@@ -36,16 +56,16 @@ fn run_turn(
     next
 }
 
-// [7.45] Runs the steps in the lists from a table on, as many as the shortest of the lists and the rows.
-fn run_steps(
+// [7.47] [21.110] Takes the steps in the lists from a state on, as many as the shortest of the lists and the rows.
+pub fn run_steps(
     first: State,
     times: &[u64],
     processes: &[u64],
     actions: &[u64],
     answers: &mut [[u64; 3]],
-)
-    ensures { λ _. ⌜ now (answers .exit)
-        ≡ ranOver first (eventsOf (lent (times .entry) (processes .entry) (actions .entry))) (now (answers .entry)) ⌝ }
+) -> State
+    ensures { λ r. ⌜ executedGave r (now (answers .exit))
+        ≡ executedOf first (eventsOf (lent (times .entry) (processes .entry) (actions .entry))) (now (answers .entry)) ⌝ }
 {
     let count = least(
         least(times.len(), processes.len()),
@@ -57,32 +77,5 @@ fn run_steps(
         state = run_turn(state, times, processes, actions, answers, i);
         i += 1;
     }
-}
-
-// [7.40] [7.45] [21.110] Reads a recording into three lists, and stores the answer to each of its steps, as many as there are rows. A
-// refusal tells the line that it is reported at, and then nothing is stored.
-pub fn execute(
-    text: &[u8],
-    times: &mut [u64],
-    processes: &mut [u64],
-    actions: &mut [u64],
-    answers: &mut [[u64; 3]],
-) -> Scan
-    ensures { λ r. ⌜ executedGave r (lent (times .exit) (processes .exit) (actions .exit)) (now (answers .exit))
-        ≡ executedOf (now (text .entry)) (lent (times .entry) (processes .entry) (actions .entry)) (now (answers .entry)) ⌝ }
-{
-    let found = scan(text, times, processes, actions);
-    if found.code != 0 {
-        return found;
-    }
-    let count = found.size;
-    let made = fresh(found.parameters);
-    run_steps(
-        made.state,
-        &times[..count],
-        &processes[..count],
-        &actions[..count],
-        answers,
-    );
-    found
+    state
 }

@@ -1,52 +1,86 @@
--- A text is read as a trace exactly when it is the text written for that trace and the trace has a form. Assumes nothing.
-use Prim.Native.Nat.{ℕ, zero, suc, _+_, _<_}
-use mathlib.Core.Path.{_≡_, refl, ap, _∙_}
+-- What a text tells: it is read as a trace exactly when it is the text written for that trace and the trace has a form, and any other
+-- has a fault. Assumes nothing.
+use Prim.Native.Nat.{ℕ, zero, suc, _+_, _≤_, _<_}
+use mathlib.Core.Path.{_≡_, refl, sym, ap, _∙_}
+use mathlib.Core.Logic.{_≢_}
 use mathlib.Core.Bool.{true}
-use mathlib.Core.List.{List, [], _∷_, _++_}
+use mathlib.Core.List.{List, [], _∷_, _++_, append-assoc, append-nil}
 use native.Mathlib.Omega.{arith}
 use lib.Dec.{eqb}
-use lib.ListN.{length, drop, length-append}
+use lib.ListN.{length, drop, length-append, length-drop}
 use lib.Seq.{drop-append-seam}
-use borrow.Author.Tests.{eqb-true}
+use borrow.Author.Tests.{eqb-true, eqb-false, ne-eqb}
 use Rattle.model.specs.declared.Row.{Row}
 use Rattle.model.specs.declared.Row.the-variants.{Step, Unread}
-use Rattle.model.specs.declared.Head.{Head}
-use Rattle.model.specs.declared.Head.the-variants.{Values, Refused}
-use Rattle.model.specs.Texts.{Event, eventText, headText, eventsText, traceText, hasForm}
-use Rattle.model.specs.Readings.{eventAt, headOf, Body, bodyIn, bodyOf, Trace, refused, trace, ofHead, traceOf}
+use Rattle.model.specs.declared.Parameters.{Parameters}
+use Rattle.model.specs.declared.Scan.{Scan}
+use Rattle.model.specs.Texts.{Event, event, eventText, headText, firstLine, eventsText, traceText, hasForm}
+use Rattle.model.specs.Readings.{eventAt, scanOf, headOf, Body, bodyIn, bodyOf, Trace, refused, trace, ofBody, ofHead, traceOf, scannedOf, readOf}
 use Rattle.model.specs.Writings.{formlessFrom}
-use Rattle.grammar.specs.Exact.{Formed, ReadExactly}
+use Rattle.grammar.specs.Exact.{Formed, Says, ReadExactly, WordForEachAct}
+use Rattle.grammar.specs.Faults.{Differs, Fault, step, RefusedFor, RefusalTold}
 use Rattle.model.proofs.Tests.{by-test, by-cond}
+use Rattle.grammar.proofs.Faults.{fault-some}
 use Rattle.grammar.proofs.Lines.{event-some, event-was, event-reads}
 use Rattle.grammar.proofs.Bodies.{body-step, body-end}
-use Rattle.grammar.proofs.Heads.{HeadTells, head-tells, head-reads, trace-events}
+use Rattle.grammar.proofs.Heads.{first-line, HeadTook, head-line, HeadTells, head-tells, head-reads, trace-events}
 
 -- The steps
 
--- a text that holds steps to its end is what is written for them, and each has a form
-record BodyTook (s : List ℕ) (events : List Event) : Type 0 where
-  text : s ≡ eventsText events
-  forms : (line : ℕ) → formlessFrom line events ≡ 0
+no-step : (line : ℕ) (s : List ℕ) (code at : ℕ) → eventAt line s ≡ Unread code at → (e : Event) → hasForm e ≡ true → Differs (eventText e) s
+no-step line s code at u e f more q =
+    let read = sym u ∙ (ap (eventAt line) q ∙ event-reads line e more f) in
+    let z : _≡_ {A = ℕ} 0 1 = cc in
+    absurd (omega arith)
 
-body-was : (k line : ℕ) (s : List ℕ) → 0 < line → bodyIn k line s .fault ≡ 0 → BodyTook s (bodyIn k line s .events)
+-- the steps before a line that is none, which `rest` starts with
+record Stops (line : ℕ) (b : Body) (rest : List ℕ) : Type 0 where
+  named : b .fault ≡ line + length (b .events)
+  some : 0 < length rest
+  none : (e : Event) → hasForm e ≡ true → Differs (eventText e) rest
+
+-- what steps tell of the text that they were read from: they were written so, each has a form, and nothing is left or no step
+record BodyTells (s : List ℕ) (line : ℕ) (b : Body) : Type 0 where
+  rest : List ℕ
+  split : s ≡ eventsText (b .events) ++ rest
+  forms : (n : ℕ) → formlessFrom n (b .events) ≡ 0
+  ends : b .fault ≡ 0 → rest ≡ []
+  stops : b .fault ≢ 0 → Stops line b rest
+
+nothing-left : (line : ℕ) → BodyTells [] line (record { events = []; fault = 0 })
+unfolding eventsText formlessFrom
+nothing-left line = record { rest = []; split = refl; forms = λ _. refl; ends = λ _. refl; stops = λ n. absurd (n refl) }
+
+body-tells : (k line : ℕ) (s : List ℕ) → 0 < line → length s ≤ k → BodyTells s line (bodyIn k line s)
 unfolding bodyIn eventsText formlessFrom
-body-was zero line [] h e = record { text = refl; forms = λ _. refl }
-body-was zero line (x ∷ s) h e = absurd (omega arith)
-body-was (suc k) line [] h e = record { text = refl; forms = λ _. refl }
-body-was (suc k) line (x ∷ s) h e = go (eventAt line (x ∷ s)) refl e (λ i. body-was k (line + 1) (drop i (x ∷ s)) (omega arith))
+body-tells zero line [] p h = nothing-left line
+body-tells zero line (x ∷ s) p h = absurd (omega arith)
+body-tells (suc k) line [] p h = nothing-left line
+body-tells (suc k) line (x ∷ s) p h = go (eventAt line (x ∷ s)) refl (λ i. body-tells k (line + 1) (drop i (x ∷ s)) (omega arith))
   where
-    go : (r : Row) → eventAt line (x ∷ s) ≡ r → bodyIn (suc k) line (x ∷ s) .fault ≡ 0
-        → ((i : ℕ) → bodyIn k (line + 1) (drop i (x ∷ s)) .fault ≡ 0
-        → BodyTook (drop i (x ∷ s)) (bodyIn k (line + 1) (drop i (x ∷ s)) .events))
-        → BodyTook (x ∷ s) (bodyIn (suc k) line (x ∷ s) .events)
-    go (Unread code at) q e rest = let z : line ≡ 0 = rw (q, bodyIn) at e in absurd (omega arith)
-    go (Step t p a i) q e rest =
-        let w = event-was line (x ∷ s) t p a i q in
-        let r = rest i (rw (q, bodyIn) at e) in
+    go : (r : Row) → eventAt line (x ∷ s) ≡ r
+        → ((i : ℕ) → length (drop i (x ∷ s)) ≤ k → BodyTells (drop i (x ∷ s)) (line + 1) (bodyIn k (line + 1) (drop i (x ∷ s))))
+        → BodyTells (x ∷ s) line (bodyIn (suc k) line (x ∷ s))
+    go (Unread code at) q later =
         rw (q, bodyIn)
         (record {
-          text = w .took .split ∙ ap (λ (l : List ℕ). eventText (record { time = t; process = p; action = a }) ++ l) (r .text);
+          rest = x ∷ s;
+          split = refl;
+          forms = λ _. refl;
+          ends = λ (z : line ≡ 0). absurd (omega arith);
+          stops = λ _. record { named = omega arith; some = omega arith; none = no-step line (x ∷ s) code at q };
+        })
+    go (Step t p a i) q later =
+        let w = event-was line (x ∷ s) t p a i q in
+        let e : Event = event t p a in
+        let r = later i (omega (arith, length-drop i (x ∷ s), w .took .size, event-some e)) in
+        rw (q, bodyIn)
+        (record {
+          rest = r .rest;
+          split = w .took .split ∙ (ap (λ (l : List ℕ). eventText e ++ l) (r .split) ∙ sym (append-assoc (eventText e) _ (r .rest)));
           forms = λ n. rw (w .formed) (r .forms (n + 1));
+          ends = r .ends;
+          stops = λ n. let o = r .stops n in record { named = omega (arith, o .named); some = o .some; none = o .none };
         })
 
 pub first-formed : (line : ℕ) (e : Event) (es : List Event) → 0 < line → formlessFrom line (e ∷ es) ≡ 0
@@ -73,39 +107,69 @@ body-reads line (e ∷ es) h f =
 
 -- Whole traces
 
-trace-reads : (n a b c : ℕ) (events : List Event) → Formed n a b c events
-    → traceOf (traceText n a b c events) ≡ trace n a b c events
-trace-reads n a b c events f =
-    let text : List ℕ = traceText n a b c events in
-    let k : ℕ = length (headText n a b c) in
-    let h = head-reads n a b c (eventsText events) (f .count) (f .limits) (f .short) in
-    let body : bodyOf 4 (drop k text) ≡ record { events = events; fault = 0 } =
-    rw drop-append-seam (body-reads 4 events (omega arith) (f .forms)) in
-    trace-events text n a b c k h (ap (λ (b : Body). b .fault) body) ∙ rw body
+trace-reads : (k : Parameters) (events : List Event) → Formed k events → traceOf (traceText k events) ≡ trace (firstLine k) k events
+trace-reads k events f =
+    let text : List ℕ = traceText k events in
+    let h = head-reads k (eventsText events) (f .stand) (f .short) in
+    let body : bodyOf (firstLine k) (drop (length (headText k)) text) ≡ record { events = events; fault = 0 } =
+    rw drop-append-seam (body-reads (firstLine k) events (first-line k .0) (f .forms)) in
+    trace-events text (scanOf (firstLine k) k (length (headText k))) h refl (ap (λ (b : Body). b .fault) body) ∙ rw body
 
--- what a trace tells of the text that it was read from; a refusal has a number that is not 0
+-- what a text tells: the trace that it says, or a fault
 abbrev pub TraceTells : List ℕ → Trace → Type 0
-TraceTells text (trace n a b c events) = (text ≡ traceText n a b c events) × Formed n a b c events
-TraceTells text (refused code line) = 0 < code
+TraceTells text (trace line k events) = Says text line k events
+TraceTells text (refused code line) = Fault text code line
 
-head-then : (text : List ℕ) (h : Head) → HeadTells text h → TraceTells text (ofHead text h)
+module _ (text : List ℕ) (h : Scan) (told : HeadTook text h) (body : Body) (r : BodyTells (drop (h .size) text) (h .line) body) where
+  split : text ≡ headText (h .parameters) ++ (eventsText (body .events) ++ r .rest)
+  split = told .took .split ∙ ap (λ (l : List ℕ). headText (h .parameters) ++ l) (r .split)
+
+  -- steps to the end of the text
+  says : body .fault ≡ 0 → Says text (h .line) (h .parameters) (body .events)
+  says z =
+      let text-is : text ≡ traceText (h .parameters) (body .events) = rw (r .ends z, append-nil) at split in
+      record {
+        line-is = told .line-is;
+        text-is = text-is;
+        formed = record { stand = told .stand; forms = r .forms (firstLine (h .parameters)); short = rw text-is at (told .short) };
+      }
+
+  -- or to a line that is none
+  faulty : body .fault ≢ 0 → Fault text 14 (body .fault)
+  faulty n =
+      let o = r .stops n in
+      rw (o .named, told .line-is)
+      (step (h .parameters) (body .events) (r .rest) (told .short) split (told .stand) (r .forms (firstLine (h .parameters))) (o .some) (o .none))
+
+  body-then : TraceTells text (ofBody (h .line) (h .parameters) body)
+  body-then = by-cond (TraceTells text) (eqb (body .fault) 0) (λ t. says (eqb-true _ _ t)) (λ t. faulty (eqb-false _ _ t))
+
+head-then : (text : List ℕ) (h : Scan) → HeadTells text h → TraceTells text (ofHead text h)
 unfolding bodyOf
-head-then text (Refused code line) told = told
-head-then text (Values n a b c k) told =
-    let s = drop k text in
-    let body : Body = bodyIn (length s) 4 s in
-    by-cond (TraceTells text) (eqb (body .fault) 0)
-    (λ t.
-    let r = body-was (length s) 4 s (omega arith) (eqb-true _ _ t) in
-    let text-is : text ≡ traceText n a b c (body .events) =
-    told .took .split ∙ ap (λ (l : List ℕ). headText n a b c ++ l) (r .text) in
-    let short = rw text-is at (told .short) in
-    (text-is, record { count = told .count; limits = told .limits; forms = r .forms 4; short = short }))
-    (λ _. omega arith)
+head-then text h t =
+    let s = drop (h .size) text in
+    by-cond (TraceTells text) (eqb (h .code) 0)
+    (λ z.
+    let told = t .read (eqb-true (h .code) 0 z) in
+    body-then text h told (bodyIn (length s) (h .line) s) (body-tells (length s) (h .line) s (head-line told .0) (omega arith)))
+    (λ n. t .faulty (eqb-false (h .code) 0 n))
 
 pub trace-tells : (text : List ℕ) → TraceTells text (traceOf text)
 unfolding traceOf
 trace-tells text = head-then text (headOf text) (head-tells text)
 
 pub read-exactly : ReadExactly
-read-exactly text n a b c events = (λ e. rw e at (trace-tells text), λ h. rw (h .0) (trace-reads n a b c events (h .1)))
+read-exactly text line k events =
+    (λ e. rw e at (trace-tells text), λ h. rw (h .text-is, h .line-is) (trace-reads k events (h .formed)))
+
+pub refused-for : RefusedFor
+refused-for text code line e = rw e at (trace-tells text)
+
+pub refusal-told : RefusalTold
+unfolding scannedOf readOf
+refusal-told text l code line e =
+    let some : code ≢ 0 = λ z. omega (arith, fault-some (refused-for text code line e)) in
+    rw e (simp (ne-eqb code 0 some))
+
+pub word-for-each-act : WordForEachAct
+word-for-each-act = refl

@@ -1,9 +1,10 @@
 -- What is written for a field is read back, and what is read was so written. Assumes nothing.
 use Prim.Native.Nat.{ℕ, zero, suc, _+_, _-_, _*_, _/_, _%_, _≤_, _<_}
 use mathlib.Core.Path.{_≡_, refl, sym, ap, _∙_, subst}
-use mathlib.Core.Bool.{true, false, _&&_, _||_, false≢true}
+use mathlib.Core.Bool.{Bool, true, false, cond, not, _&&_, _||_, true≢false, false≢true}
 use mathlib.Core.List.{List, [], _∷_, _++_}
 use native.Mathlib.Omega.{arith}
+use native.Mathlib.Nat.{add-zero, zero-add}
 use lib.Dec.{leb, ltb, eqb}
 use lib.ListN.{length, getD, drop, length-append}
 use lib.Seq.{drop-at, append-snoc}
@@ -13,6 +14,7 @@ use Rattle.model.specs.declared.Field.the-variants.{Value, Bad}
 use Rattle.model.specs.Texts.{decimal, numberText, newline, words, wordText}
 use Rattle.model.specs.Readings.{startsWith, numberFrom, numberAt, wordFrom, wordAt}
 use Rattle.model.proofs.Tests.{by-cond, if-lt, if-eq, tests}
+use Rattle.grammar.proofs.Tables.{every, every-at}
 use Rattle.grammar.proofs.Digits.{decimal-small, decimal-more, decimal-next, some-digit}
 
 -- What is taken
@@ -125,7 +127,12 @@ module _ (bound end : ℕ) where
       rw e at
       (number-tells s [] 0 0 (record { none = λ _. (refl, refl); some = λ (g : 0 < 0). absurd (omega arith); size = refl }) h)
 
--- A word
+-- The start of a text
+
+pub starts-here : (w s : List ℕ) → startsWith w (w ++ s) ≡ true
+unfolding startsWith
+starts-here [] s = refl
+starts-here (x ∷ w) s = simp (eq-eqb x x refl) (starts-here w s)
 
 starts-was : (w s : List ℕ) → startsWith w s ≡ true → s ≡ w ++ drop (length w) s
 unfolding startsWith
@@ -136,12 +143,18 @@ starts-was (x ∷ w) (y ∷ s) e = let f = simp tests at e in rw (f .0) (ap (λ 
 pub starts-took : (w s : List ℕ) → startsWith w s ≡ true → Took s w (length w)
 starts-took w s e = record { split = starts-was w s e; size = refl }
 
+-- A word that is read was written
+
+-- a word and the end of its line
+abbrev filled : List ℕ → List ℕ
+filled w = w ++ (newline ∷ [])
+
 -- the bytes that one of some words takes
 record Worded (base : ℕ) (ws : List (List ℕ)) (s : List ℕ) (a k : ℕ) : Type 0 where
   place : ℕ
   named : a ≡ base + place
   below : place < length ws
-  took : Took s (getD ws place [] ++ (newline ∷ [])) k
+  took : Took s (filled (getD ws place [])) k
 
 abbrev WordTells : ℕ → List (List ℕ) → List ℕ → Field → Type 0
 WordTells base ws s (Value a k) = Worded base ws s a k
@@ -157,10 +170,10 @@ word-tells : (base : ℕ) (ws : List (List ℕ)) (s : List ℕ) → WordTells ba
 unfolding wordFrom
 word-tells base [] s = tt
 word-tells base (w ∷ ws) s =
-    by-cond (WordTells base (w ∷ ws) s) (startsWith (w ++ (newline ∷ [])) s)
+    by-cond (WordTells base (w ∷ ws) s) (startsWith (filled w) s)
     (λ t.
     let size = length-append w (newline ∷ []) in
-    let taken = rw size at (starts-took (w ++ (newline ∷ [])) s t) in
+    let taken = rw size at (starts-took (filled w) s t) in
     record { place = 0; named = omega arith; below = omega arith; took = taken })
     (λ _. later base w ws s (wordFrom (base + 1) ws s) (word-tells (base + 1) ws s))
 
@@ -170,23 +183,51 @@ unfolding wordText
 word-was s a k e =
     let r = rw e at (word-tells 0 words s) in
     let n : r .place ≡ a = omega (arith, r .named) in
-    (subst (λ (i : ℕ). Took s (getD words i [] ++ (newline ∷ [])) k) n (r .took), omega (arith, r .below))
+    (subst (λ (i : ℕ). Took s (filled (getD words i [])) k) n (r .took), omega (arith, r .below))
 
--- what holds of each act holds of all that have a word
-pub each-word : (P : ℕ → Type 0) → P 0 → P 1 → P 2 → P 3 → P 4 → P 5 → P 6 → P 7 → P 8 → (a : ℕ) → a < length words → P a
-each-word P p0 p1 p2 p3 p4 p5 p6 p7 p8 zero h = p0
-each-word P p0 p1 p2 p3 p4 p5 p6 p7 p8 (suc zero) h = p1
-each-word P p0 p1 p2 p3 p4 p5 p6 p7 p8 (suc (suc zero)) h = p2
-each-word P p0 p1 p2 p3 p4 p5 p6 p7 p8 (suc (suc (suc zero))) h = p3
-each-word P p0 p1 p2 p3 p4 p5 p6 p7 p8 (suc (suc (suc (suc zero)))) h = p4
-each-word P p0 p1 p2 p3 p4 p5 p6 p7 p8 (suc (suc (suc (suc (suc zero))))) h = p5
-each-word P p0 p1 p2 p3 p4 p5 p6 p7 p8 (suc (suc (suc (suc (suc (suc zero)))))) h = p6
-each-word P p0 p1 p2 p3 p4 p5 p6 p7 p8 (suc (suc (suc (suc (suc (suc (suc zero))))))) h = p7
-each-word P p0 p1 p2 p3 p4 p5 p6 p7 p8 (suc (suc (suc (suc (suc (suc (suc (suc zero)))))))) h = p8
-each-word P p0 p1 p2 p3 p4 p5 p6 p7 p8 (suc (suc (suc (suc (suc (suc (suc (suc (suc a))))))))) h = absurd (omega arith)
+-- Telling the words apart
+
+-- of two texts of which neither starts with the other, the first starts nothing that starts with the second
+apart-starts : (w u s : List ℕ) → startsWith w u ≡ false → startsWith u w ≡ false → startsWith w (u ++ s) ≡ false
+unfolding startsWith
+apart-starts [] u s e f = absurd (true≢false e)
+apart-starts (x ∷ w) [] s e f = absurd (true≢false f)
+apart-starts (x ∷ w) (y ∷ u) s e f =
+    simp tests (λ (q : y ≡ x). apart-starts w u s (simp tests at e q) (simp tests at f (sym q)))
+
+-- the words w at place i and u at place j are one, or apart
+abbrev told : ℕ → List ℕ → ℕ → List ℕ → Bool
+told i w j u = cond (eqb i j) true (not (startsWith (filled w) (filled u)) && not (startsWith (filled u) (filled w)))
+
+-- the one test of the table of words
+words-apart : every (λ i w. every (told i w) 0 words) 0 words ≡ true
+unfolding startsWith
+words-apart = refl
+
+words-told : (i j : ℕ) → i < length words → j < length words → told i (getD words i []) j (getD words j []) ≡ true
+words-told i j h g =
+    every-at (told i (getD words i [])) words [] (every-at (λ i w. every (told i w) 0 words) words [] words-apart i h) j g
+
+-- the first word that fills the line is read
+word-first : (base : ℕ) (ws : List (List ℕ)) (s : List ℕ) (a : ℕ) → a < length ws
+    → ((i : ℕ) → i < a → startsWith (filled (getD ws i [])) s ≡ false)
+    → startsWith (filled (getD ws a [])) s ≡ true
+    → wordFrom base ws s ≡ Value (base + a) (length (getD ws a []) + 1)
+unfolding wordFrom
+word-first base [] s a h before e = absurd (omega arith)
+word-first base (w ∷ ws) s zero h before e = rw e (rw add-zero)
+word-first base (w ∷ ws) s (suc a) h before e =
+    let q : base + 1 + a ≡ base + suc a = omega arith in
+    rw (before 0 (omega arith), ← q) (word-first (base + 1) ws s a (omega arith) (λ i g. before (suc i) (omega arith)) e)
 
 -- a word that is written is read
 pub word-reads : (a : ℕ) (s : List ℕ) → a < length words → wordAt (wordText a ++ s) ≡ Value a (length (wordText a))
-unfolding wordFrom startsWith wordText
+unfolding wordText
 word-reads a s h =
-    each-word (λ i. wordAt (wordText i ++ s) ≡ Value i (length (wordText i))) refl refl refl refl refl refl refl refl refl a h
+    let line : List ℕ = filled (getD words a []) in
+    let others : (i : ℕ) → i < a → startsWith (filled (getD words i [])) (line ++ s) ≡ false =
+    λ i g.
+    let t = simp tests at (words-told i a (omega arith) h) .1 (λ (q : i ≡ a). omega arith) in
+    apart-starts (filled (getD words i [])) line s (t .0) (t .1) in
+    rw (length-append (getD words a []) (newline ∷ []))
+    (rw zero-add at (word-first 0 words (line ++ s) a h others (starts-here line s)))

@@ -1,10 +1,11 @@
 pub mod Digits
+pub mod Tables
 pub mod Fields
 pub mod Lines
 pub mod Bodies
+pub mod Faults
 pub mod Heads
 pub mod Exact
 pub mod Fits
 pub mod RoundTrips
 pub mod Wholes
-pub mod Faults

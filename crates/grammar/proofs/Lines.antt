@@ -1,24 +1,31 @@
--- What is written for a line is read back, and what is read was so written. Assumes nothing.
-use Prim.Native.Nat.{ℕ, _+_, _≤_, _<_}
+-- What is written for a line is read back, and what is read was so written: a line of numbers, whatever their count, and the line of a
+-- step. Assumes nothing.
+use Prim.Native.Nat.{ℕ, zero, suc, _+_, _*_, _≤_, _<_}
 use mathlib.Core.Path.{_≡_, refl, ap, _∙_}
+use mathlib.Core.Logic.{_≢_}
 use mathlib.Core.Bool.{true}
 use mathlib.Core.List.{List, [], _∷_, _++_, append-assoc}
 use native.Mathlib.Omega.{arith}
-use native.Mathlib.Nat.{add-assoc}
-use lib.ListN.{length, drop, length-append}
-use lib.Seq.{drop-append-seam, drop-drop}
+use native.Mathlib.Nat.{add-assoc, zero-add}
+use native.Mathlib.Numerals.{add-one}
+use lib.ListN.{length, getD, drop, set, replicate, length-append, length-set}
+use lib.Seq.{drop-append-seam, drop-drop, getD-set-same, getD-set-other, sets}
+use borrow.Author.Tests.{leb-true}
+use lib.Dec.{leb}
 use Rattle.model.specs.declared.Field.{Field}
 use Rattle.model.specs.declared.Field.the-variants.{Value, Bad}
 use Rattle.model.specs.declared.Row.{Row}
 use Rattle.model.specs.declared.Row.the-variants.{Step, Unread}
-use Rattle.model.specs.declared.Head.{Head}
-use Rattle.model.specs.declared.Head.the-variants.{Values, Refused}
+use Rattle.model.specs.declared.Line.{Line}
+use Rattle.model.specs.declared.Parameters.{Parameters}
 use Rattle.model.specs.Texts.{comma, newline, timeBound, numberBound, decimal, numberText, words, wordText}
-use Rattle.model.specs.Texts.{Event, eventText, valuesText, hasForm}
-use Rattle.model.specs.Readings.{numberAt, wordAt, opened, eventAt, valuesAt}
+use Rattle.model.specs.Texts.{Event, event, numbersText, valuesText, eventText, hasForm}
+use Rattle.model.specs.Readings.{numberAt, wordAt, opened, eventAt, lineOf, lineFails, numbersFrom, numbersAt, parametersIn}
 use Rattle.model.proofs.Tests.{tests}
+use Rattle.grammar.specs.Faults.{Short}
+use Rattle.grammar.proofs.Tables.{every-at}
 use Rattle.grammar.proofs.Digits.{some-digit}
-use Rattle.grammar.proofs.Fields.{Took, number-was, number-reads, each-word, word-was, word-reads}
+use Rattle.grammar.proofs.Fields.{Took, number-was, number-reads, word-was, word-reads}
 
 -- How many bytes the texts take
 
@@ -26,23 +33,24 @@ pub number-length : (v end : ℕ) → length (numberText end v) ≡ length (deci
 unfolding numberText
 number-length v end = length-append (decimal v) (end ∷ [])
 
+-- each number of a line has a digit and a byte that ends it
+pub numbers-long : (v : ℕ) (ws : List ℕ) → 2 * suc (length ws) ≤ length (numbersText v ws)
+unfolding numbersText
+numbers-long v [] = omega (arith, number-length v newline, some-digit v)
+numbers-long v (w ∷ ws) =
+    omega (arith, length-append (numberText comma v) (numbersText w ws), number-length v comma, some-digit v, numbers-long w ws)
+
 pub event-length : (e : Event)
     → length (eventText e) ≡ length (decimal (e .time)) + 1 + (length (decimal (e .process)) + 1 + length (wordText (e .action)))
 unfolding eventText
 event-length e = simp (length-append, number-length)
 
-pub values-length : (n a b c : ℕ)
-    → length (valuesText n a b c) ≡ length (decimal n) + length (decimal a) + length (decimal b) + length (decimal c) + 4
-unfolding valuesText
-values-length n a b c = simp (length-append, number-length) (omega arith)
-
 -- a word has three letters or more
 word-length : (a : ℕ) → a < length words → 4 ≤ length (wordText a)
 unfolding wordText
 word-length a h =
-    each-word (λ i. 4 ≤ length (wordText i))
-    (omega arith) (omega arith) (omega arith) (omega arith) (omega arith) (omega arith) (omega arith) (omega arith) (omega arith)
-    a h
+    let three = leb-true 3 (length (getD words a [])) (every-at (λ _ w. leb 3 (length w)) words [] refl a h) in
+    omega (arith, length-append (getD words a []) (newline ∷ []))
 
 -- a step has a byte
 pub event-some : (e : Event) → 0 < length (eventText e)
@@ -69,6 +77,109 @@ took-both {s} {x} {y} {i} {j} f g =
       size = omega (arith, length-append x y, f .size, g .size);
     }
 
+-- A line of numbers
+
+-- each of these is small enough for its field
+abbrev pub Small : List ℕ → Type 0
+Small [] = Unit
+Small (v ∷ vs) = (v < numberBound) × Small vs
+
+-- the numbers at the first `many` places from i on
+abbrev pub numbersIn : ℕ → ℕ → List ℕ → List ℕ
+numbersIn zero i l = []
+numbersIn (suc many) i l = getD l i 0 ∷ numbersIn many (i + 1) l
+
+-- l was read from s: `more` numbers and one before them stand in its first places
+pub record LineTook (s : List ℕ) (more : ℕ) (l : Line) : Type 0 where
+  pub took : Took s (numbersText (getD (l .numbers) 0 0) (numbersIn more 1 (l .numbers))) (l .size)
+  pub small : Small (numbersIn (suc more) 0 (l .numbers))
+
+-- the same from place i on, after `at` bytes; the places before i are those of `got`
+record TookFrom (s : List ℕ) (more i at : ℕ) (got : List ℕ) (l : Line) : Type 0 where
+  bytes : ℕ
+  sized : l .size ≡ at + bytes
+  took : Took s (numbersText (getD (l .numbers) i 0) (numbersIn more (i + 1) (l .numbers))) bytes
+  small : Small (numbersIn (suc more) i (l .numbers))
+  kept : (j : ℕ) → j < i → getD (l .numbers) j 0 ≡ getD got j 0
+
+abbrev TellsFrom : List ℕ → ℕ → ℕ → ℕ → List ℕ → Line → Type 0
+TellsFrom s more i at got l = l .code ≡ 0 → TookFrom s more i at got l
+
+from-was : (line more i at : ℕ) (got s : List ℕ) → i + more < length got → TellsFrom s more i at got (numbersFrom line more i at got s)
+unfolding numbersFrom numbersText
+from-was line zero i at got s h =
+    by-opened (TellsFrom s zero i at got) (numberAt numberBound newline s) (λ z. absurd (omega arith)) (λ v k e _.
+    let w = number-was numberBound newline s v k (omega arith) e in
+    let here : getD (set got i v) i 0 ≡ v = getD-set-same got i v 0 (omega arith) in
+    record {
+      bytes = k;
+      sized = refl;
+      took = rw here (w .0);
+      small = rw here (w .1, tt);
+      kept = λ j g. getD-set-other got i j v 0 (λ (q : j ≡ i). omega arith);
+    })
+from-was line (suc more) i at got s h =
+    by-opened (TellsFrom s (suc more) i at got) (numberAt numberBound comma s) (λ z. absurd (omega arith)) (λ v k e z.
+    let w = number-was numberBound comma s v k (omega arith) e in
+    let r = from-was line more (i + 1) (at + k) (set got i v) (drop k s) (omega (arith, length-set got i v)) z in
+    let l : Line = numbersFrom line more (i + 1) (at + k) (set got i v) (drop k s) in
+    let here : getD (l .numbers) i 0 ≡ v = r .kept i (omega arith) ∙ getD-set-same got i v 0 (omega arith) in
+    record {
+      bytes = k + r .bytes;
+      sized = omega (arith, r .sized);
+      took = rw here (took-both (w .0) (r .took));
+      small = rw here (w .1, r .small);
+      kept = λ j g. r .kept j (omega arith) ∙ getD-set-other got i j v 0 (λ (q : j ≡ i). omega arith);
+    })
+
+-- a line that is read was written, where there is a place for each number
+pub numbers-was : (line more : ℕ) (s : List ℕ) (l : Line) → more < 4 → numbersAt line more s ≡ l → l .code ≡ 0 → LineTook s more l
+numbers-was line more s l h e z =
+    let r = rw e at (from-was line more 0 0 (replicate 4 0) s (omega arith)) z in
+    let sized : l .size ≡ r .bytes = omega (arith, r .sized) in
+    record { took = rw sized (r .took); small = r .small }
+
+-- any other is refused
+abbrev FailsAt : ℕ → Line → Type 0
+FailsAt line l = l .code ≢ 0 → l ≡ lineFails line
+
+from-fails : (line more i at : ℕ) (got s : List ℕ) → FailsAt line (numbersFrom line more i at got s)
+unfolding numbersFrom
+from-fails line zero i at got s =
+    by-opened (FailsAt line) (numberAt numberBound newline s) (λ _. refl) (λ v k e n. absurd (n refl))
+from-fails line (suc more) i at got s =
+    by-opened (FailsAt line) (numberAt numberBound comma s) (λ _. refl) (λ v k _. from-fails line more (i + 1) (at + k) (set got i v) (drop k s))
+
+pub numbers-fail : (line more : ℕ) (s : List ℕ) (l : Line) → numbersAt line more s ≡ l → l .code ≢ 0 → l ≡ lineFails line
+numbers-fail line more s l e = rw e at (from-fails line more 0 0 (replicate 4 0) s)
+
+from-reads : (line v : ℕ) (ws : List ℕ) (i at : ℕ) (got s : List ℕ) → Small (v ∷ ws)
+    → numbersFrom line (length ws) i at got (numbersText v ws ++ s) ≡ lineOf line (sets got i (v ∷ ws)) (at + length (numbersText v ws))
+unfolding numbersFrom numbersText
+from-reads line v [] i at got s h = rw (number-reads numberBound newline (omega arith) v s (h .0))
+from-reads line v (w ∷ ws) i at got s h =
+    let size : at + length (numberText comma v) + length (numbersText w ws) ≡ at + length (numberText comma v ++ numbersText w ws) =
+    omega (arith, length-append (numberText comma v) (numbersText w ws)) in
+    rw (append-assoc (numberText comma v) (numbersText w ws) s)
+    (rw (number-reads numberBound comma (omega arith) v (numbersText w ws ++ s) (h .0), drop-append-seam, ← size, add-one i)
+    (from-reads line w ws (suc i) (at + length (numberText comma v)) (set got i v) s (h .1)))
+
+-- a line that is written is read: its numbers in the first places, and zeros after them
+pub numbers-reads : (line v : ℕ) (ws s : List ℕ) → Small (v ∷ ws)
+    → numbersAt line (length ws) (numbersText v ws ++ s) ≡ lineOf line (sets (replicate 4 0) 0 (v ∷ ws)) (length (numbersText v ws))
+numbers-reads line v ws s h = rw zero-add at (from-reads line v ws 0 0 (replicate 4 0) s h)
+
+-- The parameters: line 2 is such a line
+
+pub values-was : (line : ℕ) (s : List ℕ) (l : Line) → numbersAt line 3 s ≡ l → l .code ≡ 0 → Took s (valuesText (parametersIn (l .numbers))) (l .size)
+unfolding valuesText
+values-was line s l e z = numbers-was line 3 s l (omega arith) e z .took
+
+pub values-reads : (line : ℕ) (k : Parameters) (s : List ℕ) → Short k
+    → numbersAt line 3 (valuesText k ++ s) ≡ lineOf line (k .n ∷ k .a ∷ k .b ∷ k .c ∷ []) (length (valuesText k))
+unfolding valuesText
+values-reads line k s h = numbers-reads line (k .n) (k .a ∷ k .b ∷ k .c ∷ []) s (h .n, (h .a, (h .b, (h .c, tt))))
+
 -- A step
 
 pub record EventTook (s : List ℕ) (e : Event) (k : ℕ) : Type 0 where
@@ -77,7 +188,7 @@ pub record EventTook (s : List ℕ) (e : Event) (k : ℕ) : Type 0 where
 
 -- what a row tells of the text that it was read from
 abbrev RowTells : List ℕ → Row → Type 0
-RowTells s (Step t p a k) = EventTook s (record { time = t; process = p; action = a }) k
+RowTells s (Step t p a k) = EventTook s (event t p a) k
 RowTells s (Unread code line) = Unit
 
 row-tells : (line : ℕ) (s : List ℕ) → RowTells s (eventAt line s)
@@ -95,8 +206,7 @@ row-tells line s =
     })))
 
 -- a step that is read was written
-pub event-was : (line : ℕ) (s : List ℕ) (t p a k : ℕ) → eventAt line s ≡ Step t p a k
-    → EventTook s (record { time = t; process = p; action = a }) k
+pub event-was : (line : ℕ) (s : List ℕ) (t p a k : ℕ) → eventAt line s ≡ Step t p a k → EventTook s (event t p a) k
 event-was line s t p a k e = rw e at (row-tells line s)
 
 -- a step that is written is read
@@ -113,45 +223,6 @@ event-reads line e s h =
       number-reads timeBound comma (omega arith),
       number-reads numberBound comma (omega arith),
       word-reads,
-      drop-append-seam,
-      length-append,
-      add-assoc,
-    )
-
--- The values
-
--- what a reading of values tells of the text that they were read from
-abbrev pub ValuesTell : List ℕ → Head → Type 0
-ValuesTell s (Values n a b c k) = Took s (valuesText n a b c) k
-ValuesTell s (Refused code line) = Unit
-
-pub values-tell : (s : List ℕ) → ValuesTell s (valuesAt s)
-unfolding valuesAt valuesText
-values-tell s =
-    by-opened (ValuesTell s) (numberAt numberBound comma s) tt (λ n i e1.
-    by-opened (ValuesTell s) (numberAt numberBound comma (drop i s)) tt (λ a j e2.
-    by-opened (ValuesTell s) (numberAt numberBound comma (drop j (drop i s))) tt (λ b k e3.
-    by-opened (ValuesTell s) (numberAt numberBound newline (drop k (drop j (drop i s)))) tt (λ c l e4.
-    let w1 = number-was numberBound comma s n i (omega arith) e1 in
-    let w2 = number-was numberBound comma (drop i s) a j (omega arith) e2 in
-    let w3 = number-was numberBound comma (drop j (drop i s)) b k (omega arith) e3 in
-    let w4 = number-was numberBound newline (drop k (drop j (drop i s))) c l (omega arith) e4 in
-    let sum : i + j + k + l ≡ i + (j + (k + l)) = omega arith in
-    rw sum (took-both (w1 .0) (took-both (w2 .0) (took-both (w3 .0) (w4 .0))))))))
-
--- values that are read were written
-pub values-was : (s : List ℕ) (n a b c k : ℕ) → valuesAt s ≡ Values n a b c k → Took s (valuesText n a b c) k
-values-was s n a b c k e = rw e at (values-tell s)
-
--- values that are written are read
-pub values-reads : (n a b c : ℕ) (s : List ℕ) → n < numberBound → a < numberBound → b < numberBound → c < numberBound
-    → valuesAt (valuesText n a b c ++ s) ≡ Values n a b c (length (valuesText n a b c))
-unfolding valuesAt valuesText
-values-reads n a b c s hn ha hb hc =
-    simp (
-      append-assoc,
-      number-reads numberBound comma (omega arith),
-      number-reads numberBound newline (omega arith),
       drop-append-seam,
       length-append,
       add-assoc,

@@ -1,13 +1,14 @@
 -- Section 6 of the specification, the grammar from a second side: which texts are read, said by what is written. Assumes nothing.
-use Prim.Native.Nat.{ℕ, _≤_}
+use Prim.Native.Nat.{ℕ, _+_, _≤_}
 use mathlib.Core.Path.{_≡_}
 use mathlib.Core.Logic.{_↔_}
 use mathlib.Core.Bool.{true}
 use mathlib.Core.List.{List}
 use lib.ListN.{length}
 use Rattle.model.specs.declared.Parameters.{Parameters}
+use Rattle.model.specs.Acts.{lastAct}
 use Rattle.model.specs.States.{parametersStand}
-use Rattle.model.specs.Texts.{Event, firstLine, traceText, textLimit}
+use Rattle.model.specs.Texts.{words, Event, firstLine, traceText, textLimit}
 use Rattle.model.specs.Readings.{trace, traceOf}
 use Rattle.model.specs.Writings.{formlessFrom}
 
@@ -27,3 +28,7 @@ pub record Says (text : List ℕ) (line : ℕ) (k : Parameters) (events : List E
 -- [6.190] [6.125] of a text that is read
 abbrev pub ReadExactly : Type 0
 ReadExactly = (text : List ℕ) (line : ℕ) (k : Parameters) (events : List Event) → (traceOf text ≡ trace line k events) ↔ Says text line k events
+
+-- [3.40] [6.70] there is a word for each action, and no other
+abbrev pub WordForEachAct : Type 0
+WordForEachAct = length words ≡ lastAct + 1

@@ -9,7 +9,8 @@ use lib.ListN.{length}
 use Rattle.model.specs.declared.Parameters.{Parameters}
 use Rattle.model.specs.States.{countStands, limitsStand, parametersStand}
 use Rattle.model.specs.Texts.{numberBound, Event, valueNames, valuesText, eventNames, eventText, headText, firstLine, eventsText, hasForm, textLimit}
-use Rattle.model.specs.Readings.{refused, traceOf}
+use Rattle.model.specs.Answers.{answerOf}
+use Rattle.model.specs.Readings.{refused, traceOf, Lists, lineTold, readOf}
 use Rattle.model.specs.Writings.{formlessFrom}
 
 -- helper: a text does not start with this one
@@ -29,7 +30,7 @@ pub record Starts (text : List ℕ) (k : Parameters) (rest : List ℕ) : Type 0 
   pub is : text ≡ valueNames ++ (valuesText k ++ rest)
 
 -- [6.195] [6.90] [7.35] The number of a refusal and the line that it is reported at, each with what it says of the text; what would be
--- refused before it is ruled out, but for nine digits on line 2, which 11 and 12 leave to `afterValues`.
+-- refused before it is ruled out, but for nine digits on line 2, which 11 and 12 leave to `ofValues`.
 pub data Fault (text : List ℕ) : ℕ → ℕ → Type 0 where
   -- [4.15]
   long : textLimit < length text → Fault text 15 0
@@ -53,3 +54,8 @@ pub data Fault (text : List ℕ) : ℕ → ℕ → Type 0 where
 -- [6.195] of a text that is refused
 abbrev pub RefusedFor : Type 0
 RefusedFor = (text : List ℕ) (code line : ℕ) → traceOf text ≡ refused code line → Fault text code line
+
+-- [6.110] [6.195] the answer to a reading of such a text, whatever lists are lent: the code, and the line that a caller is told
+abbrev pub RefusalTold : Type 0
+RefusalTold = (text : List ℕ) (l : Lists) (code line : ℕ) → traceOf text ≡ refused code line
+    → readOf text l .reading .answer ≡ answerOf code 0 (lineTold code line)

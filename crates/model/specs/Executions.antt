@@ -1,9 +1,6 @@
--- Section 7 of the specification, a trace that is run: the answer to each of its steps. `executedOf` is all that running a text gives
--- back. Assumes nothing.
+-- Section 7 of the specification, a trace that is run: its steps from a fresh state on, and the answer to each. Assumes nothing.
 use Prim.Native.Nat.{ℕ}
-use mathlib.Core.Bool.{cond}
 use mathlib.Core.List.{List, [], map}
-use lib.Dec.{eqb}
 use lib.ListN.{length, take}
 use Rattle.model.specs.declared.Parameters.{Parameters}
 use Rattle.model.specs.declared.State.{State}
@@ -11,9 +8,9 @@ use Rattle.model.specs.declared.Answer.{Answer}
 use Rattle.model.specs.declared.Outcome.{Outcome}
 use Rattle.model.specs.declared.Scan.{Scan}
 use Rattle.model.specs.Answers.{answerNumbers, stepOf, freshOf}
-use Rattle.model.specs.Folds.{resultsBy}
+use Rattle.model.specs.Folds.{endBy, resultsBy}
 use Rattle.model.specs.Texts.{Event}
-use Rattle.model.specs.Readings.{Trace, refused, trace, traceOf, Lists, over, Scanned, scannedOf}
+use Rattle.model.specs.Readings.{Lists, over, scannedOf}
 
 -- [7.45] a step of a trace, without a summary
 abbrev pub stepBy : State → Event → Outcome
@@ -23,39 +20,49 @@ stepBy s e = stepOf s (e .action) (e .process) (e .time)
 abbrev pub stateAfter : Outcome → State
 stateAfter o = o .state
 
--- [7.45] what each of these steps gives back, the first in the state s
-abbrev pub outcomesFrom : State → List Event → List Outcome
-outcomesFrom s events = resultsBy stepBy stateAfter s events
+-- [7.45] the state after these steps, the first of which is taken in the state s
+abbrev pub stateFrom : State → List Event → State
+stateFrom s events = endBy stepBy stateAfter s events
 
--- [7.40] [7.45] the answers, from a fresh state on
-abbrev pub answersFrom : Parameters → List Event → List Answer
-answersFrom k events = map (λ (o : Outcome). o .answer) (outcomesFrom (freshOf k .state) events)
+-- [7.40] [7.45] the answers to them
+abbrev pub answersFrom : State → List Event → List Answer
+answersFrom s events = map (λ (o : Outcome). o .answer) (resultsBy stepBy stateAfter s events)
 
--- [7.40] the answers to the steps that a text says
-abbrev pub answersIn : Trace → List Answer
-answersIn (refused code line) = []
-answersIn (trace line k events) = answersFrom k events
+-- Starting a text
 
--- All that running a text gives back
-
--- helper: what was found of it, the lent lists, and the answers as rows of numbers
-pub record Executed : Type 0 where
+-- helper: what was found of it, the state that its first step is taken in, and the lent lists
+pub record Started : Type 0 where
   pub scan : Scan
+  pub state : State
   pub kept : Lists
+
+-- helper: of its parts
+abbrev pub startGave : Scan → State → Lists → Started
+startGave r s l = record { scan = r; state = s; kept = l }
+
+-- [7.45] a fresh state of the trace's parameters
+abbrev pub firstState : Scan → State
+firstState r = freshOf (r .parameters) .state
+
+-- [7.46] as a whole
+unfoldable pub startedOf : List ℕ → Lists → Started
+startedOf text l = startGave (scannedOf text l .scan) (firstState (scannedOf text l .scan)) (scannedOf text l .kept)
+
+-- Running steps
+
+-- helper: the state after them, and the rows of their answers
+pub record Executed : Type 0 where
+  pub state : State
   pub answers : List (List ℕ)
 
 -- helper: of its parts
-abbrev pub executedGave : Scan → Lists → List (List ℕ) → Executed
-executedGave r l answers = record { scan = r; kept = l; answers = answers }
+abbrev pub executedGave : State → List (List ℕ) → Executed
+executedGave s rows = record { state = s; answers = rows }
 
--- helper: the answers in the first rows, as many as there are rows
-abbrev pub answersOver : List Answer → List (List ℕ) → List (List ℕ)
-answersOver rs rows = over (take (length rows) (map answerNumbers rs)) rows
+-- helper: all of these steps, with a row for each
+abbrev pub executedAll : State → List Event → List (List ℕ) → Executed
+executedAll s events rows = executedGave (stateFrom s events) (over (map answerNumbers (answersFrom s events)) rows)
 
--- helper: of a text that was scanned; where it is refused no step is run
-abbrev pub ranScanned : Trace → Scanned → List (List ℕ) → Executed
-ranScanned t r rows = executedGave (r .scan) (r .kept) (cond (eqb (r .scan .code) 0) (answersOver (answersIn t) rows) rows)
-
--- [7.40] [7.45] as a whole
-unfoldable pub executedOf : List ℕ → Lists → List (List ℕ) → Executed
-executedOf text l rows = ranScanned (traceOf text) (scannedOf text l) rows
+-- [7.47] as many of them as there are rows
+unfoldable pub executedOf : State → List Event → List (List ℕ) → Executed
+executedOf s events rows = executedAll s (take (length rows) events) rows

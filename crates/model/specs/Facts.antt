@@ -1,5 +1,5 @@
--- The terms of the specification as plain facts about a state: what the theorems speak in. They use none of the tests that the
--- step is defined by, so that the theorems check those from a second side. Assumes nothing.
+-- The terms of the specification as plain facts about a state: what the theorems speak in. But for where a state comes from they use
+-- none of the tests that the step is defined by, so that the theorems check those from a second side. Assumes nothing.
 use Prim.Native.Nat.{ℕ, _+_, _≤_}
 use mathlib.Core.Path.{_≡_}
 use mathlib.Core.Bool.{true}
@@ -15,7 +15,7 @@ use Rattle.model.specs.Answers.{freshOf}
 abbrev pub Accepted : Outcome → Type 0
 Accepted o = o .answer .code ≡ 0
 
--- [2.65] s is a fresh state, and the call for it was accepted
+-- [2.65] [8.10] s is a fresh state, and the call for it was accepted
 pub record IsFresh (s : State) : Type 0 where
   pub parameters : Parameters
   pub accepted : Accepted (freshOf parameters)

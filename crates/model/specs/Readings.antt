@@ -72,7 +72,8 @@ lineOf line numbers size = record { code = 0; line = line; numbers = numbers; si
 abbrev pub lineFails : ℕ → Line
 lineFails line = record { code = 14; line = line; numbers = replicate 4 0; size = 0 }
 
--- [6.30] [6.80] `more` numbers and then the last one of a line, to place i of `got` and on, after `at` bytes
+-- [6.30] [6.80] `more` numbers and then the last one of a line, to place i of `got` and on, after `at` bytes; `got` has places for four,
+-- and no line of a trace has more
 unfoldable pub numbersFrom : ℕ → ℕ → ℕ → ℕ → List ℕ → List ℕ → Line
 numbersFrom line zero i at got s = opened (numberAt numberBound newline s) (lineFails line) (λ v k. lineOf line (set got i v) (at + k))
 numbersFrom line (suc more) i at got s =
@@ -88,7 +89,7 @@ numbersAt line more s = numbersFrom line more 0 0 (replicate 4 0) s
 abbrev pub scanOf : ℕ → Parameters → ℕ → Scan
 scanOf line k size = record { code = 0; line = line; parameters = k; size = size }
 
--- [6.90] [7.35] a refusal's code and the line that it is reported at
+-- [6.145] [7.35] a refusal's code and the line that it is reported at
 abbrev pub scanFails : ℕ → ℕ → Scan
 scanFails code line = record { code = code; line = line; parameters = noParameters; size = 0 }
 
@@ -96,7 +97,7 @@ scanFails code line = record { code = code; line = line; parameters = noParamete
 abbrev pub parametersIn : List ℕ → Parameters
 parametersIn l = parametersOf (getD l 0 0) (getD l 1 0) (getD l 2 0) (getD l 3 0)
 
--- [6.90] [6.120] [6.15] [6.40] [4.11] [4.12] [4.13] [7.35] the parameters of line 2, 11 and 12, and then line 3, which stands after
+-- [6.90] [6.100] [6.15] [6.40] [4.11] [4.12] [4.13] [7.35] the parameters of line 2, 11 and 12, and then line 3, which stands after
 -- the `size` bytes of line 2
 abbrev pub afterValues : List ℕ → ℕ → Parameters → Scan
 afterValues text size k =
@@ -105,11 +106,11 @@ afterValues text size k =
     (cond (not (startsWith eventNames (drop (length valueNames + size) text))) (scanFails 13 3)
     (scanOf (firstLine k) k (length valueNames + size + length eventNames))))
 
--- [6.90] [6.100] line 2 as it was read
+-- [6.90] [6.100] [6.120] [4.14] line 2 as it was read
 abbrev pub ofValues : List ℕ → Line → Scan
 ofValues text l = cond (not (eqb (l .code) 0)) (scanFails (l .code) (l .line)) (afterValues text (l .size) (parametersIn (l .numbers)))
 
--- [6.90] [6.100] [6.110] [6.15] [6.20] [4.13] [4.15] the parameters, the line of the first step, and how many bytes the first lines
+-- [6.90] [6.100] [6.15] [6.20] [4.13] [4.15] [7.35] the parameters, the line of the first step, and how many bytes the first lines
 -- take; or the first refusal
 unfoldable pub headOf : List ℕ → Scan
 headOf text =
@@ -217,7 +218,7 @@ into l (refused code line) = scanGave (scanFails code line) l
 into l (trace line k events) =
     cond (ltb (room l) (length events)) (scanGave (scanFails 16 0) l) (scanGave (scanOf line k (length events)) (stored events l))
 
--- [6.90] [6.130] all that a scan of a text gives back
+-- [6.90] [6.130] [6.145] all that a scan of a text gives back
 unfoldable pub scannedOf : List ℕ → Lists → Scanned
 scannedOf text l = into l (traceOf text)
 

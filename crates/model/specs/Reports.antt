@@ -1,8 +1,7 @@
 -- Section 7 of the specification: what `replay` prints, and `reportOf`, all that a report gives back. Assumes nothing.
 use Prim.Native.Nat.{ℕ, _+_}
-use mathlib.Core.List.{List, [], _∷_, _++_}
-use Rattle.model.specs.declared.Answer.{Answer}
-use Rattle.model.specs.Answers.{answerNumbers}
+use mathlib.Core.List.{List, [], _∷_, _++_, map}
+use Rattle.model.specs.Answers.{answerNumbers, freshOf}
 use Rattle.model.specs.Texts.{bytes, numbersText}
 use Rattle.model.specs.Readings.{Trace, refused, trace, traceOf}
 use Rattle.model.specs.Writings.{Written, fitted}
@@ -12,19 +11,15 @@ use Rattle.model.specs.Executions.{answersFrom}
 abbrev pub answerNames : List ℕ
 answerNames = bytes "line,answer,window,moment\n"
 
--- [7.40] [7.25] the line for a step
-abbrev pub answerText : ℕ → Answer → List ℕ
-answerText line r = numbersText line (answerNumbers r)
-
--- [7.40] the lines for the answers to steps of which the first has this line
-unfoldable pub answersText : ℕ → List Answer → List ℕ
-answersText line [] = []
-answersText line (r ∷ rs) = answerText line r ++ answersText (line + 1) rs
+-- [7.25] [7.40] a line for each row of numbers, after the number of a line, which for the first of them is this
+unfoldable pub rowsText : ℕ → List (List ℕ) → List ℕ
+rowsText line [] = []
+rowsText line (row ∷ rows) = numbersText line row ++ rowsText (line + 1) rows
 
 -- [7.30] [7.35] [7.40] [7.45] what follows the first line
 abbrev pub reportLines : Trace → List ℕ
 reportLines (refused code line) = numbersText line (code ∷ 0 ∷ 0 ∷ [])
-reportLines (trace line k events) = answersText line (answersFrom k events)
+reportLines (trace line k events) = rowsText line (map answerNumbers (answersFrom (freshOf k .state) events))
 
 -- [7.15] [7.20] the whole report
 unfoldable pub reportText : List ℕ → List ℕ

@@ -117,7 +117,7 @@ deadline s i q = sinceOf (q .location) + cond (eqb (stageOf (q .location)) check
 abbrev pub release : State → Process → ℕ
 release s q = sinceOf (q .location) + cond (eqb (stageOf (q .location)) checking) (s .parameters .b) 0
 
--- [4.8] [2.120] the deadline, if there is one, is before the time m
+-- [2.120] the deadline, if there is one, is before the time m
 abbrev pub late : State → ℕ → ℕ → Process → Bool
 late s m i q = bounded s q && ltb (deadline s i q) m
 

@@ -1,5 +1,5 @@
 // The declared types of the lock. What they mean, and every definition that a contract cites, stands in `specs/`,
-// one to three files for each of sections 2 to 9 of the specification; this crate has no function.
+// one to three files for each of sections 2 to 8 of the specification; this crate has no function.
 
 // [2.70] [2.80] [21.20] Where a process is; the timed locations carry the time since which it is there.
 pub enum Location {
@@ -72,7 +72,7 @@ pub enum Row {
     Unread(u64, u64),
 }
 
-// [6.30] [21.10] A line of numbers, four at most: they stand first, zeros after them, and `size` is how many bytes the line takes; or a
+// [6.30] A line of numbers, four at most: they stand first, zeros after them, and `size` is how many bytes the line takes; or a
 // refusal's code, which is not 0, and line.
 pub struct Line {
     pub code: u64,
@@ -81,7 +81,7 @@ pub struct Line {
     pub size: usize,
 }
 
-// [6.20] [6.30] [6.40] [6.50] What is found of a text: its parameters, the line of its first step, and a size, that of the first lines in
+// [6.145] What is found of a text: its parameters, the line of its first step, and a size, that of the first lines in
 // bytes or that of all in steps; or a refusal's code, which is not 0, and the line that it is reported at. It is no enum, which could not
 // hold an array: parameters may come to hold one.
 pub struct Scan {
@@ -91,7 +91,7 @@ pub struct Scan {
     pub size: usize,
 }
 
-// [6.130] What a reading answers; the parameters are 0 where it is refused.
+// [6.130] [6.140] What a reading answers; the parameters are 0 where it is refused.
 #[repr(C)]
 pub struct Reading {
     pub answer: Answer,

@@ -18,6 +18,9 @@ ghost use Rattle.report.specs.Rows.{rowsText};
 // [9.115] No recording has more steps: 65,536 bytes less those of the first lines, eight a step.
 const MOST_STEPS: usize = 8187;
 
+// How many steps are taken before their lines are put; more did not make it faster.
+const ROWS: usize = 64;
+
 // [7.55] No report has more bytes: the names line, and at most 84 a step.
 const MOST_BYTES: usize = 687734;
 
@@ -28,11 +31,11 @@ fn list() -> [u64; 8187]
     [0; MOST_STEPS]
 }
 
-// Room for the answers to them.
-fn rows() -> [[u64; 3]; 8187]
-    ensures { λ r. ⌜ 8187 ≡ length r ⌝ }
+// Room for the answers to some of them: they are taken as many at a time.
+fn rows() -> [[u64; 3]; 64]
+    ensures { λ r. ⌜ 64 ≡ length r ⌝ }
 {
-    [[0; 3]; MOST_STEPS]
+    [[0; 3]; ROWS]
 }
 
 // [7.25] One line of a report, which has at most 84 bytes: four numbers of at most 20 digits, and their ends.
@@ -43,19 +46,57 @@ fn put_line(out: &mut [u8], at: u32, line: u64, row: [u64; 3]) -> usize
     put_numbers(out, at, line, &row)
 }
 
-// [7.40] Puts a line for each row after the names line; the first has the number `line`.
-fn put_rows(out: &mut [u8], line: u64, answers: &[[u64; 3]]) -> usize
-    requires { ⌜ line ≤ 65536 ⌝ }
-    requires { ⌜ length (now answers) ≤ 8187 ⌝ }
-    ensures { λ r. ⌜ Put (now (out .entry)) (now (out .exit)) 26 (rowsText line (now (answers .entry))) r ⌝ }
-    ensures { λ r. ⌜ r ≤ 687708 ⌝ }
+// [7.40] Puts a line for each row from place `at` on; the first has the number `line`.
+fn put_rows(out: &mut [u8], at: u32, line: u64, answers: &[[u64; 3]]) -> usize
+    requires { ⌜ (at ≤ 687734) × (line ≤ 4294967296) × (length (now answers) ≤ 64) ⌝ }
+    ensures { λ r. ⌜ Put (now (out .entry)) (now (out .exit)) at (rowsText line (now (answers .entry))) r ⌝ }
+    ensures { λ r. ⌜ r ≤ 84 * length (now (answers .entry)) ⌝ }
 {
     let mut size: usize = 0;
     let mut i: usize = 0;
     while i < answers.len() {
-        let at = (size + 26) as u32;
-        size += put_line(out, at, line + (i as u64), answers[i]);
+        let place = (at as usize) + size;
+        size += put_line(out, place as u32, line + (i as u64), answers[i]);
         i += 1;
+    }
+    size
+}
+
+// [7.40] [7.45] Takes the steps in the lists, at most 8,187, from a state on, and puts a line for each after the names line.
+fn put_run(
+    out: &mut [u8],
+    first: State,
+    line: u64,
+    times: &[u64],
+    processes: &[u64],
+    actions: &[u64],
+) -> usize
+    requires { ⌜ (line ≤ 65536) × (length (now times) ≤ 8187) ⌝ }
+    requires { ⌜ (length (now processes) ≡ length (now times)) × (length (now actions) ≡ length (now times)) ⌝ }
+    ensures { λ r. ⌜ Put (now (out .entry)) (now (out .exit)) 26
+        (runText line first (eventsOf (lent (times .entry) (processes .entry) (actions .entry)))) r ⌝ }
+    ensures { λ r. ⌜ r ≤ 687708 ⌝ }
+{
+    let mut answers = rows();
+    let mut state = first;
+    let mut size: usize = 0;
+    let mut i: usize = 0;
+    while i < times.len() {
+        let count = least(ROWS, times.len() - i);
+        state = run_steps(
+            state,
+            &times[i..],
+            &processes[i..],
+            &actions[i..],
+            &mut answers,
+        );
+        size += put_rows(
+            out,
+            (size + 26) as u32,
+            line + (i as u64),
+            &answers[..count],
+        );
+        i += count;
     }
     size
 }
@@ -68,14 +109,22 @@ fn put_report(text: &[u8], out: &mut [u8]) -> usize
     let mut times = list();
     let mut processes = list();
     let mut actions = list();
-    let mut answers = rows();
     let names = put_text(out, 0, b"line,answer,window,moment\n");
-    let found = execute(text, &mut times, &mut processes, &mut actions, &mut answers);
+    let started = start(text, &mut times, &mut processes, &mut actions);
+    let found = started.found;
     if found.code != 0 {
         return names + put_line(out, 26, found.line, [found.code, 0, 0]);
     }
     let count = found.size;
-    names + put_rows(out, found.line, &answers[..count])
+    let lines = put_run(
+        out,
+        started.state,
+        found.line,
+        &times[..count],
+        &processes[..count],
+        &actions[..count],
+    );
+    names + lines
 }
 
 // [7.50] [7.55] [21.110] Writes what `replay` prints for a recording. An output that may be too short is measured first, so that it stays;

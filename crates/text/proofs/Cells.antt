@@ -1,11 +1,17 @@
 -- The table of the acts' words in the code is that of the definitions. Assumes nothing.
 use Prim.Native.Nat.{ℕ, _+_, _-_, _*_, _≤_, _<_}
-use mathlib.Core.Path.{_≡_, refl}
+use mathlib.Core.Path.{_≡_, refl, ap, _∙_}
+use mathlib.Core.Bool.{Bool, true, _&&_}
 use mathlib.Core.List.{List, [], _∷_, _++_}
 use native.Mathlib.Omega.{arith}
-use lib.ListN.{length, getD, take, drop}
+use lib.Dec.{leb, eqb}
+use lib.ListN.{length, getD, take, drop, length-append}
+use lib.Seq.{take-append-seam}
 use Rattle.model.specs.Texts.{bytes, newline, words}
-use Rattle.grammar.proofs.Fields.{each-word}
+use Rattle.model.specs.Readings.{startsWith}
+use Rattle.model.proofs.Tests.{tests}
+use Rattle.grammar.proofs.Tables.{every, every-at}
+use Rattle.grammar.proofs.Fields.{starts-took}
 
 -- the constants of `words`
 abbrev pub cells : List ℕ
@@ -20,11 +26,18 @@ pub record Cell (a : ℕ) : Type 0 where
   pub wide : getD widths a 0 ≡ length (getD words a []) + 1
   pub fits : getD widths a 0 ≤ 6
 
+-- the same as a test, where w is the word
+abbrev right : ℕ → List ℕ → Bool
+right a w = startsWith (w ++ (newline ∷ [])) (drop (a * 6) cells) && eqb (getD widths a 0) (length w + 1) && leb (getD widths a 0) 6
+
+all-right : every right 0 words ≡ true
+unfolding startsWith
+all-right = refl
+
 pub cell : (a : ℕ) → a < length words → Cell a
 cell a h =
-    each-word Cell
-    (record { holds = refl; wide = refl; fits = omega arith }) (record { holds = refl; wide = refl; fits = omega arith })
-    (record { holds = refl; wide = refl; fits = omega arith }) (record { holds = refl; wide = refl; fits = omega arith })
-    (record { holds = refl; wide = refl; fits = omega arith }) (record { holds = refl; wide = refl; fits = omega arith })
-    (record { holds = refl; wide = refl; fits = omega arith }) (record { holds = refl; wide = refl; fits = omega arith })
-    (record { holds = refl; wide = refl; fits = omega arith }) a h
+    let line : List ℕ = getD words a [] ++ (newline ∷ []) in
+    let t = simp tests at (every-at right words [] all-right a h) in
+    let size : a * 6 + getD widths a 0 - a * 6 ≡ length line = omega (arith, t .0 .1, length-append (getD words a []) (newline ∷ [])) in
+    let split = starts-took line (drop (a * 6) cells) (t .0 .0) .split in
+    record { holds = rw size (ap (take (length line)) split ∙ take-append-seam line _); wide = t .0 .1; fits = t .1 }

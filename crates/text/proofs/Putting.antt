@@ -1,16 +1,16 @@
 -- Laws of putting texts into a lent output, and how wide the texts are at most. Assumes nothing.
 use Prim.Native.Nat.{ℕ, zero, suc, _+_, _^_, _≤_, _<_, max}
 use mathlib.Core.Path.{_≡_, refl, sym, ap, _∙_}
-use mathlib.Core.List.{List, [], _∷_, _++_}
+use mathlib.Core.List.{List, [], _∷_, _++_, append-nil}
 use native.Mathlib.Omega.{arith}
 use native.Mathlib.Nat.{add-zero, zero-add}
-use lib.ListN.{length, getD, set, drop, length-append}
-use lib.Seq.{sets, sets-eq, length-sets}
-use Rattle.model.specs.Texts.{Event, decimal, comma, newline, numberText, words, wordText, valuesText, eventText, headText}
+use lib.ListN.{length, getD, set, take, drop, length-append}
+use lib.Seq.{sets, sets-eq, length-sets, take-all}
+use Rattle.model.specs.Texts.{decimal, comma, newline, numberText, words, wordText, numbersText}
 use Rattle.model.specs.Readings.{over}
-use Rattle.model.proofs.Lists.{drop-at}
+use Rattle.model.proofs.Lists.{drop-at, drop-end}
 use Rattle.grammar.proofs.Digits.{digits-word}
-use Rattle.text.specs.Puts.{Put}
+use Rattle.text.specs.Puts.{mostNumbers, Put}
 
 pub sets-append : (xs ys l : List ℕ) (i : ℕ) → sets l i (xs ++ ys) ≡ sets (sets l i xs) (i + length xs) ys
 sets-append [] ys l i = rw add-zero
@@ -62,6 +62,10 @@ pub record Left (old : List ℕ) (start : ℕ) (whole new : List ℕ) (at : ℕ)
 pub left-all : {old : List ℕ} {start : ℕ} {whole : List ℕ} → Left old start whole old start whole
 left-all = record { ends = refl; same = refl; stored = refl }
 
+-- at the start, of which nothing is put
+pub left-none : {old : List ℕ} {start : ℕ} {whole : List ℕ} → Left old start whole old (start + 0) whole
+left-none = rw add-zero left-all
+
 -- one text more is put
 pub left-next : {old whole mid new x y : List ℕ} {start at k : ℕ}
     → Left old start whole mid at (x ++ y) → Put mid new at x k → Left old start whole new (at + k) y
@@ -75,6 +79,29 @@ left-next {mid = mid} {x = x} {y = y} {at = at} f p =
 -- nothing is left
 pub left-done : {old whole new : List ℕ} {start at k : ℕ} → Left old start whole new at [] → at ≡ start + k → Put old new start whole k
 left-done f e = record { stored = f .stored; wide = omega (arith, f .ends) }
+
+-- the last text is put
+pub left-last : {old whole mid new x : List ℕ} {start at k n : ℕ}
+    → Left old start whole mid at x → Put mid new at x k → at + k ≡ start + n → Put old new start whole n
+left-last {x = x} f p e = left-done (left-next {y = []} (rw append-nil f) p) e
+
+-- Lines of numbers
+
+-- of a line that is short enough all are put
+pub all-numbers : (ws : List ℕ) → length ws < 2 ^ 32 → take mostNumbers ws ≡ ws
+unfolding mostNumbers
+all-numbers ws h = take-all mostNumbers ws (omega arith)
+
+-- v is the next to be put, and those of ws from the i-th on follow it
+
+module _ (v : ℕ) (ws : List ℕ) (i : ℕ) where
+  pub numbers-at : i < length ws → numbersText v (drop i ws) ≡ numberText comma v ++ numbersText (getD ws i 0) (drop (i + 1) ws)
+  unfolding numbersText
+  numbers-at h = rw (drop-at ws i 0 h)
+
+  pub numbers-end : length ws ≤ i → i ≤ length ws → numbersText v (drop i ws) ≡ numberText newline v
+  unfolding numbersText
+  numbers-end h g = rw (drop-end ws i h g)
 
 -- Widths
 
@@ -98,20 +125,3 @@ longest-at (w ∷ ws) (suc i) = omega (arith, longest-at ws i)
 pub word-width : (action : ℕ) → length (wordText action) ≤ 6
 unfolding wordText
 word-width action = omega (arith, length-append (getD words action []) (newline ∷ []), longest-at words action)
-
--- four numbers
-pub values-width : (n a b c : ℕ) → n < 2 ^ 64 → a < 2 ^ 64 → b < 2 ^ 64 → c < 2 ^ 64 → length (valuesText n a b c) ≤ 84
-unfolding valuesText
-values-width n a b c hn ha hb hc =
-    simp length-append
-    (omega (arith, number-width n comma hn, number-width a comma ha, number-width b comma hb, number-width c newline hc))
-
-pub event-width : (e : Event) → e .time < 2 ^ 64 → e .process < 2 ^ 64 → length (eventText e) ≤ 48
-unfolding eventText
-event-width e ht hp =
-    simp length-append
-    (omega (arith, number-width (e .time) comma ht, number-width (e .process) comma hp, word-width (e .action)))
-
-pub head-width : (n a b c : ℕ) → n < 2 ^ 64 → a < 2 ^ 64 → b < 2 ^ 64 → c < 2 ^ 64 → length (headText n a b c) ≤ 114
-unfolding headText
-head-width n a b c hn ha hb hc = simp length-append (omega (arith, values-width n a b c hn ha hb hc))

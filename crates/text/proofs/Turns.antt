@@ -1,14 +1,16 @@
 -- One turn of each loop over bytes, said of the definitions that the loops compute. Assumes nothing.
-use Prim.Native.Nat.{ℕ, _+_, _-_, _*_, _≤_, _<_}
+use Prim.Native.Nat.{ℕ, suc, _+_, _-_, _*_, _≤_, _<_}
 use mathlib.Core.Path.{_≡_}
 use mathlib.Core.Bool.{false, cond, _&&_, _||_}
 use mathlib.Core.List.{List, [], _∷_, _++_}
+use native.Mathlib.Omega.{arith}
 use lib.Dec.{leb, ltb, eqb}
-use lib.ListN.{length, getD, drop}
+use lib.ListN.{length, getD, drop, set}
+use lib.Seq.{drop-drop}
 use Rattle.model.specs.declared.Field.{Field}
 use Rattle.model.specs.declared.Field.the-variants.{Value, Bad}
-use Rattle.model.specs.Texts.{newline, words}
-use Rattle.model.specs.Readings.{startsWith, numberFrom, wordFrom}
+use Rattle.model.specs.Texts.{comma, newline, numberBound, words}
+use Rattle.model.specs.Readings.{startsWith, numberFrom, numberAt, wordFrom, lineOf, lineFails, numbersFrom}
 use Rattle.model.proofs.Lists.{drop-at, drop-end}
 
 module _ (w s : List ℕ) (i : ℕ) (hw : i < length w) where
@@ -40,3 +42,27 @@ pub word-at : (a : ℕ) (s : List ℕ) → a < length words
     ≡ cond (startsWith (getD words a [] ++ (newline ∷ [])) s) (Value a (length (getD words a []) + 1)) (wordFrom (a + 1) (drop (a + 1) words) s)
 unfolding wordFrom
 word-at a s h = rw (drop-at words a [] h)
+
+-- A line of numbers, of which `got` has the first i: they took the first `at` bytes of s, and `more` end with a comma
+
+module _ (line more i at : ℕ) (got s : List ℕ) where
+  pub numbers-next : (v k : ℕ) → i < more → numberAt numberBound comma (drop at s) ≡ Value v k
+      → numbersFrom line (more - i) i at got (drop at s) ≡ numbersFrom line (more - (i + 1)) (i + 1) (at + k) (set got i v) (drop (at + k) s)
+  unfolding numbersFrom
+  numbers-next v k h e = let q : more - i ≡ suc (more - (i + 1)) = omega arith in rw (q, e, ← drop-drop k at s)
+
+  pub numbers-bad : i < more → numberAt numberBound comma (drop at s) ≡ Bad
+      → numbersFrom line (more - i) i at got (drop at s) ≡ lineFails line
+  unfolding numbersFrom
+  numbers-bad h e = let q : more - i ≡ suc (more - (i + 1)) = omega arith in rw (q, e)
+
+  module _ (h : more ≤ i) where
+    pub numbers-last : (v k : ℕ) → numberAt numberBound newline (drop at s) ≡ Value v k
+        → numbersFrom line (more - i) i at got (drop at s) ≡ lineOf line (set got i v) (at + k)
+    unfolding numbersFrom
+    numbers-last v k e = let q : more - i ≡ 0 = omega arith in rw (q, e)
+
+    pub numbers-none : numberAt numberBound newline (drop at s) ≡ Bad
+        → numbersFrom line (more - i) i at got (drop at s) ≡ lineFails line
+    unfolding numbersFrom
+    numbers-none e = let q : more - i ≡ 0 = omega arith in rw (q, e)

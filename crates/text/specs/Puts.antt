@@ -10,3 +10,7 @@ use lib.Seq.{sets}
 pub record Put (old new : List ℕ) (at : ℕ) (text : List ℕ) (width : ℕ) : Type 0 where
   pub stored : new ≡ sets old at text
   pub wide : width ≡ length text
+
+-- helper: so many numbers at most follow the first of a line that is put
+unfoldable pub mostNumbers : ℕ
+mostNumbers = 4_294_967_295

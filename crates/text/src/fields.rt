@@ -9,16 +9,17 @@ ghost use mathlib.Core.Path.{_≡_};
 ghost use mathlib.Core.Bool.{_&&_};
 ghost use Prim.Native.Nat.{_≤_};
 ghost use lib.Dec.{eqb, ltb};
+ghost use Rattle.model.specs.Texts.{comma, timeBound, numberBound};
 ghost use Rattle.model.specs.Readings.{startsWith, numberAt, wordAt};
 
 // [6.65] A time is below this.
-pub(crate) const TIME_BOUND: u64 = 10000000000000;
+pub const TIME_BOUND: u64 = 10000000000000;
 
 // [6.65] Other numbers are below this.
-pub(crate) const NUMBER_BOUND: u64 = 100000000;
+pub const NUMBER_BOUND: u64 = 100000000;
 
 // s starts with w.
-pub(crate) fn starts_with(s: &[u8], w: &[u8]) -> bool
+pub fn starts_with(s: &[u8], w: &[u8]) -> bool
     ensures { λ r. ⌜ r ≡ startsWith (now (w .entry)) (now (s .entry)) ⌝ }
 {
     let mut i: usize = 0;
@@ -51,7 +52,7 @@ fn wide(x: u8) -> u64
 }
 
 // [6.60] [6.65] A number below `bound`, up to the byte `end`. The bound on the bound keeps the next digit's value from overflowing.
-pub(crate) fn number_at(s: &[u8], bound: u64, end: u8) -> Field
+fn number_below(s: &[u8], bound: u64, end: u8) -> Field
     requires { ⌜ bound ≤ 10000000000000 ⌝ }
     ensures { λ r. ⌜ r ≡ numberAt bound end (now (s .entry)) ⌝ }
 {
@@ -84,8 +85,22 @@ pub(crate) fn number_at(s: &[u8], bound: u64, end: u8) -> Field
     Field::Bad
 }
 
+// [6.50] [6.65] A time, up to a comma.
+pub fn time_at(s: &[u8]) -> Field
+    ensures { λ r. ⌜ r ≡ numberAt timeBound comma (now (s .entry)) ⌝ }
+{
+    number_below(s, TIME_BOUND, b',')
+}
+
+// [6.60] [6.65] Any other number, up to the byte `end`.
+pub fn number_at(s: &[u8], end: u8) -> Field
+    ensures { λ r. ⌜ r ≡ numberAt numberBound end (now (s .entry)) ⌝ }
+{
+    number_below(s, NUMBER_BOUND, end)
+}
+
 // [6.70] The action whose word fills the line.
-pub(crate) fn word_at(s: &[u8]) -> Field
+pub fn word_at(s: &[u8]) -> Field
     ensures { λ r. ⌜ r ≡ wordAt (now (s .entry)) ⌝ }
 {
     let cells = CELLS;

@@ -7,7 +7,7 @@ use crate::words::WIDTHS;
 ghost use mathlib.Core.Path.{_≡_};
 ghost use Prim.Native.Nat.{_+_};
 ghost use lib.ListN.{set};
-ghost use Rattle.model.specs.Texts.{decimal, numberText, wordText, valuesText, eventText};
+ghost use Rattle.model.specs.Texts.{decimal, numberText, wordText};
 ghost use Rattle.text.specs.Puts.{Put};
 
 // Stores x at place at + k, where `out` has such a place.
@@ -56,7 +56,7 @@ pub fn put_number(out: &mut [u8], at: usize, v: u64, end: u8) -> usize
 }
 
 // [6.70] The word of an action and the end of its line.
-fn put_word(out: &mut [u8], at: usize, action: u64) -> usize
+pub fn put_word(out: &mut [u8], at: usize, action: u64) -> usize
     ensures { λ r. ⌜ Put (now (out .entry)) (now (out .exit)) at (wordText action) r ⌝ }
 {
     if COUNT <= action {
@@ -67,27 +67,4 @@ fn put_word(out: &mut [u8], at: usize, action: u64) -> usize
     let from = (action as usize) * CELL;
     let to = from + widths[action as usize];
     put_text(out, at, &cells[from..to])
-}
-
-// [6.30] A line of four numbers. The place is a u32 so that no sum of places overflows.
-pub fn put_values(out: &mut [u8], at: u32, n: u64, a: u64, b: u64, c: u64) -> usize
-    ensures { λ r. ⌜ Put (now (out .entry)) (now (out .exit)) at (valuesText n a b c) r ⌝ }
-{
-    let start = at as usize;
-    let i = put_number(out, start, n, b',');
-    let j = put_number(out, start + i, a, b',');
-    let k = put_number(out, start + i + j, b, b',');
-    let l = put_number(out, start + i + j + k, c, b'\n');
-    i + (j + (k + l))
-}
-
-// [6.50] The line of a step.
-pub fn put_event(out: &mut [u8], at: u32, time: u64, process: u64, action: u64) -> usize
-    ensures { λ r. ⌜ Put (now (out .entry)) (now (out .exit)) at (eventText (record { time = time; process = process; action = action })) r ⌝ }
-{
-    let start = at as usize;
-    let i = put_number(out, start, time, b',');
-    let j = put_number(out, start + i, process, b',');
-    let k = put_word(out, start + i + j, action);
-    i + (j + k)
 }

@@ -1,7 +1,7 @@
 // The words of the acts, for the reader and the writer: one table, in the order of the acts' numbers.
 
 // [3.40] How many acts there are.
-pub(crate) const COUNT: u64 = 9;
+pub const COUNT: u64 = 9;
 
 // Each word, with the end of its line, stands at the start of a cell of six bytes.
 pub(crate) const CELL: usize = 6;

@@ -1,9 +1,7 @@
 -- `fields::has_leading_zero` meets its contract. Assumes nothing.
 use borrow.Author.Tests.{eq-eqb, ne-eqb}
-use Rattle.trace.proofs.fields.has_leading_zero.Statement.{statement}
-use Rattle.trace.proofs.fields.has_leading_zero.Tie as tie
-use Rattle.trace.proofs.fields.has_leading_zero.Reads as reads
-use Rattle.trace.proofs.fields.has_leading_zero.Lts as lts
+use Rattle.text.proofs.fields.has_leading_zero.Statement.{statement}
+use Rattle.text.proofs.fields.has_leading_zero.Tie as tie
 
 returns : tie.Need-returns
 returns c = simp (ne-eqb _ _ (c .if1 .taken))

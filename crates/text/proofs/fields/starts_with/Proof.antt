@@ -8,10 +8,8 @@ use lib.ListN.{length, drop}
 use Rattle.model.specs.Readings.{startsWith}
 use Rattle.model.proofs.Lists.{drop-end}
 use Rattle.text.proofs.Turns.{starts-short, starts-at}
-use Rattle.trace.proofs.fields.starts_with.Statement.{statement}
-use Rattle.trace.proofs.fields.starts_with.Tie as tie
-use Rattle.trace.proofs.fields.starts_with.Reads as reads
-use Rattle.trace.proofs.fields.starts_with.Lts as lts
+use Rattle.text.proofs.fields.starts_with.Statement.{statement}
+use Rattle.text.proofs.fields.starts_with.Tie as tie
 
 abbrev Inv-loop : tie.InvT-loop
 Inv-loop s w i₀ i = (i ≤ length w) × (i ≤ length s) × (startsWith (drop i w) (drop i s) ≡ startsWith w s)

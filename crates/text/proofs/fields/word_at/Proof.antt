@@ -11,11 +11,8 @@ use Rattle.model.specs.Readings.{wordFrom, wordAt}
 use Rattle.text.proofs.Cells.{cell}
 use Rattle.text.proofs.Turns.{word-at}
 use borrow.Author.Needs.{needs}
-use Rattle.trace.proofs.fields.word_at.Statement.{statement}
-use Rattle.trace.proofs.fields.word_at.Tie as tie
-use Rattle.trace.proofs.fields.word_at.Reads as reads
-use Rattle.trace.proofs.fields.word_at.Lts as lts
-use Rattle.trace.proofs.fields.starts_with.Reads as starts-with-reads
+use Rattle.text.proofs.fields.word_at.Statement.{statement}
+use Rattle.text.proofs.fields.word_at.Tie as tie
 
 abbrev Inv-loop : tie.InvT-loop
 Inv-loop s cells widths action₀ action = (action ≤ 9) × (wordFrom action (drop action words) s ≡ wordAt s)
@@ -62,7 +59,9 @@ starts-with-requires : tie.Need-starts-with-requires Inv-loop μ-loop
 starts-with-requires c κs = search needs
 
 returns : tie.Need-returns Inv-loop μ-loop
-returns c = rw (cell (c .before .before .before .before .before .loop .action) (c .before .before .before .before .loop-test .taken) .wide) (rw (c .if1 .taken) at (turn (c .before)))
+returns c =
+    let a = c .before .before .before .before .before .loop .action in
+    rw (cell a (c .before .before .before .before .loop-test .taken) .wide) (rw (c .if1 .taken) at (turn (c .before)))
 
 add-action : tie.Need-add-action Inv-loop μ-loop
 add-action c = search needs

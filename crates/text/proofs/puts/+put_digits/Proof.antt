@@ -1,4 +1,4 @@
--- `trace::puts::put_digits` meets its contract: the digits before the last are those of v / 10. Assumes nothing.
+-- `puts::put_digits` meets its contract: the digits before the last are those of v / 10. Assumes nothing.
 use native.Mathlib.Omega.{arith}
 use Prim.Native.Nat.{ℕ, _/_, _<_}
 use Rattle.grammar.proofs.Digits.{decimal-small, decimal-more, digits-word}
@@ -6,12 +6,12 @@ use Rattle.text.proofs.Putting.{put-nothing, put-one, put-both}
 use borrow.Author.Needs.{needs}
 use borrow.Fn.Kinds.{In}
 use borrow.Fn.PlainCycle.{Measures, is, falls, and}
-use Rattle.trace.proofs.puts.put_digits.Reads as put-digits
-use Rattle.trace.proofs.puts.put_digits.Kinds as put-digits-kinds
-use Rattle.trace.proofs.puts.+put_digits.Lts-put_digits as put-digits-lts
-use Rattle.trace.proofs.puts.put_byte.Reads as put-byte-reads
-use Rattle.trace.proofs.puts.+put_digits.{statement}
-use Rattle.trace.proofs.puts.+put_digits.Tie.{close}
+use Rattle.text.proofs.puts.put_digits.Reads as put-digits
+use Rattle.text.proofs.puts.put_digits.Kinds as put-digits-kinds
+use Rattle.text.proofs.puts.+put_digits.Lts-put_digits as put-digits-lts
+use Rattle.text.proofs.puts.put_byte.Reads as put-byte-reads
+use Rattle.text.proofs.puts.+put_digits.{statement}
+use Rattle.text.proofs.puts.+put_digits.Tie.{close}
 
 abbrev μ-put-digits : Measures 1 put-digits-kinds.ps ℕ
 μ-put-digits κs a = a .1 .1 .0

@@ -1,11 +1,11 @@
--- `trace::puts::put_byte` meets its contract: beyond the end there is no place. Assumes nothing.
+-- `puts::put_byte` meets its contract: beyond the end there is no place. Assumes nothing.
 use Prim.Native.Nat.{_+_}
 use mathlib.Core.Path.{sym}
 use native.Mathlib.Omega.{arith}
 use lib.Seq.{set-out}
 use borrow.Author.Needs.{needs}
-use Rattle.trace.proofs.puts.put_byte.Statement.{statement}
-use Rattle.trace.proofs.puts.put_byte.Tie as tie
+use Rattle.text.proofs.puts.put_byte.Statement.{statement}
+use Rattle.text.proofs.puts.put_byte.Tie as tie
 
 sub-if2 : tie.Need-sub-if2
 sub-if2 c = search needs

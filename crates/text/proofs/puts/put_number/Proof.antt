@@ -1,11 +1,11 @@
--- `trace::puts::put_number` meets its contract. Assumes nothing.
+-- `puts::put_number` meets its contract. Assumes nothing.
 use native.Mathlib.Omega.{arith}
 use Rattle.model.specs.Texts.{numberText}
 use Rattle.grammar.proofs.Digits.{digits-word}
 use Rattle.text.proofs.Putting.{put-one, put-both}
 use borrow.Author.Needs.{needs}
-use Rattle.trace.proofs.puts.put_number.Statement.{statement}
-use Rattle.trace.proofs.puts.put_number.Tie as tie
+use Rattle.text.proofs.puts.put_number.Statement.{statement}
+use Rattle.text.proofs.puts.put_number.Tie as tie
 
 put-digits-requires : tie.Need-put-digits-requires
 put-digits-requires c κs = search needs

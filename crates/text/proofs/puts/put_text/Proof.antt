@@ -1,4 +1,4 @@
--- `trace::puts::put_text` meets its contract: what is left to put comes to the same as the whole. Assumes nothing.
+-- `puts::put_text` meets its contract: what is left to put comes to the same as the whole. Assumes nothing.
 use Prim.Native.Nat.{_+_, _-_, _≤_}
 use mathlib.Core.Path.{_≡_, refl, sym, ap, _∙_}
 use native.Mathlib.Omega.{arith}
@@ -8,8 +8,8 @@ use lib.Seq.{sets}
 use Rattle.model.proofs.Lists.{drop-end}
 use Rattle.text.proofs.Putting.{sets-at}
 use borrow.Author.Needs.{needs}
-use Rattle.trace.proofs.puts.put_text.Statement.{statement}
-use Rattle.trace.proofs.puts.put_text.Tie as tie
+use Rattle.text.proofs.puts.put_text.Statement.{statement}
+use Rattle.text.proofs.puts.put_text.Tie as tie
 
 abbrev Inv-loop : tie.InvT-loop
 Inv-loop out₀ at text i₀ out i =

@@ -5,11 +5,8 @@ use lib.ListN.{List·getD-eq-default}
 use Rattle.model.specs.Texts.{words, wordText}
 use Rattle.text.proofs.Cells.{cell}
 use borrow.Author.Needs.{needs}
-use Rattle.trace.proofs.puts.put_word.Statement.{statement}
-use Rattle.trace.proofs.puts.put_word.Tie as tie
-use Rattle.trace.proofs.puts.put_word.Reads as reads
-use Rattle.trace.proofs.puts.put_word.Lts as lts
-use Rattle.trace.proofs.puts.put_text.Reads as put-text-reads
+use Rattle.text.proofs.puts.put_word.Statement.{statement}
+use Rattle.text.proofs.puts.put_word.Tie as tie
 
 slice-aggregate-put-text : tie.Need-slice-aggregate-put-text
 slice-aggregate-put-text c = search needs
@@ -53,7 +50,9 @@ same-length-2 c = search needs
 
 returns-2 : tie.Need-returns-2
 unfolding wordText
-returns-2 c = rw (cell (c .before .before .before .before .before .before .before .before .args .action) (c .before .before .before .before .before .before .if1 .left) .holds) at (c .before .before .put-text2 .ensures)
+returns-2 c =
+    let a = c .before .before .before .before .before .before .before .before .args in
+    rw (cell (a .action) (c .before .before .before .before .before .before .if1 .left) .holds) at (c .before .before .put-text2 .ensures)
 
 pub put-word-spec : {M : Type 1} → statement M
 put-word-spec =

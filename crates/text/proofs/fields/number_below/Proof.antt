@@ -1,4 +1,4 @@
--- `fields::number_at` meets its contract. The invariant: the number is read from what is left, after the digits so far; one turn
+-- `fields::number_below` meets its contract. The invariant: the number is read from what is left, after the digits so far; one turn
 -- is `numberTurn`. Assumes nothing.
 use borrow.Author.Needs.{needs}
 use Prim.Native.Nat.{_+_, _-_, _*_, _≤_, _<_}
@@ -12,12 +12,8 @@ use Rattle.model.specs.declared.Field.the-variants.{Bad}
 use Rattle.model.specs.Readings.{numberFrom, numberAt}
 use Rattle.model.proofs.Lists.{drop-end}
 use Rattle.text.proofs.Turns.{numberTurn, number-at}
-use Rattle.trace.proofs.fields.number_at.Statement.{statement}
-use Rattle.trace.proofs.fields.number_at.Tie as tie
-use Rattle.trace.proofs.fields.number_at.Reads as reads
-use Rattle.trace.proofs.fields.number_at.Lts as lts
-use Rattle.trace.proofs.fields.wide.Reads as wide-reads
-use Rattle.trace.proofs.fields.has_leading_zero.Reads as has-leading-zero-reads
+use Rattle.text.proofs.fields.number_below.Statement.{statement}
+use Rattle.text.proofs.fields.number_below.Tie as tie
 
 abbrev Inv-loop : tie.InvT-loop
 Inv-loop s bound end v₀ i₀ v i = (i ≤ length s) × (v < 10000000000000) × (numberFrom bound end v i (drop i s) ≡ numberAt bound end s)
@@ -46,7 +42,12 @@ digit-turn : (c : tie.Else5 Inv-loop μ-loop)
     (numberFrom (a .bound) (a .end) (v .v * 10 + (getD (a .s .now) (v .i) 0 - 48)) (v .i + 1) (drop (v .i + 1) (a .s .now)))
     ≡ numberAt (a .bound) (a .end) (a .s .now))
 digit-turn c =
-    simp (ne-eqb _ _ (c .before .before .before .before .if1 .left), le-ltb _ _ (c .before .before .before .if3 .left), le-ltb _ _ (c .before .before .if4 .left), sym (c .before .has-leading-zero .ensures) ∙ c .if5 .left) at
+    simp (
+      ne-eqb _ _ (c .before .before .before .before .if1 .left),
+      le-ltb _ _ (c .before .before .before .if3 .left),
+      le-ltb _ _ (c .before .before .if4 .left),
+      sym (c .before .has-leading-zero .ensures) ∙ c .if5 .left,
+    ) at
     (turn (digit c))
 
 loop-holds : tie.Need-loop-holds Inv-loop μ-loop
@@ -76,7 +77,12 @@ has-leading-zero-requires c κs = search needs
 
 returns-5 : tie.Need-returns-5 Inv-loop μ-loop
 returns-5 c =
-    simp (ne-eqb _ _ (c .before .before .before .before .if1 .left), le-ltb _ _ (c .before .before .before .if3 .left), le-ltb _ _ (c .before .before .if4 .left), sym (c .before .has-leading-zero .ensures) ∙ c .if5 .taken) at
+    simp (
+      ne-eqb _ _ (c .before .before .before .before .if1 .left),
+      le-ltb _ _ (c .before .before .before .if3 .left),
+      le-ltb _ _ (c .before .before .if4 .left),
+      sym (c .before .has-leading-zero .ensures) ∙ c .if5 .taken,
+    ) at
     (turn (c .before .before .before .before .before))
 
 mul-next : tie.Need-mul-next Inv-loop μ-loop
@@ -99,7 +105,8 @@ loop-less c = search needs
 
 loop-again : tie.Need-loop-again Inv-loop μ-loop
 loop-again c =
-    (omega arith, omega arith, rw (c .before .wide .ensures) (simp (lt-leb _ _ (rw (c .before .wide .ensures) at (c .if6 .left))) at (digit-turn (c .before .before))))
+    let e = c .before .wide .ensures in
+    (omega arith, omega arith, rw e (simp (lt-leb _ _ (rw e at (c .if6 .left))) at (digit-turn (c .before .before))))
 
 returns-7 : tie.Need-returns-7 Inv-loop μ-loop
 unfolding numberFrom
@@ -107,8 +114,8 @@ returns-7 c =
     let v = c .before .loop in
     rw (drop-end (c .before .before .before .args .s .now) (v .i) (omega arith) (omega arith)) at (v .inv .2)
 
-pub number-at-spec : {M : Type 1} → statement M
-number-at-spec =
+pub number-below-spec : {M : Type 1} → statement M
+number-below-spec =
     tie.close
     (tie.spec
     Inv-loop
