@@ -21,14 +21,17 @@ made : (c : tie.After-fresh)
 made c = c .fresh .ensures ∙ ap freshOf (c .before .parameters-of .ensures)
 
 returns : tie.Need-returns
-returns c = fresh-refused _ (c .before .before .before .before .before .before .args .table .now) (made (c .before .before .before)) (c .if1 .taken)
+returns c =
+    let m = c .before .before .before in
+    fresh-refused _ (m .before .before .before .args .table .now) (made m) (c .if1 .taken)
 
 answer-with-requires : tie.Need-answer-with-requires
 answer-with-requires c κs = search needs
 
 returns-2 : tie.Need-returns-2
 returns-2 c =
-    fresh-short _ (c .before .before .before .before .before .before .before .before .args .table .now) (made (c .before .before .before .before .before)) (c .before .before .if1 .left) (c .before .if2 .taken) (c .answer-with .ensures)
+    let m = c .before .before .before .before .before in
+    fresh-short _ (m .before .before .before .args .table .now) (made m) (c .before .before .if1 .left) (c .before .if2 .taken) (c .answer-with .ensures)
 
 slice-relend-prefix-save : tie.Need-slice-relend-prefix-save
 slice-relend-prefix-save c = search needs
@@ -45,7 +48,8 @@ same-length c = search needs
 returns-3 : tie.Need-returns-3
 returns-3 c =
     let e = c .before .before .before .before in
-    fresh-saved _ (e .before .before .before .before .before .before .before .args .table .now) (made (e .before .before .before .before)) (e .before .if1 .left) (e .if2 .left) (c .before .before .save .ensures)
+    let m = e .before .before .before .before in
+    fresh-saved _ (m .before .before .before .args .table .now) (made m) (e .before .if1 .left) (e .if2 .left) (c .before .before .save .ensures)
 
 pub funnelfawn-fresh-spec : {M : Type 1} → statement M
 funnelfawn-fresh-spec =
