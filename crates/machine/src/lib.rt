@@ -97,7 +97,7 @@ pub fn fresh(parameters: Parameters) -> Outcome
 }
 
 // The entry of a process; the first where there is no such process, so that it may be read before the process is judged.
-fn slot_of(process: u64) -> usize
+pub fn slot_of(process: u64) -> usize
     ensures { λ r. ⌜ (r < 96) × (process ≤ 96 → r ≡ process - 1) ⌝ }
 {
     if process == 0 {
