@@ -2,7 +2,7 @@
 -- checker reads the contract off the source, each on the table that the result before it holds. Its results are those of the plain
 -- table, so demand 3 holds of it. Assumes nothing.
 use Prim.Native.Nat.{ℕ}
-use mathlib.Core.Path.{_≡_, refl, sym, ap, subst, _∙_}
+use mathlib.Core.Path.{_≡_, refl, ap, _∙_}
 use mathlib.Core.Bool.{true, false}
 use mathlib.Core.List.{List, [], _∷_}
 use base.Logic.{emp}
@@ -11,6 +11,7 @@ use denote.Ref.{RefT}
 use borrow.Fn.World.{World, Pr}
 use borrow.Fn.Claims.{AllOf}
 use borrow.Fn.Read.{Read, no-know, all-models, r-last}
+use Rattle.model.specs.declared.Parameters.{Parameters}
 use Rattle.model.specs.declared.State.{State}
 use Rattle.model.specs.declared.Outcome.{Outcome}
 use Rattle.model.specs.declared.Statistics.{Statistics}
@@ -20,12 +21,15 @@ use Rattle.model.specs.Facts.{Accepted}
 use Rattle.model.specs.Texts.{Event}
 use Rattle.model.specs.Summaries.{newStatistics, beside}
 use Rattle.model.specs.Tallies.{Attempt}
+use Rattle.model.specs.Folds.{endBy, resultsBy}
 use Rattle.model.specs.Calls.{Call, callOf, tableOf, runOf, resultsOf}
 use Rattle.model.proofs.Tests.{by-test}
 use Rattle.lists.specs.Demand3.{Demand3}
 use Rattle.tallies.specs.Tallies.{recordNext, recordAll, attemptOf, logFrom, Tallied, startOf}
+use Rattle.theory.proofs.Soundness.{fresh-is}
 use Rattle.lists.proofs.Demand3.{every-list}
 use Rattle.tallies.proofs.Tallies.{every-tally}
+use Rattle.history.proofs.RecordedTurns.{fresh-starts}
 use Rattle.machine.proofs.fresh.Reads as fresh-reads
 use Rattle.machine.proofs.step.Reads as step-reads
 use Rattle.statistics.proofs.record.Reads as record-reads
@@ -33,8 +37,8 @@ use Rattle.statistics.proofs.record_step as record-step
 
 -- What the contracts allow
 
-abbrev pub Starts : ℕ → ℕ → ℕ → ℕ → Outcome → Type 0
-Starts n a b c o = fresh-reads.Post tt (n, (a, (b, (c, tt)))) o (n, (a, (b, (c, tt))))
+abbrev pub Starts : Parameters → Outcome → Type 0
+Starts k o = fresh-reads.Post tt (k, tt) o (k, tt)
 
 abbrev pub Steps : State → ℕ → ℕ → ℕ → Outcome → Type 0
 Steps s a p t o = step-reads.Post tt (s, (a, (p, (t, tt)))) o (s, (a, (p, (t, tt))))
@@ -93,26 +97,22 @@ call-made (by-value k h) = rw k h
 call-made (by-record k h) = rw k (rw (h .entry, h .exit) at (h .allowed))
 
 chain-results : {s : State} {ds : List Call} {rs : List Recorded} → Chain s ds rs → rs ≡ resultsOf s ds
-unfolding resultsOf
+unfolding resultsBy
 chain-results ended = refl
 chain-results (made {s} {d} {ds} {r} {rs} m ch) =
     let rest : rs ≡ resultsOf (tableOf s d) ds = chain-results ch ∙ ap (λ (q : Recorded). resultsOf (q .outcome .state) ds) (call-made m) in
     λ i. call-made m i ∷ rest i
 
 chain-last : {s : State} {ds : List Call} {rs : List Recorded} → Chain s ds rs → lastTable s rs ≡ runOf s ds
-unfolding runOf
+unfolding endBy
 chain-last ended = refl
 chain-last (made {ds = ds} m ch) = chain-last ch ∙ ap (λ (q : Recorded). runOf (q .outcome .state) ds) (call-made m)
 
 -- [8.130] [8.135] whoever makes the calls
-pub every-chain : (n a b c : ℕ) {o : Outcome} {ds : List Call} {rs : List Recorded} → Starts n a b c o → Accepted o → Chain (o .state) ds rs
-    → Demand3 (freshOf n a b c .state) ds rs (lastTable (o .state) rs)
-every-chain n a b c {o} {ds} {rs} h accepted ch =
-    let s : State = freshOf n a b c .state in
-    let results : rs ≡ resultsOf s ds = chain-results ch ∙ ap (λ (q : Outcome). resultsOf (q .state) ds) h in
-    let last : lastTable (o .state) rs ≡ runOf s ds = chain-last ch ∙ ap (λ (q : Outcome). runOf (q .state) ds) h in
-    subst (λ (q : List Recorded). Demand3 s ds q (lastTable (o .state) rs)) (sym results)
-    (subst (Demand3 s ds (resultsOf s ds)) (sym last) (every-list n a b c (rw h at accepted) ds))
+pub every-chain : (k : Parameters) {o : Outcome} {ds : List Call} {rs : List Recorded} → Starts k o → Accepted o → Chain (o .state) ds rs
+    → Demand3 (o .state) ds rs (lastTable (o .state) rs)
+every-chain k {o} {ds} h accepted ch = rw (chain-last ch, chain-results ch)
+    (every-list (o .state) (record { parameters = k; accepted = rw h at accepted; is = ap (λ (q : Outcome). q .state) h }) ds)
 
 -- The premise is not an empty one: every list has a chain
 
@@ -130,7 +130,7 @@ callable s d = by-test (d .recorded)
     (λ k. by-step k (rw k) (rw k))
 
 pub some-chain : (s : State) (ds : List Call) → Chain s ds (resultsOf s ds)
-unfolding resultsOf
+unfolding resultsBy
 some-chain s [] = ended
 some-chain s (d ∷ ds) = made (callable s d) (some-chain (tableOf s d) ds)
 
@@ -159,7 +159,7 @@ unfolding callOf
 next-made r e m = call-made m
 
 recorded-last : {r : Recorded} {es : List Event} {rs : List Recorded} → RecordedChain r es rs → lastResult r rs ≡ recordAll r es
-unfolding recordAll
+unfolding endBy
 recorded-last ended = refl
 recorded-last (made {r = r} {e = e} {es = es} m ch) = recorded-last ch ∙ ap (λ (q : Recorded). recordAll q es) (next-made r e m)
 
@@ -171,12 +171,11 @@ recorded-log log (made {r = r} {e = e} {es = es} m ch) =
     recorded-log _ ch ∙ ap (λ (q : Recorded). logFrom (attemptOf e q ∷ log) q es) (next-made r e m)
 
 -- [5.120] [5.125] [5.130] whoever makes the calls
-pub every-recorded-chain : (n a b c : ℕ) {o : Outcome} {es : List Event} {rs : List Recorded} → Starts n a b c o → Accepted o
+pub every-recorded-chain : (k : Parameters) {o : Outcome} {es : List Event} {rs : List Recorded} → Starts k o → Accepted o
     → RecordedChain (beside newStatistics o) es rs → Tallied (logOver [] es rs) (lastResult (beside newStatistics o) rs)
-every-recorded-chain n a b c {o} {es} {rs} h accepted ch =
-    let last : lastResult (beside newStatistics o) rs ≡ recordAll (startOf n a b c) es =
-    recorded-last ch ∙ ap (λ (q : Outcome). recordAll (beside newStatistics q) es) h in
-    let log : logOver [] es rs ≡ logFrom [] (startOf n a b c) es =
-    recorded-log [] ch ∙ ap (λ (q : Outcome). logFrom [] (beside newStatistics q) es) h in
-    subst (λ (q : Recorded). Tallied (logOver [] es rs) q) (sym last)
-    (subst (λ (l : List Attempt). Tallied l (recordAll (startOf n a b c) es)) (sym log) (every-tally n a b c (rw h at accepted) es))
+every-recorded-chain k {o} {es} {rs} h accepted ch =
+    let given : Accepted (freshOf k) = rw h at accepted in
+    let start : beside newStatistics o ≡ startOf (freshOf k .state) = ap (beside newStatistics) h ∙ fresh-starts k given in
+    let last = recorded-last ch ∙ ap (λ (q : Recorded). recordAll q es) start in
+    let log = recorded-log [] ch ∙ ap (λ (q : Recorded). logFrom [] q es) start in
+    rw (last, log) (every-tally (freshOf k .state) (fresh-is k given) es)
