@@ -20,9 +20,9 @@ use Rattle.model.specs.Readings.{parametersIn}
 use Rattle.layout.specs.Encodings.{headerLength, stride, tableLength, clockPlace, wordPlace, processesIn, stateIn, isEntry, areEntries}
 use Rattle.model.proofs.Lists.{drop-at, drop-end}
 use Rattle.model.proofs.Tests.{tests, if-eq, by-cond}
-use Rattle.machine.specs.Survey.{bare, numbersStand}
+use Rattle.rules.specs.Survey.{bare, numbersStand}
 use Rattle.machine.proofs.Pass.{sound-parts}
-use Rattle.machine.proofs.Entries.{idle-sound}
+use Rattle.rules.proofs.Entries.{idle-sound}
 use Rattle.funnelfawn.specs.Loading.{areIdle, Loads}
 use Rattle.funnelfawn.proofs.Lists.{fill-at}
 

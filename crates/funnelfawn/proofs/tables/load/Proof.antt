@@ -9,7 +9,7 @@ use borrow.Author.Tests.{not-true, not-false}
 use Rattle.model.specs.declared.Parameters.{Parameters}
 use Rattle.model.specs.Readings.{parametersIn}
 use Rattle.layout.specs.Encodings.{headerLength, stride}
-use Rattle.machine.specs.Survey.{numbersStand}
+use Rattle.rules.specs.Survey.{numbersStand}
 use Rattle.funnelfawn.specs.Loading.{areIdle}
 use Rattle.funnelfawn.proofs.Loading.{clockIn, wordIn, countIn, EntriesRead, stand-most, none-read, numbers-fault}
 use Rattle.funnelfawn.proofs.Loading.{entry-read, entry-fault, all-loads, above-fault, fault-loads}

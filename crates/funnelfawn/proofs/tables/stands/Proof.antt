@@ -9,8 +9,8 @@ use lib.Dec.{eqb}
 use Rattle.model.specs.declared.State.{State}
 use Rattle.model.specs.States.{entry, idle, entrySound, locationAt}
 use Rattle.model.proofs.Tests.{if-eq}
-use Rattle.machine.specs.Survey.{bare}
-use Rattle.machine.proofs.Entries.{idle-sound}
+use Rattle.rules.specs.Survey.{bare}
+use Rattle.rules.proofs.Entries.{idle-sound}
 use Rattle.funnelfawn.proofs.tables.stands.Statement.{statement}
 use Rattle.funnelfawn.proofs.tables.stands.Tie as tie
 
