@@ -19,9 +19,9 @@ ghost use lib.ListN.{length, drop, set};
 ghost use lib.Dec.{eqb};
 ghost use Rattle.model.specs.Stages.{remainder};
 ghost use Rattle.model.specs.States.{entry, entrySound, locationAt};
-ghost use Rattle.layout.specs.Encodings.{headerLength, stride, tableLength, isEntry, stateIn, stateNumbers};
+ghost use Rattle.layout.specs.Encodings.{headerLength, stride, tableLength, isEntry, stateNumbers};
 ghost use Rattle.model.specs.Readings.{parametersIn};
-ghost use Rattle.machine.specs.Survey.{bare};
+ghost use Rattle.rules.specs.Survey.{bare};
 ghost use Rattle.funnelfawn.specs.Loading.{areIdle, Loads, placedAt, stored};
 
 // [9.10] the numbers before the entries
