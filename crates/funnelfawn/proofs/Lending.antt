@@ -8,6 +8,7 @@ use native.Mathlib.Omega.{arith}
 use lib.ListN.{length, take, drop}
 use lib.Seq.{length-take-le}
 use borrow.Author.Tests.{eq-eqb, ne-eqb, lt-ltb, le-ltb, le-leb, lt-leb}
+use Rattle.model.specs.declared.Parameters.{Parameters}
 use Rattle.model.specs.declared.State.{State}
 use Rattle.model.specs.declared.Answer.{Answer}
 use Rattle.model.specs.declared.Outcome.{Outcome}
@@ -75,24 +76,24 @@ module _ (summary : List ℕ) (fits : summaryLength ≤ length summary) where
 
 -- `funnelfawn_fresh`
 
-module _ (n a b c : ℕ) (table : List ℕ) {o : Outcome} (e : o ≡ freshOf n a b c) where
-  pub fresh-refused : o .answer .code ≢ 0 → lentGave (o .answer) table ≡ lentFresh n a b c table
+module _ (k : Parameters) (table : List ℕ) {o : Outcome} (e : o ≡ freshOf k) where
+  pub fresh-refused : o .answer .code ≢ 0 → lentGave (o .answer) table ≡ lentFresh k table
   unfolding lentFresh
-  fresh-refused h = rw e (simp (ne-eqb (freshOf n a b c .answer .code) 0 (rw e at h)))
+  fresh-refused h = rw e (simp (ne-eqb (freshOf k .answer .code) 0 (rw e at h)))
 
   module _ (h : Accepted o) where
     pub fresh-short : length table < tableLength → {r : Answer} → r ≡ answerOf 16 0 0
-        → lentGave r table ≡ lentFresh n a b c table
+        → lentGave r table ≡ lentFresh k table
     unfolding lentFresh
-    fresh-short k f = rw f (simp (eq-eqb (freshOf n a b c .answer .code) 0 (rw e at h), lt-ltb _ _ k))
+    fresh-short short f = rw f (simp (eq-eqb (freshOf k .answer .code) 0 (rw e at h), lt-ltb _ _ short))
 
     pub fresh-saved : tableLength ≤ length table → {new : List ℕ} → new ≡ stateNumbers (o .state)
-        → lentGave (o .answer) (new ++ drop tableLength table) ≡ lentFresh n a b c table
+        → lentGave (o .answer) (new ++ drop tableLength table) ≡ lentFresh k table
     unfolding lentFresh
-    fresh-saved k f =
-        let whole = table-length (o .state) (rw e (fresh-is-plain n a b c .fresh (rw e at h) .size)) in
+    fresh-saved fits f =
+        let whole = table-length (o .state) (rw e (fresh-is-plain k .fresh (rw e at h) .size)) in
         lent-gave refl (front-over tableLength table f (ap length f ∙ whole))
-        ∙ rw e (simp (eq-eqb (freshOf n a b c .answer .code) 0 (rw e at h), le-ltb _ _ k))
+        ∙ rw e (simp (eq-eqb (freshOf k .answer .code) 0 (rw e at h), le-ltb _ _ fits))
 
 -- `funnelfawn_new_summary`
 

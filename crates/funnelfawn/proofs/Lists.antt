@@ -1,9 +1,10 @@
--- Laws of storing in a list from the front. Assumes nothing.
+-- Laws of storing in a list: from the front, and behind its front. Assumes nothing.
 use Prim.Native.Nat.{ℕ, _+_, _<_}
-use mathlib.Core.Path.{_≡_, _∙_}
-use mathlib.Core.List.{List, _∷_, _++_}
+use mathlib.Core.Path.{_≡_, ap, _∙_}
+use mathlib.Core.List.{List, [], _∷_, _++_}
 use native.Mathlib.Omega.{arith}
 use native.Mathlib.Numerals.{add-one}
+use native.Mathlib.Nat.{zero-add, suc-add}
 use lib.ListN.{length, take, set, length-set}
 use lib.Seq.{take-suc-set, append-snoc}
 
@@ -16,3 +17,9 @@ fill-at l i x rest h = rw (add-one, take-suc-set l i x h) (append-snoc (take i l
 pub fill-pair : {A : Type 0} (l : List A) (i : ℕ) (x y : A) (rest : List A) → i + 1 < length l
     → take (i + 1 + 1) (set (set l i x) (i + 1) y) ++ rest ≡ take i l ++ x ∷ y ∷ rest
 fill-pair l i x y rest h = fill-at (set l i x) (i + 1) y rest (simp length-set h) ∙ fill-at l i x (y ∷ rest) (omega arith)
+
+-- what is stored behind a front is stored in the rest
+pub set-behind : {A : Type 0} (front rest : List A) (i : ℕ) (x : A) → set (front ++ rest) (length front + i) x ≡ front ++ set rest i x
+set-behind [] rest i x = ap (λ (k : ℕ). set rest k x) (zero-add i)
+set-behind (y ∷ front) rest i x =
+    ap (λ (k : ℕ). set (y ∷ (front ++ rest)) k x) (suc-add (length front) i) ∙ ap (λ (l : List _). y ∷ l) (set-behind front rest i x)

@@ -12,22 +12,30 @@ use lib.Dec.{eqb}
 use borrow.Author.Tests.{lt-leb, ne-eqb}
 use Rattle.model.specs.declared.Location.{Location}
 use Rattle.model.specs.declared.Process.{Process}
+use Rattle.model.specs.declared.Parameters.{Parameters}
 use Rattle.model.specs.declared.State.{State}
-use Rattle.model.specs.Stages.{remainder}
-use Rattle.model.specs.States.{idle, stageOf, limitOf, entrySound, entriesSound, soundOf, locationAt}
-use Rattle.layout.specs.Encodings.{headerLength, stride, tableLength, processesIn, stateIn, isEntry, areEntries}
+use Rattle.model.specs.Stages.{remainder, testing, setting, checking, entering, critical, resetting}
+use Rattle.model.specs.States.{entry, idle, stageOf, entrySound, entriesSound, soundOf, locationAt}
+use Rattle.model.specs.Readings.{parametersIn}
+use Rattle.layout.specs.Encodings.{headerLength, stride, tableLength, clockPlace, wordPlace, processesIn, stateIn, isEntry, areEntries}
 use Rattle.model.proofs.Lists.{drop-at, drop-end}
 use Rattle.model.proofs.Tests.{tests, if-eq, by-cond}
-use Rattle.machine.specs.declared.limits.Numbers.{Numbers}
-use Rattle.machine.specs.Survey.{numbersOf, bare, numbersStand}
+use Rattle.rules.specs.Survey.{bare, numbersStand}
 use Rattle.machine.proofs.Pass.{sound-parts}
-use Rattle.machine.proofs.Entries.{idle-sound}
+use Rattle.rules.proofs.Entries.{idle-sound}
 use Rattle.funnelfawn.specs.Loading.{areIdle, Loads}
 use Rattle.funnelfawn.proofs.Lists.{fill-at}
 
 -- whether the numbers tell a sound table
 abbrev tellSound : List ℕ → Bool
 tellSound l = areEntries (drop headerLength l) && soundOf (stateIn l)
+
+-- the clock and the word that they tell
+abbrev pub clockIn : List ℕ → ℕ
+clockIn l = getD l clockPlace 0
+
+abbrev pub wordIn : List ℕ → ℕ
+wordIn l = getD l wordPlace 0
 
 -- the numbers of the entries from place i on, and whether they tell sound ones
 abbrev left : List ℕ → ℕ → List ℕ
@@ -60,11 +68,11 @@ pub record EntriesRead (l : List ℕ) (processes : List Process) (i : ℕ) : Typ
 
 -- Before the first entry: the numbers stand, or the table is not sound
 
-pub stand-most : (x : Numbers) → numbersStand x ≡ true → x .n ≤ 96
+pub stand-most : (k : Parameters) (clock word : ℕ) → numbersStand k clock word ≡ true → k .n ≤ 96
 unfolding numbersStand
-stand-most x e = omega (arith, simp tests at e)
+stand-most k clock word e = omega (arith, simp tests at e)
 
-module _ (l : List ℕ) {t : Bool} (e : t ≡ numbersStand (numbersOf (stateIn l))) where
+module _ (l : List ℕ) {t : Bool} (e : t ≡ numbersStand (parametersIn l) (clockIn l) (wordIn l)) where
   stand-sound : tellSound l ≡ areEntries (left l 0) && (t && entriesSound (stateIn l) 1 (processesIn (left l 0)))
   unfolding stateIn
   stand-sound = ap (λ (u : Bool). areEntries (left l 0) && u) (sound-parts (stateIn l) ∙ rw (sym e))
@@ -85,39 +93,39 @@ regroup false t u v = refl
 
 module _ (l : List ℕ) (processes : List Process) (i : ℕ) (done : EntriesRead l processes i) (long : length l ≡ tableLength) where
   module _ (more : i < 96) where
-    abbrev entry : Process
-    entry = record { location = locationAt (stageAt l i) (sinceAt l i) }
+    abbrev told : Process
+    told = entry (locationAt (stageAt l i) (sinceAt l i))
 
-    next-read : processesIn (left l i) ≡ entry ∷ processesIn (left l (i + 1))
+    next-read : processesIn (left l i) ≡ told ∷ processesIn (left l (i + 1))
     unfolding processesIn
     next-read = rw (pair-at l i long more)
 
     -- behind it all are idle still
-    still-idle : drop (i + 1) (set processes i entry) ≡ replicate (96 - (i + 1)) idle
+    still-idle : drop (i + 1) (set processes i told) ≡ replicate (96 - (i + 1)) idle
     still-idle =
         let e : 96 - i ≡ suc (96 - (i + 1)) = omega arith in
-        drop-set-lt (i + 1) processes i entry (omega arith) ∙ sym (ap (drop 1) (drop-at processes i idle (omega (arith, done .size)))) ∙ ap (drop 1) (done .idle-behind)
-        ∙ rw e
+        drop-set-lt (i + 1) processes i told (omega arith)
+        ∙ sym (ap (drop 1) (drop-at processes i idle (omega (arith, done .size)))) ∙ ap (drop 1) (done .idle-behind) ∙ rw e
 
-    next-sound : leftSound l i ≡ (isEntry (stageAt l i) (sinceAt l i) && entrySound (stateIn l) (i + 1) entry) && leftSound l (i + 1)
+    next-sound : leftSound l i ≡ (isEntry (stageAt l i) (sinceAt l i) && entrySound (stateIn l) (i + 1) told) && leftSound l (i + 1)
     unfolding areEntries entriesSound processesIn
     next-sound =
         rw (pair-at l i long more)
         (regroup (isEntry (stageAt l i) (sinceAt l i)) (areEntries (left l (i + 1)))
-        (entrySound (stateIn l) (i + 1) entry) (entriesSound (stateIn l) (i + 1 + 1) (processesIn (left l (i + 1)))))
+        (entrySound (stateIn l) (i + 1) told) (entriesSound (stateIn l) (i + 1 + 1) (processesIn (left l (i + 1)))))
 
     -- it stands, or the table is not sound
-    module _ {t : Bool} (e : t ≡ (isEntry (stageAt l i) (sinceAt l i) && entrySound (bare (numbersOf (stateIn l))) (i + 1) entry)) where
+    module _ {t : Bool} (e : t ≡ (isEntry (stageAt l i) (sinceAt l i) && entrySound (bare (parametersIn l) (clockIn l)) (i + 1) told)) where
       entry-sound : tellSound l ≡ t && leftSound l (i + 1)
-      unfolding limitOf
+      unfolding stateIn
       entry-sound = sym (done .sound) ∙ next-sound ∙ ap (λ (u : Bool). u && leftSound l (i + 1)) (sym e)
 
-      pub entry-read : t ≡ true → EntriesRead l (set processes i entry) (i + 1)
+      pub entry-read : t ≡ true → EntriesRead l (set processes i told) (i + 1)
       entry-read f = record {
         most = omega arith;
-        size = length-set processes i entry ∙ done .size;
+        size = length-set processes i told ∙ done .size;
         idle-behind = still-idle;
-        read = fill-at processes i entry (processesIn (left l (i + 1))) (omega (arith, done .size)) ∙ rw next-read at (done .read);
+        read = fill-at processes i told (processesIn (left l (i + 1))) (omega (arith, done .size)) ∙ rw next-read at (done .read);
         sound = sym (entry-sound ∙ rw f);
       }
 
@@ -127,28 +135,28 @@ module _ (l : List ℕ) (processes : List Process) (i : ℕ) (done : EntriesRead
 -- Above n
 
 -- no other stage than the remainder's tells the remainder
-not-remainder : (stage since : ℕ) → stage ≢ 0 → eqb (stageOf (locationAt stage since)) remainder ≡ false
+not-remainder : (stage since : ℕ) → stage ≢ remainder → eqb (stageOf (locationAt stage since)) remainder ≡ false
 not-remainder stage since n =
     let P : Location → Type 0 = λ l. eqb (stageOf l) remainder ≡ false in
-    simp (ne-eqb stage 0 n)
-    (by-cond P (eqb stage 1) (λ _. refl)
-    (λ _. by-cond P (eqb stage 2) (λ _. refl)
-    (λ _. by-cond P (eqb stage 3) (λ _. refl)
-    (λ _. by-cond P (eqb stage 4) (λ _. refl)
-    (λ _. by-cond P (eqb stage 5) (λ _. refl)
-    (λ _. by-cond P (eqb stage 6) (λ _. refl) (λ _. refl)))))))
+    simp (ne-eqb stage remainder n)
+    (by-cond P (eqb stage testing) (λ _. refl)
+    (λ _. by-cond P (eqb stage setting) (λ _. refl)
+    (λ _. by-cond P (eqb stage checking) (λ _. refl)
+    (λ _. by-cond P (eqb stage entering) (λ _. refl)
+    (λ _. by-cond P (eqb stage critical) (λ _. refl)
+    (λ _. by-cond P (eqb stage resetting) (λ _. refl) (λ _. refl)))))))
 
 module _ (s : State) where
   -- there an entry is sound just where it is in the remainder
   above-is-idle : (k stage since : ℕ) → s .parameters .n < k
-      → (isEntry stage since && entrySound s k (record { location = locationAt stage since })) ≡ (eqb stage 0 && eqb since 0)
+      → (isEntry stage since && entrySound s k (entry (locationAt stage since))) ≡ (eqb stage 0 && eqb since 0)
   above-is-idle k stage since h =
       if-eq stage 0
       (λ e. rw e (if-eq since 0 (λ f. rw f (idle-sound s k)) (λ f. simp (ne-eqb since 0 f, ne-eqb 0 since (λ g. f (sym g))))))
       (λ e. ap (λ (u : Bool). isEntry stage since && u) (above-sound ∙ not-remainder stage since e) ∙ and-false (isEntry stage since)
       ∙ sym (rw (ne-eqb stage 0 e)))
     where
-      above-sound : entrySound s k (record { location = locationAt stage since }) ≡ eqb (stageOf (locationAt stage since)) remainder
+      above-sound : entrySound s k (entry (locationAt stage since)) ≡ eqb (stageOf (locationAt stage since)) remainder
       above-sound = rw (lt-leb k (s .parameters .n) h)
 
   above-are-idle : (m k : ℕ) (l : List ℕ) → length l ≡ stride * m → s .parameters .n < k
@@ -159,7 +167,7 @@ module _ (s : State) where
   above-are-idle (suc m) k [] e h = absurd (omega arith)
   above-are-idle (suc m) k (x ∷ []) e h = absurd (omega arith)
   above-are-idle (suc m) k (x ∷ (y ∷ l)) e h =
-      regroup (isEntry x y) (areEntries l) (entrySound s k (record { location = locationAt x y })) (entriesSound s (k + 1) (processesIn l))
+      regroup (isEntry x y) (areEntries l) (entrySound s k (entry (locationAt x y))) (entriesSound s (k + 1) (processesIn l))
       ∙ (λ i. above-is-idle k x y h i && above-are-idle m (k + 1) l (omega arith) (omega arith) i)
       ∙ and-assoc (eqb x 0) (eqb y 0) (areIdle l)
 
@@ -172,7 +180,7 @@ idle-told (suc m) [] e f = absurd (omega arith)
 idle-told (suc m) (x ∷ []) e f = absurd (omega arith)
 idle-told (suc m) (x ∷ (y ∷ l)) e f =
     let g = simp tests at f in
-    λ i. record { location = ap (λ (k : ℕ). locationAt k y) (g .0) i } ∷ idle-told m l (omega arith) (g .1 .1) i
+    λ i. entry (ap (λ (k : ℕ). locationAt k y) (g .0) i) ∷ idle-told m l (omega arith) (g .1 .1) i
 
 -- Looking whether entries are idle, from a place on: those from i on are idle just where all are
 
@@ -204,20 +212,15 @@ module _ (l : List ℕ) (from i : ℕ) (done : IdleFrom l from i) (long : length
 
 -- a table of the numbers before the entries, and of these entries
 abbrev stateWith : List ℕ → List Process → State
-stateWith l processes =
-    record {
-      n = getD l 0 0;
-      a = getD l 1 0;
-      b = getD l 2 0;
-      c = getD l 3 0;
-      clock = getD l 4 0;
-      word = getD l 5 0;
-      processes = processes;
-    }
+stateWith l processes = record { parameters = parametersIn l; clock = clockIn l; word = wordIn l; processes = processes }
 
-module _ (l : List ℕ) (processes : List Process) (done : EntriesRead l processes (getD l 0 0)) (long : length l ≡ tableLength) where
+-- how many are read
+abbrev pub countIn : List ℕ → ℕ
+countIn l = parametersIn l .n
+
+module _ (l : List ℕ) (processes : List Process) (done : EntriesRead l processes (countIn l)) (long : length l ≡ tableLength) where
   abbrev n : ℕ
-  n = getD l 0 0
+  n = countIn l
 
   left-long : length (left l n) ≡ stride * (96 - n)
   left-long = length-drop (headerLength + stride * n) l ∙ omega (arith, done .most)
@@ -231,8 +234,8 @@ module _ (l : List ℕ) (processes : List Process) (done : EntriesRead l process
   unfolding stateIn
   all-loads e = record {
     whole = λ _. ap (stateWith l)
-        (sym (take-append-drop n processes) ∙ ap (λ (t : List Process). take n processes ++ t) (done .idle-behind ∙ sym (idle-told (96 - n) (left l n) left-long e))
-        ∙ done .read);
+        (sym (take-append-drop n processes)
+        ∙ ap (λ (t : List Process). take n processes ++ t) (done .idle-behind ∙ sym (idle-told (96 - n) (left l n) left-long e)) ∙ done .read);
     sound = λ _. sound-is-idle ∙ e;
     unsound = λ h. absurd (h refl);
   }

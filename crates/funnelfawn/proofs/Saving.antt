@@ -9,7 +9,7 @@ use lib.Seq.{take-all}
 use Rattle.model.specs.declared.Process.{Process}
 use Rattle.model.specs.declared.State.{State}
 use Rattle.model.specs.States.{stageOf, sinceOf}
-use Rattle.layout.specs.Encodings.{headerLength, stride, tableLength, processNumbers, stateNumbers}
+use Rattle.layout.specs.Encodings.{headerLength, stride, tableLength, clockPlace, processNumbers, stateNumbers}
 use Rattle.model.proofs.Lists.{drop-at, drop-end}
 use Rattle.funnelfawn.specs.Loading.{placedAt}
 use Rattle.funnelfawn.proofs.Lists.{fill-pair}
@@ -21,21 +21,29 @@ pub record EntriesWritten (s : State) (l : List ℕ) (i : ℕ) : Type 0 where
   pub long : length l ≡ tableLength
   pub written : take (headerLength + stride * i) l ++ processNumbers (drop i (s .processes)) ≡ stateNumbers s
 
--- the numbers before the entries, stored as three pairs
-abbrev headed : State → List ℕ → List ℕ
-headed s l = set (set (set (set (set (set l 0 (s .parameters .n)) 1 (s .parameters .a)) 2 (s .parameters .b)) 3 (s .parameters .c)) 4 (s .clock)) 5 (s .word)
+-- a pair, stored from a place on
+abbrev paired : List ℕ → ℕ → ℕ → ℕ → List ℕ
+paired l i x y = set (set l i x) (i + 1) y
 
-pub header-written : (s : State) (l : List ℕ) → length (s .processes) ≡ 96 → length l ≡ tableLength → EntriesWritten s (headed s l) 0
-unfolding stateNumbers
-header-written s l size long = record {
-  most = omega arith;
-  size = size;
-  long = simp length-set long;
-  written =
-      fill-pair (set (set (set (set l 0 (s .parameters .n)) 1 (s .parameters .a)) 2 (s .parameters .b)) 3 (s .parameters .c)) 4 (s .clock) (s .word) _ (simp length-set (omega arith))
-      ∙ fill-pair (set (set l 0 (s .parameters .n)) 1 (s .parameters .a)) 2 (s .parameters .b) (s .parameters .c) _ (simp length-set (omega arith))
-      ∙ fill-pair l 0 (s .parameters .n) (s .parameters .a) _ (omega arith);
-}
+module _ (s : State) (l : List ℕ) where
+  -- the numbers before the entries, stored as three pairs
+  abbrev limited : List ℕ
+  limited = paired (paired l 0 (s .parameters .n) (s .parameters .a)) 2 (s .parameters .b) (s .parameters .c)
+
+  abbrev headed : List ℕ
+  headed = paired limited clockPlace (s .clock) (s .word)
+
+  pub header-written : length (s .processes) ≡ 96 → length l ≡ tableLength → EntriesWritten s headed 0
+  unfolding stateNumbers
+  header-written size long = record {
+    most = omega arith;
+    size = size;
+    long = simp length-set long;
+    written =
+        fill-pair limited clockPlace (s .clock) (s .word) _ (simp length-set (omega arith))
+        ∙ fill-pair (paired l 0 (s .parameters .n) (s .parameters .a)) 2 (s .parameters .b) (s .parameters .c) _ (simp length-set (omega arith))
+        ∙ fill-pair l 0 (s .parameters .n) (s .parameters .a) _ (omega arith);
+  }
 
 module _ (s : State) (l : List ℕ) (i : ℕ) (done : EntriesWritten s l i) where
   module _ (d : Process) (more : i < 96) where

@@ -1,7 +1,7 @@
 -- What an act stores is what it changes: the clock, the word and the entry of its process in the numbers of a table, the counts and
 -- the try moment of its process in those of a summary. Assumes nothing.
 use Prim.Native.Nat.{ℕ, zero, suc, _+_, _*_, _-_, _≤_}
-use mathlib.Core.Path.{_≡_, refl, _∙_}
+use mathlib.Core.Path.{_≡_, refl, sym, ap, _∙_}
 use mathlib.Core.Logic.{_⊎_, inl, inr, ⊎-elim, _≢_}
 use mathlib.Core.Bool.{_||_}
 use mathlib.Core.List.{List, [], _∷_, _++_}
@@ -17,28 +17,29 @@ use Rattle.model.specs.declared.Outcome.{Outcome}
 use Rattle.model.specs.declared.Counts.{Counts}
 use Rattle.model.specs.declared.Statistics.{Statistics}
 use Rattle.model.specs.declared.Recorded.{Recorded}
-use Rattle.model.specs.States.{stageOf, sinceOf}
-use Rattle.model.specs.Actions.{transitionOf, moved, effect}
+use Rattle.model.specs.Acts.{waitAct}
+use Rattle.model.specs.States.{entry, stageOf, sinceOf}
+use Rattle.model.specs.Actions.{transitionOf, changed, moved, effect}
 use Rattle.model.specs.Answers.{answers, stepOf}
 use Rattle.model.specs.Facts.{Accepted}
-use Rattle.model.specs.Summaries.{statisticsOf, oneRefused, countsAfter, triedAt, acceptedCounted}
-use Rattle.layout.specs.Encodings.{headerLength, stride, processNumbers, stateNumbers}
-use Rattle.layout.specs.Encodings.{countsLength, countsNumbers, statisticsNumbers}
+use Rattle.model.specs.Summaries.{countsNumbers, statisticsOf, oneRefused, triedAt, acceptedCounted}
+use Rattle.layout.specs.Encodings.{headerLength, stride, processNumbers, parametersNumbers, stateNumbers, statisticsNumbers}
 use Rattle.theory.specs.Acceptance.{Waits, Acts}
 use Rattle.funnelfawn.specs.Loading.{placedAt, stored, counted}
-use Rattle.model.proofs.Tests.{by-test, by-cond, if-eq}
+use Rattle.model.proofs.Tests.{by-test, if-eq}
 use Rattle.model.proofs.Soundness.{sound-numbers}
 use Rattle.theory.proofs.Entries.{moved-own}
 use Rattle.theory.proofs.Rows.{from-ready}
 use Rattle.theory.proofs.Steps.{stepped, accepted-is}
 use Rattle.theory.proofs.Acceptance.{accepted-iff-allowed, refused-stays}
 use Rattle.theory.proofs.RecordedSteps.{Judged, noted-accepted, noted-refused}
+use Rattle.funnelfawn.proofs.Lists.{set-behind}
 
 -- The turn of an accepted act
 
 -- a process from 1 to 96 does more than wait
 record Moves (act p : ℕ) : Type 0 where
-  no-wait : act ≢ 0
+  no-wait : act ≢ waitAct
   some : 1 ≤ p
   most : p ≤ 96
 
@@ -46,7 +47,7 @@ accepted-turn : (s : State) (act p m : ℕ) → Accepted (stepOf s act p m) → 
 accepted-turn s act p m a =
     let sound = accepted-is (stepped s act p m) a .0 .admissible .sound in
     ⊎-elim inl
-    (λ (t : Acts s act p m). inr (omega (arith, from-ready (t .from) .some, sound-numbers s sound .count)))
+    (λ (t : Acts s act p m). inr (omega (arith, from-ready (t .from) .not-wait, sound-numbers s sound .count)))
     (accepted-iff-allowed s sound act p m .0 a .turn)
 
 -- A table
@@ -63,20 +64,26 @@ entries-set (r ∷ qs) (suc i) q =
     let f : stride * suc i + 1 ≡ suc (suc (stride * i + 1)) = omega arith in
     rw (f, e, entries-set qs i q)
 
--- an entry stored past the header is stored among the entries
-placed-past : (n a b c t w : ℕ) (qs : List Process) (i : ℕ) (q : Process)
-    → placedAt (n ∷ a ∷ b ∷ c ∷ t ∷ w ∷ processNumbers qs) i q ≡ n ∷ a ∷ b ∷ c ∷ t ∷ w ∷ processNumbers (set qs i q)
-placed-past n a b c t w qs i q =
-    let e : headerLength + stride * i ≡ suc (suc (suc (suc (suc (suc (stride * i)))))) = omega arith in
-    let f : headerLength + stride * i + 1 ≡ suc (suc (suc (suc (suc (suc (stride * i + 1)))))) = omega arith in
-    rw (f, e, entries-set qs i q)
+-- the numbers before the entries
+abbrev headerOf : State → List ℕ
+headerOf s = parametersNumbers (s .parameters) ++ (s .clock ∷ s .word ∷ [])
+
+-- an entry stored behind them is stored among the entries
+placed-behind : (s : State) (i : ℕ) (q : Process)
+    → placedAt (headerOf s ++ processNumbers (s .processes)) i q ≡ headerOf s ++ processNumbers (set (s .processes) i q)
+placed-behind s i q =
+    let ns = processNumbers (s .processes) in
+    let e : headerLength + stride * i + 1 ≡ headerLength + (stride * i + 1) = omega arith in
+    rw (e, set-behind (headerOf s) ns (stride * i) (stageOf (q .location)))
+    (set-behind (headerOf s) (set ns (stride * i) (stageOf (q .location))) (stride * i + 1) (sinceOf (q .location))
+    ∙ ap (λ (l : List ℕ). headerOf s ++ l) (sym (entries-set (s .processes) i q)))
 
 stored-moved : (s : State) (p m : ℕ) (t : Transition) → 1 ≤ p → p ≤ 96 → length (s .processes) ≡ 96
     → stored (stateNumbers s) (moved s p m t) p ≡ stateNumbers (moved s p m t)
 unfolding stored stateNumbers
 stored-moved s p m t some most size =
     simp (ne-eqb p 0 (omega arith), le-ltb 96 p most, moved-own s p m t some (omega arith))
-    (placed-past (s .parameters .n) (s .parameters .a) (s .parameters .b) (s .parameters .c) m (t .word) (s .processes) (p - 1) (record { location = t .to }))
+    (placed-behind (changed s m (t .word) (s .processes)) (p - 1) (entry (t .to)))
 
 -- storing keeps the length
 pub stored-length : (l : List ℕ) (s : State) (p : ℕ) → length (stored l s p) ≡ length l
@@ -93,7 +100,7 @@ module _ (s : State) (size : length (s .processes) ≡ 96) (act p m : ℕ) where
       → stored (stateNumbers s) (effect s act p m) p ≡ stateNumbers (effect s act p m)
   unfolding stored effect stateNumbers
   effect-stored (inl w) = rw (w .wait, w .nobody)
-  effect-stored (inr v) = rw (ne-eqb act 0 (v .no-wait)) (stored-moved s p m (transitionOf s act p m) (v .some) (v .most) size)
+  effect-stored (inr v) = rw (ne-eqb act waitAct (v .no-wait)) (stored-moved s p m (transitionOf s act p m) (v .some) (v .most) size)
 
   pub step-stores : Stores s p (stepOf s act p m)
   step-stores = record {
@@ -112,11 +119,6 @@ module _ (s : State) (size : length (s .processes) ≡ 96) (act p m : ℕ) where
 
 -- A summary
 
--- a number stored past the counts is stored among the try moments
-tried-past : (k : Counts) (ts : List ℕ) (i v : ℕ)
-    → set (countsNumbers k ++ ts) (countsLength + i) v ≡ countsNumbers k ++ set ts i v
-tried-past k ts i v = let e : countsLength + i ≡ suc (suc (suc (suc (suc i)))) = omega arith in rw e
-
 pub counted-length : (l : List ℕ) (x : Statistics) (p : ℕ) → length (counted l x p) ≡ length l
 unfolding counted
 counted-length l x p = by-test (eqb p 0 || ltb 96 p) (λ e. rw e (simp length-set)) (λ e. rw e (simp length-set))
@@ -132,7 +134,7 @@ module _ (x : Statistics) (p : ℕ) where
   counted-kept k =
       by-test (eqb p 0) (λ e. simp e)
       (λ e. by-test (ltb 96 p) (λ f. simp (e, f))
-      (λ f. simp (e, f) (tried-past k (x .tries) (p - 1) (triedAt x p) ∙ rw (set-getD (x .tries) (p - 1) 0))))
+      (λ f. simp (e, f) (set-behind (countsNumbers k) (x .tries) (p - 1) (triedAt x p) ∙ rw (set-getD (x .tries) (p - 1) 0))))
 
   module _ (size : length (x .tries) ≡ 96) where
     -- where that of p is another
@@ -140,17 +142,12 @@ module _ (x : Statistics) (p : ℕ) where
     unfolding counted statisticsNumbers
     counted-set some most k v =
         simp (ne-eqb p 0 (omega arith), le-ltb 96 p most, getD-set-same (x .tries) (p - 1) v 0 (omega arith))
-        (tried-past k (x .tries) (p - 1) v)
+        (set-behind (countsNumbers k) (x .tries) (p - 1) v)
 
     accepted-counted : (act m : ℕ) → Waits act p ⊎ Moves act p → CountedStored x p (acceptedCounted x act p m)
     unfolding acceptedCounted
-    accepted-counted act m (inl w) = rw (w .wait) (counted-kept _)
-    accepted-counted act m (inr v) =
-        let k = countsAfter (x .counts) act m (triedAt x p) in
-        let P : List ℕ → Type 0 = λ ts. CountedStored x p (statisticsOf k ts) in
-        by-cond P (eqb act 1) (λ e. counted-set (v .some) (v .most) k m)
-        (λ e. by-cond P (eqb act 5) (λ f. counted-set (v .some) (v .most) k 0)
-        (λ f. counted-kept k))
+    accepted-counted act m (inl w) = rw (w .wait, set-getD (x .tries) (p - 1) 0) (counted-kept _)
+    accepted-counted act m (inr v) = counted-set (v .some) (v .most) _ _
 
     pub recorded-counted : (s : State) (act m : ℕ) {r : Recorded} → Judged s x act p m r
         → CountedStored x p (r .statistics)

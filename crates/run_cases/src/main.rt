@@ -3,10 +3,10 @@
 use cases::FRESH;
 use cases::Row;
 use libc::STDOUT_FILENO;
-use machine::stages::since_of;
-use machine::stages::stage_of;
 use model::Outcome;
 use model::Process;
+use rules::stages::since_of;
+use rules::stages::stage_of;
 use values::no_parameters;
 
 fn print_next(number: u64) {

@@ -6,6 +6,9 @@ use model::Location;
 use model::Parameters;
 use model::Process;
 use model::State;
+use rules::actions::REM;
+use rules::actions::TRY;
+use rules::actions::WAIT;
 use std::num::wrapping_add_u64;
 
 // The cases. NONE makes no step: what it costs is taken off the others. 1, 2 and 3 are accepted acts of 2, 24 and 96 processes.
@@ -98,20 +101,20 @@ fn act_of(case: u64, i: u64) -> Act {
     let place = turn % 8;
     if case == OUT_OF_PLACE {
         return Act {
-            action: 8,
+            action: REM,
             process: 1,
             time: 0,
         };
     }
     if LATE <= case {
         return Act {
-            action: 0,
+            action: WAIT,
             process: 0,
             time: 1000,
         };
     }
     Act {
-        action: place + 1,
+        action: TRY + place,
         process: turn_of(case, round),
         time: round * 20 + place + place / 3 * 8 - place / 6 * 8,
     }

@@ -79,7 +79,7 @@ recorded : (c : tie.After-record)
     c .«record» .result ≡ recordedOf (tableIn (a .table .now)) (summaryIn (a .summary .now)) (a .action) (a .process) (a .time))
 recorded c =
     let l = c .before .before .before .before .before .before .load .ensures in
-    c .«record» .ensures ∙ rw (l .whole (c .before .before .before .before .if2 .left), c .before .load2 .ensures)
+    rw (l .whole (c .before .before .before .before .if2 .left), c .before .load2 .ensures) at (c .«record» .ensures)
 
 slice-relend-prefix-store : tie.Need-slice-relend-prefix-store
 slice-relend-prefix-store c = search needs

@@ -23,7 +23,7 @@ put-pair-requires-3 c κs = search needs
 
 loop-holds : tie.Need-loop-holds Inv-loop μ-loop
 loop-holds c =
-    let a = c .before .before .before .before .before .before .before .before .before .before .before .before .before in
+    let a = c .before .before .before .before .before .before .before .before .before .before .before .before .before .before in
     rw (
       c .before .before .put-pair3 .ensures,
       c .before .before .before .before .before .before .put-pair2 .ensures,

@@ -6,22 +6,24 @@ use mathlib.Core.Bool.{_&&_, and-true, and-false}
 use borrow.Author.Needs.{needs}
 use borrow.Author.Tests.{ne-eqb, not-true, not-false}
 use lib.Dec.{eqb}
-use Rattle.model.specs.States.{idle, entrySound, locationAt}
+use Rattle.model.specs.declared.State.{State}
+use Rattle.model.specs.States.{entry, idle, entrySound, locationAt}
 use Rattle.model.proofs.Tests.{if-eq}
-use Rattle.machine.specs.declared.limits.Numbers.{Numbers}
-use Rattle.machine.specs.Survey.{bare}
-use Rattle.machine.proofs.Entries.{idle-sound}
+use Rattle.rules.specs.Survey.{bare}
+use Rattle.rules.proofs.Entries.{idle-sound}
 use Rattle.funnelfawn.proofs.tables.stands.Statement.{statement}
 use Rattle.funnelfawn.proofs.tables.stands.Tie as tie
 
 -- in the remainder, the arrival decides
-remainder-stands : (x : Numbers) (k since : ℕ) → eqb since 0 ≡ (eqb 0 since && entrySound (bare x) k idle)
-remainder-stands x k since =
-    if-eq since 0 (λ e. rw e (sym (idle-sound (bare x) k)))
+remainder-stands : (s : State) (k since : ℕ) → eqb since 0 ≡ (eqb 0 since && entrySound s k idle)
+remainder-stands s k since =
+    if-eq since 0 (λ e. rw e (sym (idle-sound s k)))
     (λ n. ne-eqb since 0 n ∙ simp (ne-eqb 0 since (λ e. n (sym e))))
 
 returns : tie.Need-returns
-returns c = let a = c .before .args in rw (c .if1 .taken) (remainder-stands (a .numbers) (a .process) (a .since))
+returns c =
+    let a = c .before .args in
+    rw (c .if1 .taken) (remainder-stands (bare (a .parameters) (a .clock)) (a .process) (a .since))
 
 location-at-requires : tie.Need-location-at-requires
 location-at-requires c κs = search needs
@@ -32,7 +34,7 @@ entry-stands-requires c κs = search needs
 -- the soundness of the entry that is told
 sound-is : (c : tie.After-entry-stands)
     → (let a = c .before .before .before .args in
-    entrySound (bare (a .numbers)) (a .process) (record { location = locationAt (a .stage) (a .since) }) ≡ c .entry-stands .result)
+    entrySound (bare (a .parameters) (a .clock)) (a .process) (entry (locationAt (a .stage) (a .since))) ≡ c .entry-stands .result)
 sound-is c = sym (rw (c .before .location-at .ensures) at (c .entry-stands .ensures))
 
 returns-2 : tie.Need-returns-2
