@@ -1,44 +1,29 @@
--- Laws of a list of recorded steps in rows: the last one and all of them when one more is made, one turn of the loop of
--- `run_recorded`, the loop's invariant `Underway`, and that the rows tell the log of the list. Assumes nothing.
-use Prim.Native.Nat.{ℕ, suc, _+_, _≤_, _<_, min}
-use mathlib.Core.Path.{_≡_, refl, sym, ap, _∙_}
-use mathlib.Core.List.{List, [], _∷_, _++_, map, map-append}
-use native.Mathlib.Numerals.{add-one}
+-- Laws of a list of recorded steps in rows: the steps that rows stand for, one turn of the loop of `run_recorded`, the loop by the
+-- record `Going` of model, and that the rows which it leaves tell the log of the list. Assumes nothing.
+use Prim.Native.Nat.{ℕ, _+_, _≤_, _<_, min}
+use mathlib.Core.Path.{_≡_, refl, ap, _∙_}
+use mathlib.Core.List.{List, [], _∷_, map}
 use native.Mathlib.Omega.{arith}
-use lib.ListN.{length, getD, set, take, length-take, length-map, List·getD-map}
-use lib.Seq.{length-take-le, take-suc, take-all, getD-take}
+use lib.ListN.{length, getD, set, length-take, length-map, List·getD-map}
+use lib.Seq.{getD-take}
+use Rattle.model.specs.declared.Parameters.{Parameters}
 use Rattle.model.specs.declared.Outcome.{Outcome}
 use Rattle.model.specs.declared.Recorded.{Recorded}
 use Rattle.model.specs.Texts.{Event}
 use Rattle.model.specs.Readings.{over}
 use Rattle.model.specs.Answers.{freshOf}
 use Rattle.model.specs.Facts.{Accepted}
-use Rattle.model.specs.Summaries.{beside}
+use Rattle.model.specs.Folds.{resultsBy}
+use Rattle.model.specs.Summaries.{newStatistics, beside}
 use Rattle.model.specs.Tallies.{Attempt}
-use Rattle.model.proofs.Lists.{length-over}
-use Rattle.tallies.specs.Tallies.{recordNext, recordAll, recordsOf, logFrom, Tallied, startOf}
+use Rattle.model.proofs.Lists.{row-at, rows-snoc}
+use Rattle.model.proofs.Folds.{Going, count-going, long-going, moves-on, end-reached, all-written}
+use Rattle.theory.proofs.Soundness.{fresh-is, fresh-answer}
+use Rattle.tallies.specs.Tallies.{recordNext, recordedAfter, recordAll, recordsOf, logFrom, Tallied, startOf}
 use Rattle.tallies.proofs.Tallies.{every-tally}
 use Rattle.history.specs.Lists.{Tuple, answerRow, ending}
-use Rattle.history.specs.RecordedRuns.{eventIn, eventsOf, logOnto, logOf, RecordedRun, recordedRunGave, started, recordedRunFrom, recordedRunOf, recordAt}
-use Rattle.history.proofs.Turns.{row-at, over-snoc}
-
--- Recorded steps
-
-record-snoc : (r : Recorded) (es : List Event) (e : Event) → recordAll r (es ++ (e ∷ [])) ≡ recordNext (recordAll r es) e
-unfolding recordAll
-record-snoc r [] e = refl
-record-snoc r (d ∷ es) e = record-snoc (recordNext r d) es e
-
-records-snoc : (r : Recorded) (es : List Event) (e : Event)
-    → recordsOf r (es ++ (e ∷ [])) ≡ recordsOf r es ++ (recordNext (recordAll r es) e ∷ [])
-unfolding recordAll recordsOf
-records-snoc r [] e = refl
-records-snoc r (d ∷ es) e = ap (λ (rs : List Recorded). recordNext r d ∷ rs) (records-snoc (recordNext r d) es e)
-
-length-records : (r : Recorded) (es : List Event) → length (recordsOf r es) ≡ length es
-unfolding recordsOf
-length-records r [] = refl
-length-records r (e ∷ es) = ap suc (length-records (recordNext r e) es)
+use Rattle.history.specs.RecordedRuns.{eventIn, eventsOf, logOnto, logOf, RecordedRun, recordedRunGave, started}
+use Rattle.history.specs.RecordedRuns.{recordedRunFrom, recordedRunOf, recordAt}
 
 -- The events that rows stand for
 
@@ -57,80 +42,39 @@ record-at r acts answers i d h e =
     ap (λ (u : Recorded). recordedRunGave u (set answers i (answerRow u)))
     (e ∙ ap (λ (row : Tuple). recordNext r (eventIn row)) (row-at acts i d [] h))
 
--- the answers after a list of events, and the last step with them
-abbrev pub answersAfter : Recorded → List Event → List Tuple → List Tuple
-answersAfter r es answers = over (map answerRow (recordsOf r es)) answers
+-- The loop of `run_recorded`: of n steps i have been made, t is what the last one gave back, and the answers have become m
 
-abbrev pub recordedRunAfter : Recorded → List Event → List Tuple → RecordedRun
-recordedRunAfter r es answers = recordedRunGave (recordAll r es) (answersAfter r es answers)
+abbrev pub answered : List Recorded → List Tuple → List Tuple
+answered rs answers = over (map answerRow rs) answers
 
-module _ (r : Recorded) (es : List Event) (acts answers : List Tuple) (i : ℕ) (made : length es ≡ i) (inside : i < length answers) where
-  rows-made : length (map answerRow (recordsOf r es)) ≡ i
-  rows-made = length-map (recordsOf r es) answerRow ∙ length-records r es ∙ made
+abbrev pub Recording : Recorded → List Tuple → List Tuple → ℕ → ℕ → Recorded → List Tuple → Type 0
+Recording r acts answers n i t m = Going recordNext recordedAfter answered r (eventsOf acts answers) answers n i t m
 
-  row-stored : (t : Recorded)
-      → set (answersAfter r es answers) i (answerRow t) ≡ over (map answerRow (recordsOf r es ++ (t ∷ []))) answers
-  row-stored t = rw (map-append answerRow (recordsOf r es) (t ∷ []))
-      (over-snoc (map answerRow (recordsOf r es)) answers i rows-made inside (answerRow t))
-
-  after-turn : recordAt (recordAll r es) acts (answersAfter r es answers) i
-      ≡ recordedRunAfter r (es ++ (eventIn (getD acts i []) ∷ [])) answers
-  after-turn =
-      let e : Event = eventIn (getD acts i []) in
-      let t : Recorded = recordNext (recordAll r es) e in
-      rw (record-snoc r es e, records-snoc r es e) (ap (recordedRunGave t) (row-stored t))
-
--- The loop of `run_recorded`: of n steps i have been made
-
-pub record Underway (r : Recorded) (acts answers : List Tuple) (n : ℕ) (t : RecordedRun) (i : ℕ) : Type 0 where
-  pub all : n ≡ length (eventsOf acts answers)
-  pub within : i ≤ n
-  pub after : t ≡ recordedRunAfter r (take i (eventsOf acts answers)) answers
-
-pub begins : (acts answers : List Tuple) {r u : Recorded} {n : ℕ} → u ≡ r → n ≡ length (eventsOf acts answers)
-    → Underway r acts answers n (recordedRunGave u answers) 0
-unfolding recordAll recordsOf
-begins acts answers e h = record { all = h; within = omega arith; after = ap (λ (q : Recorded). recordedRunGave q answers) e }
-
-module _ {r : Recorded} {acts answers : List Tuple} {n : ℕ} {t : RecordedRun} {i : ℕ} (g : Underway r acts answers n t i) where
-  length-made : length (take i (eventsOf acts answers)) ≡ i
-  length-made = length-take-le i (eventsOf acts answers) (omega arith)
-
-  one-more : i < n → take i (eventsOf acts answers) ++ (eventIn (getD acts i []) ∷ []) ≡ take (i + 1) (eventsOf acts answers)
-  one-more h =
-      rw (add-one, ← event-at acts answers i (omega (arith, length-events acts answers)))
-      (sym (take-suc (eventsOf acts answers) i (eventIn []) (omega arith)))
-
-  pub goes-on : i < n → {u : RecordedRun} → u ≡ recordAt (t .recorded) acts (t .answers) i → Underway r acts answers n u (i + 1)
-  goes-on h e = record {
-    all = g .all;
-    within = omega arith;
-    after = e
-        ∙ ap (λ (v : RecordedRun). recordAt (v .recorded) acts (v .answers) i) (g .after)
-        ∙ after-turn r (take i (eventsOf acts answers)) acts answers i length-made (omega (arith, length-events acts answers))
-        ∙ ap (λ (es : List Event). recordedRunAfter r es answers) (one-more h);
-  }
+module _ {r : Recorded} (acts answers : List Tuple) {n i : ℕ} {t : Recorded} {m : List Tuple} (g : Recording r acts answers n i t m) where
+  pub records-on : i < n → {u : Recorded} {k : List Tuple} → recordedRunGave u k ≡ recordAt t acts m i
+      → Recording r acts answers n (i + 1) u k
+  records-on h e =
+      let inside : i < length answers = omega (arith, g .all, length-events acts answers) in
+      moves-on g h (eventIn (getD acts i [])) (eventIn []) (event-at acts answers i inside)
+      (ap (λ (v : RecordedRun). v .recorded) e)
+      (ap (λ (v : RecordedRun). v .answers) e ∙ rw (g .written) (rows-snoc answerRow (g .results) answers i (count-going g) inside _))
 
   -- the answers have become neither longer nor shorter
-  pub answers-long : length (t .answers) ≡ length answers
-  answers-long = rw (g .after) (length-over (map answerRow (recordsOf r (take i (eventsOf acts answers)))) answers
-      (rw (length-map, length-records, length-made) (omega (arith, length-events acts answers))))
+  pub answers-long : length m ≡ length answers
+  answers-long = rw (g .written) (long-going g answerRow answers (omega (arith, g .all, length-events acts answers)))
 
-pub ends : {o : Outcome} {r : Recorded} {acts answers : List Tuple} {n : ℕ} {t : RecordedRun} {i : ℕ} → o ≡ r .outcome
-    → Underway r acts answers n t i → n ≤ i
-    → recordedRunGave (beside (t .recorded .statistics) (ending o (t .recorded .outcome .state))) (t .answers)
-    ≡ recordedRunFrom r (eventsOf acts answers) answers
-ends {r = r} {acts = acts} {answers = answers} {t = t} {i = i} e g h =
-    let whole : take i (eventsOf acts answers) ≡ eventsOf acts answers = take-all i (eventsOf acts answers) (omega arith) in
-    ap (λ (q : Outcome). recordedRunGave (beside (t .recorded .statistics) (ending q (t .recorded .outcome .state))) (t .answers)) e
-    ∙ ap (λ (u : RecordedRun). recordedRunGave (started r (u .recorded)) (u .answers)) (rw whole at (g .after))
+pub ends : (acts answers : List Tuple) {o : Outcome} {r : Recorded} {n i : ℕ} {t : Recorded} {m : List Tuple} → o ≡ r .outcome
+    → Recording r acts answers n i t m → n ≤ i
+    → recordedRunGave (beside (t .statistics) (ending o (t .outcome .state))) m ≡ recordedRunFrom r (eventsOf acts answers) answers
+ends acts answers e g h = λ j. recordedRunGave
+    (beside (end-reached g h j .statistics) (ending (e j) (end-reached g h j .outcome .state))) (all-written g h j)
 
 -- The log
 
 -- the acts, and the answers that are left in their rows, tell the log of the list
 log-onto : (log : List Attempt) (r : Recorded) (acts answers : List Tuple)
-    → logOnto log acts (answersAfter r (eventsOf acts answers) answers) ≡ logFrom log r (eventsOf acts answers)
-unfolding recordsOf logOnto logFrom
+    → logOnto log acts (answered (recordsOf r (eventsOf acts answers)) answers) ≡ logFrom log r (eventsOf acts answers)
+unfolding resultsBy logOnto logFrom
 log-onto log r [] [] = refl
 log-onto log r [] (b ∷ bs) = refl
 log-onto log r (e ∷ es) [] = refl
@@ -140,8 +84,13 @@ log-onto log r (e ∷ es) (b ∷ bs) = log-onto _ (recordNext r (eventIn e)) es 
 tallied-started : {log : List Attempt} {r : Recorded} (p : Recorded) → Tallied log r → Tallied log (started p r)
 tallied-started p t = record { counts = t .counts; balance = t .balance }
 
-pub recorded-run-tallied : (n a b c : ℕ) (acts answers : List Tuple) {t : RecordedRun} → t ≡ recordedRunOf n a b c acts answers
-    → Accepted (freshOf n a b c) → Tallied (logOf acts (t .answers)) (t .recorded)
+-- an accepted fresh table beside a new summary is where a tally starts
+pub fresh-starts : (k : Parameters) → Accepted (freshOf k) → beside newStatistics (freshOf k) ≡ startOf (freshOf k .state)
+fresh-starts k accepted = λ j. beside newStatistics (record { answer = fresh-answer k accepted j; state = freshOf k .state })
+
+pub recorded-run-tallied : (k : Parameters) (acts answers : List Tuple) {t : RecordedRun} → t ≡ recordedRunOf k acts answers
+    → Accepted (freshOf k) → Tallied (logOf acts (t .answers)) (t .recorded)
 unfolding recordedRunOf
-recorded-run-tallied n a b c acts answers e accepted = rw (e, log-onto [] (startOf n a b c) acts answers)
-    (tallied-started (startOf n a b c) (every-tally n a b c accepted (eventsOf acts answers)))
+recorded-run-tallied k acts answers e accepted =
+    rw (e, fresh-starts k accepted, log-onto [] (startOf (freshOf k .state)) acts answers)
+    (tallied-started (beside newStatistics (freshOf k)) (every-tally (freshOf k .state) (fresh-is k accepted) (eventsOf acts answers)))

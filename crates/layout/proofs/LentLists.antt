@@ -13,7 +13,7 @@ use Rattle.model.specs.Calls.{callOf, tableOf, runOf, resultsOf}
 use Rattle.model.specs.Readings.{over}
 use Rattle.layout.specs.Encodings.{tableLength, stateNumbers, isSoundTable}
 use Rattle.model.proofs.Lists.{over-seam}
-use Rattle.theory.proofs.Soundness.{fresh-is-plain}
+use Rattle.theory.proofs.Soundness.{fresh-is-plain, fresh-is}
 use Rattle.lists.proofs.Calls.{unsound-call}
 use Rattle.lists.proofs.Sizes.{Whole, call-whole}
 use Rattle.lists.proofs.Demand3.{every-list}
@@ -21,7 +21,7 @@ use Rattle.layout.proofs.Encodings.{table-length, table-comes-back}
 use Rattle.layout.specs.Interface.{Lent, LentBoth, recordGave}
 use Rattle.layout.specs.Guarantees.{LentCall, lentCall, lentResults, lentRun, callIn, summaryAfter}
 use Rattle.layout.specs.Guarantees.{inNumbers, allInNumbers, LentDemand3, EveryLentList}
-use Rattle.layout.proofs.LentSteps.{FreshGiven, fresh-given, fresh-is, summary-kept, CallGiven, given}
+use Rattle.layout.proofs.LentSteps.{FreshGiven, fresh-given, summary-kept, CallGiven, given}
 
 -- One call
 

@@ -12,11 +12,9 @@ use borrow.Author.Tests.{ltb-true, ltb-false, eqb-true, eqb-false, lt-ltb, le-lt
 use Rattle.model.specs.declared.Parameters.{Parameters}
 use Rattle.model.specs.declared.State.{State}
 use Rattle.model.specs.declared.Answer.{Answer}
-use Rattle.model.specs.declared.Outcome.{Outcome}
 use Rattle.model.specs.declared.Recorded.{Recorded}
-use Rattle.model.specs.States.{countStands, limitsStand}
 use Rattle.model.specs.Answers.{answerOf, freshOf, stepOf}
-use Rattle.model.specs.Facts.{Accepted, IsFresh}
+use Rattle.model.specs.Facts.{Accepted}
 use Rattle.model.specs.Readings.{over}
 use Rattle.model.specs.Summaries.{newStatistics, statisticsSound, beside, recordedOf}
 use Rattle.model.specs.Calls.{callOf}
@@ -41,21 +39,6 @@ module _ (k : Parameters) (table : List ℕ) where
       by-cond FreshGiven (not (eqb (freshOf k .answer .code) 0)) (λ e. refused (eqb-false _ _ (not-true _ e)))
       (λ g. by-cond FreshGiven (ltb (length table) tableLength) (λ _. refused (omega arith))
       (λ e. made (eqb-true _ _ (not-false _ g)) (ltb-false _ _ e)))
-
-module _ (k : Parameters) (e : Accepted (freshOf k)) where
-  -- an accepted call gives a fresh table
-  pub fresh-is : IsFresh (freshOf k .state)
-  fresh-is = record { parameters = k; accepted = e; is = refl }
-
-  abbrev Bare : Outcome → Type 0
-  Bare o = Accepted o → o .answer ≡ answerOf 0 0 0
-
-  -- and an answer with nothing in it
-  pub fresh-answer : freshOf k .answer ≡ answerOf 0 0 0
-  unfolding freshOf
-  fresh-answer =
-      by-cond Bare (not (countStands k)) (λ _ n. absurd (omega arith))
-      (λ _. by-cond Bare (not (limitsStand k)) (λ _ n. absurd (omega arith)) (λ _ _. refl)) e
 
 -- A new summary
 

@@ -19,13 +19,13 @@ use Rattle.model.specs.Calls.{callOf}
 use Rattle.layout.specs.Encodings.{tableLength, stateNumbers, summaryLength, statisticsNumbers}
 use Rattle.model.proofs.Lists.{over-seam}
 use Rattle.tallies.specs.Tallies.{recordNext, recordAll, recordsOf, startOf}
-use Rattle.theory.proofs.Soundness.{fresh-is-plain}
+use Rattle.theory.proofs.Soundness.{fresh-is-plain, fresh-is, fresh-answer}
 use Rattle.lists.proofs.Sizes.{Whole, call-whole, tries-as-long}
 use Rattle.tallies.proofs.Tallies.{every-tally}
 use Rattle.layout.proofs.Encodings.{table-length, summary-length, summary-comes-back}
 use Rattle.layout.specs.Interface.{Lent, LentSummary, LentBoth, recordGave}
 use Rattle.layout.specs.Guarantees.{LentCall, lentCall, callIn, inNumbers, lentAll, lentRecords, bothInNumbers, EveryLentTally}
-use Rattle.layout.proofs.LentSteps.{FreshGiven, fresh-given, fresh-is, fresh-answer, NewGiven, new-given, recordCall}
+use Rattle.layout.proofs.LentSteps.{FreshGiven, fresh-given, NewGiven, new-given, recordCall}
 use Rattle.layout.proofs.LentLists.{call-in-numbers}
 
 -- One recorded step

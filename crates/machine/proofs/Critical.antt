@@ -11,7 +11,7 @@ use borrow.Author.Tests.{lt-ltb, le-ltb, eq-eqb, ne-eqb}
 use Rattle.model.specs.declared.Location.{Location}
 use Rattle.model.specs.declared.Process.{Process}
 use Rattle.model.specs.Stages.{critical}
-use Rattle.model.specs.States.{stageOf}
+use Rattle.model.specs.States.{entry, stageOf}
 use Rattle.model.specs.Answers.{criticalFrom}
 use Rattle.machine.specs.Judging.{lowestOf}
 use Rattle.model.proofs.Tests.{by-test, if-eq}
@@ -68,7 +68,7 @@ module _ (acting k others : ℕ) (to : Location) where
 
 -- the acting process, which has place i in the list, comes to a location
 pub others-moved : (acting k : ℕ) (l : List Process) (i : ℕ) (to : Location) → acting ≡ k + i → i < length l → 1 ≤ k
-    → criticalFrom k (set l i (record { location = to })) ≡ lowestOf (othersFrom acting k l) acting to
+    → criticalFrom k (set l i (entry to)) ≡ lowestOf (othersFrom acting k l) acting to
 unfolding criticalFrom othersFrom
 others-moved acting k [] i to e h z = absurd (omega arith)
 others-moved acting k (q ∷ qs) zero to e h z =

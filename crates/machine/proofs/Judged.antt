@@ -1,5 +1,5 @@
--- The step of the model goes with the answer that the code judges on numbers, condition by condition; and the two exits of the
--- function give that step. Assumes nothing.
+-- The step of the model goes with the answer that the code judges on numbers, condition by condition; and the exits of the function
+-- give that step. Assumes nothing.
 use Prim.Native.Nat.{ℕ, _+_, _-_, _≤_}
 use mathlib.Core.Path.{_≡_, refl, sym, ap, _∙_}
 use mathlib.Core.Logic.{_≢_}
@@ -7,30 +7,35 @@ use mathlib.Core.Bool.{Bool, true, false, cond, not, _&&_, _||_}
 use native.Mathlib.Omega.{arith}
 use lib.Dec.{ltb, eqb}
 use lib.ListN.{length, set}
-use borrow.Author.Tests.{ltb-false, eq-eqb, ne-eqb, eqb-true, not-false}
+use borrow.Author.Tests.{ltb-true, ltb-false, lt-ltb, le-ltb, eq-eqb, ne-eqb, eqb-true, not-false}
 use Rattle.model.specs.declared.Location.{Location}
 use Rattle.model.specs.declared.State.{State}
 use Rattle.model.specs.declared.Transition.{Transition}
 use Rattle.model.specs.declared.Answer.{Answer}
 use Rattle.model.specs.declared.Outcome.{Outcome}
 use Rattle.model.specs.Stages.{checking}
-use Rattle.model.specs.States.{stageOf, sinceOf, release, soundOf, entryOf}
+use Rattle.model.specs.Acts.{waitAct, checkAct, lastAct, leaves}
+use Rattle.model.specs.States.{lastTime, entry, stageOf, sinceOf, release, soundOf, entryOf}
 use Rattle.model.specs.Actions.{transitionOf, changed, waited, moved, effect}
-use Rattle.model.specs.Answers.{answerOf, answers, backward, beyond, unknown, misnamed, lateOf, misplaced, early, criticalOf, accepts, stepOf}
+use Rattle.model.specs.Answers.{answerOf, answers, backward, beyond, unknown, misnamed, Due, firstDeadline, missed, misplaced, early}
+use Rattle.model.specs.Answers.{criticalOf, accepts, stepOf}
+use Rattle.machine.specs.declared.survey.Scene.{Scene}
 use Rattle.machine.specs.declared.survey.Survey.{Survey}
-use Rattle.machine.specs.Survey.{numbersOf}
+use Rattle.machine.specs.Survey.{sceneOf}
 use Rattle.machine.specs.Judging.{lowestOf, turnJudged, judged}
 use Rattle.model.proofs.Soundness.{sound-numbers}
-use Rattle.model.proofs.Tests.{by-test, if-eq, tests}
+use Rattle.model.proofs.Tests.{by-test, if-lt, if-eq, tests}
+use Rattle.model.proofs.Rows.{row-leaves}
 use Rattle.machine.proofs.Critical.{others-all, others-moved}
+use Rattle.machine.proofs.Notes.{Finds, none, one}
 use Rattle.machine.proofs.Pass.{Whole, Surveyed, faulty, whole}
 
 -- The outcome o of the model goes with the answer j of the code
 pub data Goes (s : State) (act p m : ℕ) (o : Outcome) (j : Answer) : Type 0 where
   refuses : o ≡ record { answer = j; state = s } → j .code ≢ 0 → Goes s act p m o j
-  waits : act ≡ 0 → p ≡ 0 → o ≡ record { answer = j; state = waited s m } → j .code ≡ 0 → Goes s act p m o j
-  moves : 1 ≤ act → act ≤ 8 → 1 ≤ p → p ≤ 96 → o ≡ record { answer = j; state = moved s p m (transitionOf s act p m) } → j .code ≡ 0
-      → Goes s act p m o j
+  waits : act ≡ waitAct → p ≡ 0 → o ≡ record { answer = j; state = waited s m } → j .code ≡ 0 → Goes s act p m o j
+  moves : act ≢ waitAct → act ≤ lastAct → 1 ≤ p → p ≤ 96 → o ≡ record { answer = j; state = moved s p m (transitionOf s act p m) }
+      → j .code ≡ 0 → Goes s act p m o j
 
 by-both : {s : State} {act p m : ℕ} {o o′ : Outcome} {j j′ : Answer} (t u : Bool) → t ≡ u
     → (u ≡ true → Goes s act p m o j) → (u ≡ false → Goes s act p m o′ j′) → Goes s act p m (cond t o o′) (cond u j j′)
@@ -40,94 +45,106 @@ by-both t false e f g = rw e (g refl)
 -- the last conditions of `stepOf`, for an act that nobody is late for
 abbrev turnOf : State → ℕ → ℕ → ℕ → Outcome
 turnOf s act p m =
-    cond (misplaced s act p m) (answers 9 p 0 s)
+    cond (misplaced s act p) (answers 9 p 0 s)
     (cond (early s act p m) (answers 10 p (release s (entryOf s p)) s) (accepts (effect s act p m)))
 
 refusal : {s : State} {act p m : ℕ} {j : Answer} → j .code ≢ 0 → Goes s act p m (record { answer = j; state = s }) j
 refusal n = refuses refl n
 
+-- The first deadline against the time that is left to it
+
+module _ {clock process left m : ℕ} (h : m ≤ lastTime) where
+  missed-is : {d : Due} → Finds clock process left d → missed d m ≡ ltb left (m - clock)
+  missed-is (none z e) = sym (le-ltb left (m - clock) (omega (arith, e)))
+  missed-is (one n) =
+      rw (ne-eqb process 0 n)
+      (if-lt left (m - clock)
+      (λ l. lt-ltb (clock + left) m (omega (arith, l)) ∙ sym (lt-ltb left (m - clock) l))
+      (λ l. le-ltb (clock + left) m (omega (arith, l)) ∙ sym (le-ltb left (m - clock) l)))
+
+  missed-goes : {s : State} {act p : ℕ} {d : Due} → Finds clock process left d → ltb left (m - clock) ≡ true
+      → Goes s act p m (answers 8 (d .process) (d .time) s) (answerOf 8 process (clock + left))
+  missed-goes (none z e) late = absurd (omega (arith, e, ltb-true left (m - clock) late))
+  missed-goes (one n) late = refusal (λ z. omega arith)
+
 -- A sound state
 
-module _ (s : State) (act p m : ℕ) (f : Survey) (found : Whole s p m f) (size : length (s .processes) ≡ 96) where
+module _ (s : State) (act p m : ℕ) (f : Survey) (found : Whole s p f) (size : length (s .processes) ≡ 96) where
+  abbrev scene : Scene
+  scene = sceneOf (s .parameters) (s .clock) p
+
+  wait-goes : act ≡ waitAct → p ≡ 0 → Goes s act p m (accepts (effect s act p m)) (answerOf 0 (f .critical) m)
+  unfolding effect criticalOf
+  wait-goes e z = rw (eq-eqb act waitAct e) (waits e z (rw (others-all p 1 (s .processes) (omega arith), found .critical)) refl)
+
   -- an action of a process from 1 to 96 that nobody is late for
-  module _ (some : 1 ≤ act) (known : act ≤ 8) (from : 1 ≤ p) (to : p ≤ 96) where
+  module _ (some : act ≢ waitAct) (known : act ≤ lastAct) (from : 1 ≤ p) (to : p ≤ 96) where
     moves-on : Goes s act p m (accepts (effect s act p m)) (answerOf 0 (lowestOf (f .critical) p (transitionOf s act p m .to)) m)
     unfolding effect criticalOf
-    moves-on = rw (ne-eqb act 0 (λ z. omega arith))
+    moves-on = rw (ne-eqb act waitAct some)
         (moves some known from to
         (rw (others-moved p 1 (s .processes) (p - 1) (transitionOf s act p m .to) (omega arith) (omega arith) (omega arith), found .critical))
         refl)
 
     -- a check leaves checking, and there its release is b after its arrival
-    check-from : act ≡ 4 → transitionOf s act p m .from ≡ checking
-    unfolding transitionOf
-    check-from e = rw e
+    check-leaves : act ≡ checkAct → leaves act ≡ checking
+    unfolding leaves
+    check-leaves e = rw e
 
-    module _ (placed : stageOf (entryOf s p .location) ≡ transitionOf s act p m .from) where
-      check-release : act ≡ 4 → release s (entryOf s p) ≡ sinceOf (entryOf s p .location) + s .parameters .b
-      check-release e = simp (eq-eqb (stageOf (entryOf s p .location)) checking (placed ∙ check-from e))
+    module _ (placed : stageOf (entryOf s p .location) ≡ leaves act) where
+      check-release : act ≡ checkAct → release s (entryOf s p) ≡ sinceOf (entryOf s p .location) + s .parameters .b
+      check-release e = simp (eq-eqb (stageOf (entryOf s p .location)) checking (placed ∙ check-leaves e))
 
-      early-is : early s act p m ≡ eqb act 4 && ltb m (sinceOf (entryOf s p .location) + s .parameters .b)
-      early-is = by-test (eqb act 4) (λ e. rw (check-release (eqb-true act 4 e))) (λ e. simp e)
+      early-is : early s act p m ≡ eqb act checkAct && ltb m (sinceOf (entryOf s p .location) + s .parameters .b)
+      early-is = by-test (eqb act checkAct) (λ e. rw (check-release (eqb-true act checkAct e))) (λ e. simp e)
 
     turn-goes : Goes s act p m (turnOf s act p m)
-        (turnJudged (f .critical) (s .parameters .b) (entryOf s p .location) (transitionOf s act p m) act p m)
+        (turnJudged (f .critical) scene (stageOf (entryOf s p .location)) (sinceOf (entryOf s p .location)) (transitionOf s act p m) act m)
     unfolding turnJudged
     turn-goes =
-        by-both (misplaced s act p m) _ (simp (ne-eqb act 0 (λ z. omega arith))) (λ _. refusal (λ z. omega arith))
-        (λ e. let placed : stageOf (entryOf s p .location) ≡ transitionOf s act p m .from = eqb-true _ _ (not-false _ e) in
+        by-both (misplaced s act p) _ (rw (row-leaves s act p m) (simp (ne-eqb act waitAct some))) (λ _. refusal (λ z. omega arith))
+        (λ e. let placed : stageOf (entryOf s p .location) ≡ leaves act = eqb-true _ _ (not-false _ e) ∙ row-leaves s act p m in
         by-both (early s act p m) _ (early-is placed)
         (λ h. rw (check-release placed ((simp tests at h) .0)) (refusal (λ z. omega arith)))
         (λ _. moves-on))
 
-  -- lateness, from the time that is left
-  late-is : eqb (lateOf s m .code) 8 ≡ ltb (f .left) (m - s .clock)
-  late-is = rw (found .late) (by-test (ltb (f .left) (m - s .clock)) (λ e. simp e) (λ e. simp e))
-
-  late-goes : ltb (f .left) (m - s .clock) ≡ true
-      → Goes s act p m (record { answer = lateOf s m; state = s }) (answerOf 8 (f .process) (s .clock + f .left))
-  late-goes e = refuses (rw (found .late) (simp e)) (λ z. omega arith)
-
-  wait-goes : act ≡ 0 → p ≡ 0 → Goes s act p m (accepts (effect s act p m)) (answerOf 0 (f .critical) m)
-  unfolding effect criticalOf
-  wait-goes e z = rw (eq-eqb act 0 e) (waits e z (rw (others-all p 1 (s .processes) (omega arith), found .critical)) refl)
-
   module _ (own : Location) (t : Transition)
       (own-is : 1 ≤ p → p ≤ 96 → own ≡ entryOf s p .location)
-      (t-is : 1 ≤ act → act ≤ 8 → t ≡ transitionOf s act p m)
+      (t-is : act ≢ waitAct → act ≤ lastAct → t ≡ transitionOf s act p m)
       (few : s .parameters .n ≤ 96) where
     -- past the refusals up to 8: a wait, or an action of a process
-    past-late : act ≤ 8 → misnamed (s .parameters .n) act p ≡ false → Goes s act p m (turnOf s act p m)
-        (cond (eqb act 0) (answerOf 0 (f .critical) m) (turnJudged (f .critical) (s .parameters .b) own t act p m))
-    past-late known named = if-eq act 0
-        (λ e. rw (eq-eqb act 0 e, ne-eqb act 4 (λ (q : act ≡ 4). omega arith))
-        (wait-goes e (eqb-true p 0 (not-false (eqb p 0) (rw (eq-eqb act 0 e) at named)))))
-        (λ n. acts (omega arith) (rw (ne-eqb act 0 n) at named))
+    past-late : act ≤ lastAct → misnamed (s .parameters .n) act p ≡ false → Goes s act p m (turnOf s act p m)
+        (cond (eqb act waitAct) (answerOf 0 (f .critical) m) (turnJudged (f .critical) scene (stageOf own) (sinceOf own) t act m))
+    past-late known named = if-eq act waitAct
+        (λ e. rw (eq-eqb act waitAct e, ne-eqb act checkAct (λ (q : act ≡ checkAct). omega arith))
+        (wait-goes e (eqb-true p 0 (not-false (eqb p 0) (rw (eq-eqb act waitAct e) at named)))))
+        (λ n. acts n (rw (ne-eqb act waitAct n) at named))
       where
-        acts : 1 ≤ act → eqb p 0 || ltb (s .parameters .n) p ≡ false → Goes s act p m (turnOf s act p m)
-            (cond (eqb act 0) (answerOf 0 (f .critical) m) (turnJudged (f .critical) (s .parameters .b) own t act p m))
+        acts : act ≢ waitAct → eqb p 0 || ltb (s .parameters .n) p ≡ false → Goes s act p m (turnOf s act p m)
+            (cond (eqb act waitAct) (answerOf 0 (f .critical) m) (turnJudged (f .critical) scene (stageOf own) (sinceOf own) t act m))
         acts some h =
             let range : (1 ≤ p) × (p ≤ 96) = omega (arith, simp tests at h) in
-            let n : eqb act 0 ≡ false = ne-eqb act 0 (λ (q : act ≡ 0). omega arith) in
-            rw (n, own-is (range .0) (range .1), t-is some known) (rw n at (turn-goes some known (range .0) (range .1)))
+            rw (ne-eqb act waitAct some, own-is (range .0) (range .1), t-is some known)
+            (rw (ne-eqb act waitAct some) at (turn-goes some known (range .0) (range .1)))
 
     -- the answers table, row by row
-    sound-goes : Goes s act p m (stepOf s act p m) (judged f (numbersOf s) own t act p m)
+    sound-goes : Goes s act p m (stepOf s act p m) (judged f scene (stageOf own) (sinceOf own) t act m)
     unfolding stepOf judged
     sound-goes =
-        by-both (not (soundOf s)) (not (eqb (f .faults) 0)) (ap not (found .sound ∙ sym (eq-eqb _ 0 (found .none))))
+        by-both (not (soundOf s)) (not (eqb (f .faults) 0)) (ap not (found .sound ∙ sym (eq-eqb _ 0 (found .faultless))))
         (λ _. refusal (λ z. omega arith))
         (λ _. by-both (backward s m) _ refl (λ _. refusal (λ z. omega arith))
         (λ _. by-both (beyond m) _ refl (λ _. refusal (λ z. omega arith))
-        (λ _. by-both (unknown act) _ refl (λ _. refusal (λ z. omega arith))
+        (λ within. let h : m ≤ lastTime = ltb-false lastTime m within in
+        by-both (unknown act) _ refl (λ _. refusal (λ z. omega arith))
         (λ known. by-both (misnamed (s .parameters .n) act p) _ refl (λ _. refusal (λ z. omega arith))
-        (λ named. by-both (eqb (lateOf s m .code) 8) _ late-is late-goes
-        (λ _. past-late (ltb-false 8 act known) named))))))
+        (λ named. by-both (missed (firstDeadline s) m) _ (missed-is h (found .finds)) (missed-goes h (found .finds))
+        (λ _. past-late (ltb-false lastAct act known) named))))))
 
 -- Any state
 
 unsound-goes : (s : State) (act p m : ℕ) (f : Survey) (own : Location) (t : Transition) → soundOf s ≡ false → f .faults ≢ 0
-    → Goes s act p m (stepOf s act p m) (judged f (numbersOf s) own t act p m)
+    → Goes s act p m (stepOf s act p m) (judged f (sceneOf (s .parameters) (s .clock) p) (stageOf own) (sinceOf own) t act m)
 unfolding stepOf judged
 unsound-goes s act p m f own t e n = rw (e, ne-eqb (f .faults) 0 n) (refusal (λ z. omega arith))
 
@@ -137,9 +154,9 @@ unfolding stepOf
 exit-unsound s act p m e = rw e
 
 pub goes : (s : State) (act p m : ℕ) (f : Survey) (own : Location) (t : Transition)
-    → Surveyed s p m f → length (s .processes) ≡ 96
-    → (1 ≤ p → p ≤ 96 → own ≡ entryOf s p .location) → (1 ≤ act → act ≤ 8 → t ≡ transitionOf s act p m)
-    → Goes s act p m (stepOf s act p m) (judged f (numbersOf s) own t act p m)
+    → Surveyed s p f → length (s .processes) ≡ 96
+    → (1 ≤ p → p ≤ 96 → own ≡ entryOf s p .location) → (act ≢ waitAct → act ≤ lastAct → t ≡ transitionOf s act p m)
+    → Goes s act p m (stepOf s act p m) (judged f (sceneOf (s .parameters) (s .clock) p) (stageOf own) (sinceOf own) t act m)
 goes s act p m f own t (faulty e n) size own-is t-is = unsound-goes s act p m f own t e n
 goes s act p m f own t (whole w) size own-is t-is = sound-goes s act p m f w size own t own-is t-is (sound-numbers s (w .sound) .count)
 
@@ -151,16 +168,16 @@ exit-refused s act p m o j (refuses e n) h = sym e
 exit-refused s act p m o j (waits a z e h′) h = absurd (h h′)
 exit-refused s act p m o j (moves some known from to e h′) h = absurd (h h′)
 
-pub exit-waited : (s : State) (act p m : ℕ) (o : Outcome) (j : Answer) → Goes s act p m o j → j .code ≡ 0 → act ≡ 0
+pub exit-waited : (s : State) (act p m : ℕ) (o : Outcome) (j : Answer) → Goes s act p m o j → j .code ≡ 0 → act ≡ waitAct
     → record { answer = j; state = waited s m } ≡ o
 exit-waited s act p m o j (refuses e n) h a = absurd (n h)
 exit-waited s act p m o j (waits a′ z e h′) h a = sym e
-exit-waited s act p m o j (moves some known from to e h′) h a = absurd (omega arith)
+exit-waited s act p m o j (moves some known from to e h′) h a = absurd (some a)
 
 -- the entry of a process is stored at its slot
 pub exit-moved : (s : State) (act p m slot : ℕ) (t : Transition) (o : Outcome) (j : Answer)
-    → (p ≤ 96 → slot ≡ p - 1) → (1 ≤ act → act ≤ 8 → t ≡ transitionOf s act p m) → Goes s act p m o j → j .code ≡ 0 → act ≢ 0
-    → record { answer = j; state = changed s m (t .word) (set (s .processes) slot (record { location = t .to })) } ≡ o
+    → (p ≤ 96 → slot ≡ p - 1) → (act ≢ waitAct → act ≤ lastAct → t ≡ transitionOf s act p m) → Goes s act p m o j → j .code ≡ 0
+    → act ≢ waitAct → record { answer = j; state = changed s m (t .word) (set (s .processes) slot (entry (t .to))) } ≡ o
 exit-moved s act p m slot t o j slot-is t-is (refuses e n) h a = absurd (n h)
 exit-moved s act p m slot t o j slot-is t-is (waits a′ z e h′) h a = absurd (a a′)
 exit-moved s act p m slot t o j slot-is t-is (moves some known from to e h′) h a = rw (slot-is to, t-is some known) (sym e)

@@ -1,6 +1,6 @@
 pub mod Laws
 pub mod Critical
-pub mod Notes
 pub mod Entries
+pub mod Notes
 pub mod Pass
 pub mod Judged

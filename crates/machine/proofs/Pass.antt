@@ -1,70 +1,85 @@
 -- The one pass over the entries: after i of them, what is left of each of the model's searches gives what the whole gives. One note
 -- takes each search one entry on, and after 96 entries nothing is left of them. Assumes nothing.
-use Prim.Native.Nat.{ℕ, _+_, _-_, _≤_, _<_, _^_}
+use Prim.Native.Nat.{ℕ, _+_, _≤_, _<_, _^_}
 use mathlib.Core.Path.{_≡_, refl, sym, _∙_}
 use mathlib.Core.Logic.{_≢_}
-use mathlib.Core.Bool.{true, false, cond, _&&_}
+use mathlib.Core.Bool.{Bool, true, false, cond, _&&_}
 use mathlib.Core.List.{[], _∷_}
 use native.Mathlib.Omega.{arith}
 use lib.Dec.{eqb}
 use lib.ListN.{length, getD, drop}
-use borrow.Author.Tests.{le-ltb, eqb-true}
+use borrow.Author.Tests.{eqb-true}
 use Rattle.model.specs.declared.Process.{Process}
 use Rattle.model.specs.declared.State.{State}
-use Rattle.model.specs.Stages.{critical}
-use Rattle.model.specs.States.{idle, sinceOf, deadline, late, entrySound, entriesSound, soundOf}
-use Rattle.model.specs.Answers.{answerOf, soonest, lateOf}
+use Rattle.model.specs.States.{idle, sinceOf, limitIn, limitOf, deadline, entrySound, entriesSound, soundOf}
+use Rattle.model.specs.Answers.{Due, due, noneDue, sooner, firstFrom, firstDeadline}
 use Rattle.machine.specs.declared.survey.Survey.{Survey}
-use Rattle.machine.specs.Survey.{numbersOf, numbersStand, nothing, noted}
+use Rattle.machine.specs.Survey.{sceneOf, numbersStand, nothing, noted}
 use Rattle.model.proofs.Soundness.{sound-numbers, sound-past}
-use Rattle.model.proofs.Tests.{by-test}
+use Rattle.model.proofs.Tests.{by-test, tests}
 use Rattle.model.proofs.Lists.{drop-at, drop-end}
 use Rattle.machine.proofs.Critical.{otherCritical, othersFrom}
-use Rattle.machine.proofs.Notes.{lateFrom, first, Noted, fault, fine, note-at}
+use Rattle.machine.proofs.Notes.{Finds, none, Ends, first, Noted, fault, fine, note-at}
 
--- after i entries: f is found, and what is left of each search gives what the whole gives
-pub record Passed (s : State) (acting m i : ℕ) (f : Survey) : Type 0 where
-  pub most : i ≤ 96
-  pub size : length (s .processes) ≡ 96
-  pub none : f .faults ≡ 0
-  pub stand : numbersStand (numbersOf s) ≡ true
-  pub sound : entriesSound s (i + 1) (drop i (s .processes)) ≡ entriesSound s 1 (s .processes)
-  pub late : soonest s (i + 1) (lateFrom s m f) (drop i (s .processes)) ≡ lateOf s m
-  pub critical : first (f .critical) (othersFrom acting (i + 1) (drop i (s .processes))) ≡ othersFrom acting 1 (s .processes)
+-- The numbers of a state
 
--- what the pass tells: a fault, or what the model's searches give
-pub record Whole (s : State) (acting m : ℕ) (f : Survey) : Type 0 where
-  pub none : f .faults ≡ 0
-  pub sound : soundOf s ≡ true
-  pub late : lateOf s m ≡ lateFrom s m f
-  pub critical : othersFrom acting 1 (s .processes) ≡ f .critical
+abbrev pub standing : State → Bool
+standing s = numbersStand (s .parameters) (s .clock) (s .word)
 
-pub data Surveyed (s : State) (acting m : ℕ) (f : Survey) : Type 0 where
-  faulty : soundOf s ≡ false → f .faults ≢ 0 → Surveyed s acting m f
-  whole : Whole s acting m f → Surveyed s acting m f
-
-pub sound-parts : (s : State) → soundOf s ≡ numbersStand (numbersOf s) && entriesSound s 1 (s .processes)
+pub sound-parts : (s : State) → soundOf s ≡ standing s && entriesSound s 1 (s .processes)
 unfolding soundOf numbersStand
 sound-parts s = refl
 
-pub numbers-fault : (s : State) → numbersStand (numbersOf s) ≡ false → soundOf s ≡ false
+pub numbers-fault : (s : State) → standing s ≡ false → soundOf s ≡ false
 numbers-fault s e = sound-parts s ∙ rw e
 
-pub nothing-passed : (s : State) (acting m : ℕ) → numbersStand (numbersOf s) ≡ true → length (s .processes) ≡ 96 → m < 2 ^ 64
-    → Passed s acting m 0 nothing
-unfolding lateOf
-nothing-passed s acting m stand size h = record {
+-- standing limits are far below the time left where there is no deadline
+numbers-end : (s : State) → standing s ≡ true → (k : ℕ) → Ends s k
+unfolding numbersStand limitIn
+numbers-end s e k = omega (arith, simp tests at e)
+
+-- The pass
+
+-- after i entries: f is found, and what is left of each search gives what the whole gives
+pub record Passed (s : State) (acting i : ℕ) (f : Survey) : Type 0 where
+  pub most : i ≤ 96
+  pub size : length (s .processes) ≡ 96
+  pub faultless : f .faults ≡ 0
+  pub stand : standing s ≡ true
+  pub sound : entriesSound s (i + 1) (drop i (s .processes)) ≡ entriesSound s 1 (s .processes)
+  pub due-yet : Due
+  pub finds : Finds (s .clock) (f .process) (f .left) due-yet
+  pub due-left : firstFrom s (i + 1) due-yet (drop i (s .processes)) ≡ firstDeadline s
+  pub critical : first (f .critical) (othersFrom acting (i + 1) (drop i (s .processes))) ≡ othersFrom acting 1 (s .processes)
+
+-- what the pass tells: a fault, or what the model's searches give
+pub record Whole (s : State) (acting : ℕ) (f : Survey) : Type 0 where
+  pub faultless : f .faults ≡ 0
+  pub sound : soundOf s ≡ true
+  pub finds : Finds (s .clock) (f .process) (f .left) (firstDeadline s)
+  pub critical : othersFrom acting 1 (s .processes) ≡ f .critical
+
+pub data Surveyed (s : State) (acting : ℕ) (f : Survey) : Type 0 where
+  faulty : soundOf s ≡ false → f .faults ≢ 0 → Surveyed s acting f
+  whole : Whole s acting f → Surveyed s acting f
+
+pub nothing-passed : (s : State) (acting : ℕ) → standing s ≡ true → length (s .processes) ≡ 96
+    → Passed s acting 0 nothing
+unfolding firstDeadline
+nothing-passed s acting stand size = record {
   most = omega arith;
   size = size;
-  none = refl;
+  faultless = refl;
   stand = stand;
   sound = refl;
-  late = simp (le-ltb 18446744073709551615 (m - s .clock) (omega arith));
+  due-yet = noneDue;
+  finds = none refl refl;
+  due-left = refl;
   critical = refl;
 }
 
-module _ (s : State) (acting m i : ℕ) (f : Survey) (passed : Passed s acting m i f) (more : i < 96)
-    (d : Process) (g : Survey) (e : g ≡ noted (numbersOf s) acting (i + 1) (getD (s .processes) i d .location) f) where
+module _ (s : State) (acting i : ℕ) (f : Survey) (passed : Passed s acting i f) (more : i < 96) (d : Process) (g : Survey)
+    (e : g ≡ noted (sceneOf (s .parameters) (s .clock) acting) (i + 1) (getD (s .processes) i d .location) (limitOf s (i + 1)) f) where
   abbrev q : Process
   q = getD (s .processes) i d
 
@@ -72,18 +87,19 @@ module _ (s : State) (acting m i : ℕ) (f : Survey) (passed : Passed s acting m
   next-entry : drop i (s .processes) ≡ q ∷ drop (i + 1) (s .processes)
   next-entry = drop-at (s .processes) i d (omega (arith, passed .size))
 
-  is-noted : Noted s acting (i + 1) m q f g
-  is-noted = rw e (note-at s acting (i + 1) m f (passed .none) (omega arith) (q .location))
+  is-noted : Noted s acting (i + 1) q f g
+  is-noted = rw e (note-at s acting (i + 1) f (passed .faultless) (q .location))
 
   sound-left : entrySound s (i + 1) q && entriesSound s (i + 1 + 1) (drop (i + 1) (s .processes)) ≡ entriesSound s 1 (s .processes)
   unfolding entriesSound
   sound-left = rw next-entry at (passed .sound)
 
-  late-left :
-      soonest s (i + 1 + 1) (cond (late s (lateFrom s m f .time) (i + 1) q) (answerOf 8 (i + 1) (deadline s (i + 1) q)) (lateFrom s m f))
-      (drop (i + 1) (s .processes)) ≡ lateOf s m
-  unfolding soonest
-  late-left = rw next-entry at (passed .late)
+  abbrev due-next : Due
+  due-next = cond (sooner s (i + 1) q (passed .due-yet)) (due (i + 1) (deadline s (i + 1) q)) (passed .due-yet)
+
+  due-left : firstFrom s (i + 1 + 1) due-next (drop (i + 1) (s .processes)) ≡ firstDeadline s
+  unfolding firstFrom
+  due-left = rw next-entry at (passed .due-left)
 
   critical-left :
       first (f .critical) (cond (otherCritical acting (i + 1) q) (i + 1) (othersFrom acting (i + 1 + 1) (drop (i + 1) (s .processes))))
@@ -94,41 +110,42 @@ module _ (s : State) (acting m i : ℕ) (f : Survey) (passed : Passed s acting m
   pub turn-fault : g .faults ≢ 0 → soundOf s ≡ false
   turn-fault n = go is-noted
     where
-      go : Noted s acting (i + 1) m q f g → soundOf s ≡ false
+      go : Noted s acting (i + 1) q f g → soundOf s ≡ false
       go (fault t z) = sound-parts s ∙ rw (passed .stand) (sym sound-left ∙ rw t)
-      go (fine t) = absurd (n (t .none))
+      go (fine t) = absurd (n (t .faultless))
 
-  pub turn-passed : g .faults ≡ 0 → Passed s acting m (i + 1) g
-  unfolding entriesSound soonest othersFrom
+  pub turn-passed : g .faults ≡ 0 → Passed s acting (i + 1) g
   turn-passed n = go is-noted
     where
-      go : Noted s acting (i + 1) m q f g → Passed s acting m (i + 1) g
+      go : Noted s acting (i + 1) q f g → Passed s acting (i + 1) g
       go (fault t z) = absurd (z n)
       go (fine t) = record {
         most = omega arith;
         size = passed .size;
-        none = n;
+        faultless = n;
         stand = passed .stand;
         sound = rw (t .sound) at sound-left;
-        late = rw (t .late-next) at late-left;
-        critical = sym (t .critical-next _) ∙ critical-left;
+        due-yet = due-next;
+        finds = t .due-next (omega arith) (numbers-end s (passed .stand) (i + 1)) (passed .finds);
+        due-left = due-left;
+        critical = sym (t .critical-next (omega arith) _) ∙ critical-left;
       }
 
 -- nothing is left after 96 entries
-pub passed-whole : (s : State) (acting m i : ℕ) (f : Survey) → Passed s acting m i f → 96 ≤ i → Whole s acting m f
-unfolding entriesSound soonest othersFrom
-passed-whole s acting m i f passed h =
+pub passed-whole : (s : State) (acting i : ℕ) (f : Survey) → Passed s acting i f → 96 ≤ i → Whole s acting f
+unfolding entriesSound firstFrom othersFrom
+passed-whole s acting i f passed h =
     let e : drop i (s .processes) ≡ [] = drop-end (s .processes) i (omega (arith, passed .size)) (omega (arith, passed .size, passed .most)) in
     record {
-      none = passed .none;
+      faultless = passed .faultless;
       sound = sound-parts s ∙ rw (passed .stand, ← rw e at (passed .sound));
-      late = sym (rw e at (passed .late));
+      finds = rw (← rw e at (passed .due-left)) (passed .finds);
       critical = sym (rw e at (passed .critical)) ∙ by-test (eqb (f .critical) 0) (λ z. rw z (sym (eqb-true _ _ z))) (λ z. rw z);
     }
 
 -- where nothing is at fault, an arrival and b have a sum that fits
-pub surveyed-fits : (s : State) (acting m : ℕ) (f : Survey) → Surveyed s acting m f → f .faults ≡ 0
+pub surveyed-fits : (s : State) (acting : ℕ) (f : Survey) → Surveyed s acting f → f .faults ≡ 0
     → (i : ℕ) → sinceOf (getD (s .processes) i idle .location) + s .parameters .b < 2 ^ 64
-surveyed-fits s acting m f (faulty e n) z i = absurd (n z)
-surveyed-fits s acting m f (whole w) z i =
+surveyed-fits s acting f (faulty e n) z i = absurd (n z)
+surveyed-fits s acting f (whole w) z i =
     omega (arith, sound-past s (w .sound) i, sound-numbers s (w .sound))

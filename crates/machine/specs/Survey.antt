@@ -5,28 +5,32 @@ use mathlib.Core.Bool.{Bool, cond, not, _&&_}
 use mathlib.Core.List.{[]}
 use lib.Dec.{leb, ltb, eqb}
 use Rattle.model.specs.declared.Location.{Location}
-use Rattle.model.specs.declared.Location.the-variants.{Remainder, Testing, Setting, Checking, Entering, Critical, Resetting, Leaving}
+use Rattle.model.specs.declared.Parameters.{Parameters}
 use Rattle.model.specs.declared.State.{State}
-use Rattle.machine.specs.declared.limits.Numbers.{Numbers}
+use Rattle.machine.specs.declared.survey.Scene.{Scene}
 use Rattle.machine.specs.declared.survey.Survey.{Survey}
-use Rattle.model.specs.Stages.{remainder}
-use Rattle.model.specs.States.{countStands, limitsStand, clockStands, wordStands, stageOf}
+use Rattle.model.specs.Stages.{remainder, checking, critical}
+use Rattle.model.specs.States.{parametersStand, clockStands, wordStands, stageOf, sinceOf}
 
--- helper: a state without its entries
-abbrev pub numbersOf : State → Numbers
-numbersOf s = record { n = s .parameters .n; a = s .parameters .a; b = s .parameters .b; c = s .parameters .c; clock = s .clock; word = s .word }
-
--- helper: a state of these numbers that has no entry
-abbrev pub bare : Numbers → State
-bare x = record { n = x .n; a = x .a; b = x .b; c = x .c; clock = x .clock; word = x .word; processes = [] }
+-- helper: a state with these parameters and this clock that has no entry
+abbrev pub bare : Parameters → ℕ → State
+bare k clock = record { parameters = k; clock = clock; word = 0; processes = [] }
 
 -- [2.20] [2.30] [2.40] [2.50] of the numbers of a state
-unfoldable pub numbersStand : Numbers → Bool
-numbersStand x = countStands (x .n) && limitsStand (x .a) (x .b) (x .c) && clockStands (x .clock) && wordStands (x .n) (x .word)
+unfoldable pub numbersStand : Parameters → ℕ → ℕ → Bool
+numbersStand k clock word = parametersStand k && clockStands clock && wordStands (k .n) word
+
+-- helper: what all looks at entries have in common, and who acts
+abbrev pub sceneOf : Parameters → ℕ → ℕ → Scene
+sceneOf k clock acting = record { n = k .n; b = k .b; c = k .c; clock = clock; acting = acting }
+
+-- helper: the time left where there is no deadline: more than there is to any
+abbrev pub endless : ℕ
+endless = 18446744073709551615
 
 -- helper: before the first entry
 abbrev pub nothing : Survey
-nothing = record { faults = 0; process = 0; left = 18446744073709551615; critical = 0 }
+nothing = record { faults = 0; process = 0; left = endless; critical = 0 }
 
 -- One entry more, that of process k
 
@@ -46,25 +50,17 @@ firstAt k left f = record { faults = f .faults; process = k; left = left; critic
 abbrev pub criticalNoted : ℕ → ℕ → Survey → Survey
 criticalNoted acting k f = cond (eqb k acting) f (cond (not (eqb (f .critical) 0)) f (criticalAt k f))
 
--- helper: a process that came at `since` and may stay for `limit`
+-- helper: it came at `since` and may stay for `limit`
 abbrev pub timedNoted : ℕ → ℕ → ℕ → ℕ → Survey → Survey
 timedNoted clock k since limit f =
     cond (ltb clock since) (faulted f)
     (cond (ltb limit (clock - since)) (faulted f)
     (cond (leb (f .left) (limit - (clock - since))) f (firstAt k (limit - (clock - since)) f)))
 
--- helper: by its location, which has the limit
-abbrev pub placeNoted : Numbers → ℕ → ℕ → Location → Survey → Survey
-placeNoted x acting k Remainder f = f
-placeNoted x acting k (Testing t) f = timedNoted (x .clock) k t (x .a) f
-placeNoted x acting k (Setting t) f = timedNoted (x .clock) k t (x .a) f
-placeNoted x acting k (Checking t) f = timedNoted (x .clock) k t (x .c) f
-placeNoted x acting k (Entering t) f = timedNoted (x .clock) k t (x .a) f
-placeNoted x acting k Critical f = criticalNoted acting k f
-placeNoted x acting k (Resetting t) f = timedNoted (x .clock) k t (x .a) f
-placeNoted x acting k (Leaving t) f = timedNoted (x .clock) k t (x .a) f
-
--- helper: the whole of a turn
-unfoldable pub noted : Numbers → ℕ → ℕ → Location → Survey → Survey
-noted x acting k l f =
-    cond (eqb (stageOf l) remainder) f (cond (ltb (x .n) k) (faulted f) (placeNoted x acting k l f))
+-- helper: the whole of a turn; `limit` is the bound of its stay outside checking
+unfoldable pub noted : Scene → ℕ → Location → ℕ → Survey → Survey
+noted x k l limit f =
+    cond (eqb (stageOf l) remainder) f
+    (cond (ltb (x .n) k) (faulted f)
+    (cond (eqb (stageOf l) critical) (criticalNoted (x .acting) k f)
+    (timedNoted (x .clock) k (sinceOf l) (cond (eqb (stageOf l) checking) (x .c) limit) f)))

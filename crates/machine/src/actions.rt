@@ -1,24 +1,42 @@
-// The acts table: the numbers of the acts that are told apart outside their rows, and the rows as values.
+// The acts table: the numbers of the acts, and the rows as values.
 use crate::stages::REMAINDER;
 use model::Location;
 use model::Transition;
 ghost use mathlib.Core.Path.{_≡_};
 ghost use Rattle.model.specs.Actions.{«row», afterTest, afterCheck};
 
+// [3.0]
 pub const WAIT: u64 = 0;
 
+// [3.1]
 pub const TRY: u64 = 1;
 
-pub(crate) const CHECK: u64 = 4;
+// [3.2]
+pub const TEST: u64 = 2;
 
+// [3.3]
+pub const SET: u64 = 3;
+
+// [3.4]
+pub const CHECK: u64 = 4;
+
+// [3.5]
 pub const CRIT: u64 = 5;
 
+// [3.6]
 pub const EXIT: u64 = 6;
 
-pub(crate) const REM: u64 = 8;
+// [3.7]
+pub const RESET: u64 = 7;
+
+// [3.8]
+pub const REM: u64 = 8;
 
 // [3.40] the last act
 pub(crate) const LAST_ACT: u64 = REM;
+
+// [3.40] the first number that is none
+pub(crate) const UNKNOWN: u64 = LAST_ACT + 1;
 
 pub(crate) fn row(from: u64, to: Location, word: u64) -> Transition
     ensures { λ r. ⌜ r ≡ «row» from to word ⌝ }

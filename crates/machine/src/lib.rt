@@ -6,6 +6,15 @@ pub mod limits;
 pub mod stages;
 pub mod survey;
 
+use crate::actions::CHECK;
+use crate::actions::CRIT;
+use crate::actions::EXIT;
+use crate::actions::REM;
+use crate::actions::RESET;
+use crate::actions::SET;
+use crate::actions::TEST;
+use crate::actions::TRY;
+use crate::actions::UNKNOWN;
 use crate::actions::WAIT;
 use crate::actions::checked;
 use crate::actions::no_row;
@@ -88,7 +97,7 @@ pub fn fresh(parameters: Parameters) -> Outcome
 }
 
 // The entry of a process; the first where there is no such process, so that it may be read before the process is judged.
-fn slot_of(process: u64) -> usize
+pub fn slot_of(process: u64) -> usize
     ensures { λ r. ⌜ (r < 96) × (process ≤ 96 → r ≡ process - 1) ⌝ }
 {
     if process == 0 {
@@ -130,16 +139,16 @@ pub fn step(mut state: State, action: u64, process: u64, time: u64) -> Outcome
     }
     let word = state.word;
     let transition = match action {
-        0 => no_row(word), // wait
-        1 => row(REMAINDER, Location::Testing(time), word), // try
-        2 => row(TESTING, tested(word, time), word), // test
-        3 => row(SETTING, Location::Checking(time), process), // set
-        4 => row(CHECKING, checked(word, process, time), word), // check
-        5 => row(ENTERING, Location::Critical, word), // crit
-        6 => row(CRITICAL, Location::Resetting(time), word), // exit
-        7 => row(RESETTING, Location::Leaving(time), 0), // reset
-        8 => row(LEAVING, Location::Remainder, word), // rem
-        9..=18446744073709551615 => no_row(word),
+        WAIT => no_row(word),
+        TRY => row(REMAINDER, Location::Testing(time), word),
+        TEST => row(TESTING, tested(word, time), word),
+        SET => row(SETTING, Location::Checking(time), process),
+        CHECK => row(CHECKING, checked(word, process, time), word),
+        CRIT => row(ENTERING, Location::Critical, word),
+        EXIT => row(CRITICAL, Location::Resetting(time), word),
+        RESET => row(RESETTING, Location::Leaving(time), 0),
+        REM => row(LEAVING, Location::Remainder, word),
+        UNKNOWN.. => no_row(word),
     };
     let answer = judge(
         found,

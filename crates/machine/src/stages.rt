@@ -65,13 +65,13 @@ pub fn location_at(stage: u64, since: u64) -> Location
     ensures { λ r. ⌜ r ≡ locationAt stage since ⌝ }
 {
     match stage {
-        0 => Location::Remainder,
-        1 => Location::Testing(since),
-        2 => Location::Setting(since),
-        3 => Location::Checking(since),
-        4 => Location::Entering(since),
-        5 => Location::Critical,
-        6 => Location::Resetting(since),
-        7..=18446744073709551615 => Location::Leaving(since),
+        REMAINDER => Location::Remainder,
+        TESTING => Location::Testing(since),
+        SETTING => Location::Setting(since),
+        CHECKING => Location::Checking(since),
+        ENTERING => Location::Entering(since),
+        CRITICAL => Location::Critical,
+        RESETTING => Location::Resetting(since),
+        LEAVING.. => Location::Leaving(since),
     }
 }

@@ -1,13 +1,15 @@
 -- Laws of a list of calls, whatever is called: of two lists one after the other, of one call more, how many results there are, and the
--- loop that makes the calls. Assumes nothing.
+-- loop that makes the calls and writes down what they give back. Assumes nothing.
 use Prim.Native.Nat.{ℕ, suc, _+_, _≤_, _<_}
 use mathlib.Core.Path.{_≡_, refl, sym, ap, _∙_}
-use mathlib.Core.List.{List, [], _∷_, _++_}
+use mathlib.Core.List.{List, [], _∷_, _++_, map}
 use native.Mathlib.Numerals.{add-one}
 use native.Mathlib.Omega.{arith}
 use lib.ListN.{length, getD, take}
 use lib.Seq.{length-take-le, take-suc, take-all}
 use Rattle.model.specs.Folds.{endBy, resultsBy}
+use Rattle.model.specs.Readings.{over}
+use Rattle.model.proofs.Lists.{rows-long}
 
 module _ {S D R : Type 0} (gives : S → D → R) (next : R → S) where
   -- Two lists
@@ -72,3 +74,42 @@ module _ {S D R : Type 0} {gives : S → D → R} {next : R → S} {s : S} {ds :
 
     pub results-made : length ds ≤ i → rs ≡ resultsBy gives next s ds
     results-made h = made .results ∙ ap (resultsBy gives next s) (take-all i ds h)
+
+-- The loop that writes down what the calls give back
+
+-- `write` puts results into what is lent: of the n calls ds from s on the first i have been made, they led to t, and l has become m
+pub record Going {S D R L : Type 0} (gives : S → D → R) (next : R → S) (write : List R → L → L) (s : S) (ds : List D) (l : L) (n i : ℕ)
+    (t : S) (m : L) : Type 0 where
+  pub results : List R
+  pub made : Made gives next s ds i t results
+  pub all : n ≡ length ds
+  pub written : m ≡ write results l
+
+module _ {S D R L : Type 0} {gives : S → D → R} {next : R → S} {write : List R → L → L} {s : S} {ds : List D} {l : L} {n : ℕ} where
+  pub sets-out : {t : S} → t ≡ s → n ≡ length ds → l ≡ write [] l → Going gives next write s ds l n 0 t l
+  sets-out e h none = record { results = []; made = rw e begins; all = h; written = none }
+
+  module _ {i : ℕ} {t : S} {m : L} (g : Going gives next write s ds l n i t m) where
+    pub count-going : length (g .results) ≡ i
+    count-going = count-made (g .made)
+
+    -- a list with a row for each call is as long after a row of each result has been stored over its front
+    pub long-going : {B : Type 0} (f : R → B) (rows : List B) → n ≤ length rows → length (over (map f (g .results)) rows) ≡ length rows
+    long-going f rows h = rows-long f (g .results) rows i count-going (omega (arith, g .made .within, g .all))
+
+    -- d is the next call; e is of no account
+    pub moves-on : i < n → (d e : D) → getD ds i e ≡ d → {u : S} {k : L} → u ≡ next (gives t d)
+        → k ≡ write (g .results ++ (gives t d ∷ [])) l → Going gives next write s ds l n (i + 1) u k
+    moves-on h d e at led put = record {
+      results = g .results ++ (gives t d ∷ []);
+      made = rw led (goes-on (g .made) (omega (arith, g .all)) d e at);
+      all = g .all;
+      written = put;
+    }
+
+    -- all have been made
+    pub end-reached : n ≤ i → t ≡ endBy gives next s ds
+    end-reached h = end-made (g .made) (omega (arith, g .all))
+
+    pub all-written : n ≤ i → m ≡ write (resultsBy gives next s ds) l
+    all-written h = g .written ∙ ap (λ (rs : List R). write rs l) (results-made (g .made) (omega (arith, g .all)))

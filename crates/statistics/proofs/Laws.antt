@@ -11,10 +11,11 @@ use borrow.Author.Tests.{eq-eqb, ne-eqb, eqb-false, lt-leb}
 use lib.ListN.{length, getD, set, drop}
 use Rattle.model.specs.declared.State.{State}
 use Rattle.model.specs.declared.Outcome.{Outcome}
+use Rattle.model.specs.declared.Counts.{Counts}
 use Rattle.model.specs.declared.Statistics.{Statistics}
 use Rattle.model.specs.States.{soundOf}
 use Rattle.model.specs.Answers.{answers, stepOf}
-use Rattle.model.specs.Summaries.{statisticsOf, countsSound, triesSound, statisticsSound, full, oneAccepted, oneEntry, oneExit, triedAt}
+use Rattle.model.specs.Summaries.{statisticsOf, countsSound, triesSound, statisticsSound, full, countsAfter, triedAfter}
 use Rattle.model.specs.Summaries.{acceptedCounted, refusedCounted, beside, recordedOf}
 use Rattle.model.specs.Facts.{Accepted}
 use Rattle.theory.specs.Acceptance.{Waits, Acts}
@@ -67,15 +68,14 @@ module _ (clock : ℕ) (x : Statistics) where
 pub not-one-sound : (s : State) (act p m : ℕ) → stepOf s act p m .answer .code ≢ 1 → soundOf s ≡ true
 not-one-sound s act p m n = by-test (soundOf s) (λ e. e) (λ e. absurd (n (unsound-iff-one s act p m .1 e)))
 
--- an act whose turn it is, and that is no wait, is of a process that there is
-turn-named : {s : State} {act p m : ℕ} → Waits act p ⊎ Acts s act p m → act ≢ 0 → (1 ≤ p) × (p ≤ s .parameters .n)
-turn-named (inl w) n = absurd (n (w .wait))
-turn-named (inr a) n = (a .some, a .most)
+-- an act whose turn it is is of a process that there is, or of process 0
+turn-named : {s : State} {act p m : ℕ} → Waits act p ⊎ Acts s act p m → p ≤ s .parameters .n
+turn-named (inl w) = omega (arith, w .nobody)
+turn-named (inr a) = a .most
 
--- the process of an accepted act other than a wait is from 1 to 96, and no try moment is after its time
-pub record Countable (x : Statistics) (act p m : ℕ) : Type 0 where
-  pub some : act ≢ 0 → 1 ≤ p
-  pub most : act ≢ 0 → p ≤ 96
+-- the try moments have a place for the process of an accepted act, and none of them is after its time
+pub record Countable (x : Statistics) (p m : ℕ) : Type 0 where
+  pub most : p ≤ 96
   pub tried : (k : ℕ) → getD (x .tries) k 0 ≤ m
 
 module _ (s : State) (x : Statistics) (act p m : ℕ) where
@@ -90,13 +90,12 @@ module _ (s : State) (x : Statistics) (act p m : ℕ) where
       (λ e. simp e)
 
   module _ (room : HasRoom (s .clock) x) where
-    pub accepted-countable : Accepted (stepOf s act p m) → Countable x act p m
+    pub accepted-countable : Accepted (stepOf s act p m) → Countable x p m
     accepted-countable a =
         let sound = not-one-sound s act p m (omega arith) in
         let allowed = accepted-iff-allowed s sound act p m .0 a in
         record {
-          some = λ n. turn-named (allowed .turn) n .0;
-          most = λ n. omega (arith, turn-named (allowed .turn) n .1, sound-numbers s sound .count);
+          most = omega (arith, turn-named (allowed .turn), sound-numbers s sound .count);
           tried = λ k. omega (arith, room .sound .tries k, allowed .forward);
         }
 
@@ -123,22 +122,11 @@ module _ (s : State) (x : Statistics) (act p m : ℕ) where
           let h = step-refuses s act p m (not-one-sound s act p m (rw e at k)) (rw e at n) in
           gives (tells .refused (rw (tells .step room) (h .some)) .1 ∙ sym f)
 
--- An accepted act, by its number
+-- An accepted act
 
-module _ (x : Statistics) {act : ℕ} (p m : ℕ) where
-  pub counted-try : act ≡ 1 → acceptedCounted x act p m ≡ statisticsOf (oneAccepted (x .counts)) (set (x .tries) (p - 1) m)
-  unfolding acceptedCounted
-  counted-try e = rw e
-
-  pub counted-crit : act ≡ 5
-      → acceptedCounted x act p m ≡ statisticsOf (oneEntry (x .counts) (m - triedAt x p)) (set (x .tries) (p - 1) 0)
-  unfolding acceptedCounted
-  counted-crit e = rw e
-
-  pub counted-exit : act ≡ 6 → acceptedCounted x act p m ≡ statisticsOf (oneExit (x .counts)) (x .tries)
-  unfolding acceptedCounted
-  counted-exit e = rw e
-
-  pub counted-other : act ≢ 1 → act ≢ 5 → act ≢ 6 → acceptedCounted x act p m ≡ statisticsOf (oneAccepted (x .counts)) (x .tries)
-  unfolding acceptedCounted
-  counted-other h k l = simp (ne-eqb act 1 h, ne-eqb act 5 k, ne-eqb act 6 l)
+-- counted at the place of its process
+pub counted-at : (x : Statistics) (act p m : ℕ) {slot tried : ℕ} {k : Counts} → slot ≡ p - 1
+    → k ≡ countsAfter (x .counts) act m (getD (x .tries) slot 0) → tried ≡ triedAfter (getD (x .tries) slot 0) act m
+    → statisticsOf k (set (x .tries) slot tried) ≡ acceptedCounted x act p m
+unfolding acceptedCounted
+counted-at x act p m e f g = rw (f, g, e)

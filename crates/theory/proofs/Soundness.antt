@@ -15,8 +15,8 @@ use Rattle.model.specs.declared.State.{State}
 use Rattle.model.specs.declared.Outcome.{Outcome}
 use Rattle.model.specs.States.{noParameters, countStands, limitsStand, lastTime, idle, initial, stageOf}
 use Rattle.model.specs.States.{entrySound, entriesSound, soundOf, entryOf}
-use Rattle.model.specs.Answers.{answers, blank, freshOf}
-use Rattle.model.specs.Facts.{Accepted, Arrival}
+use Rattle.model.specs.Answers.{answerOf, answers, blank, freshOf}
+use Rattle.model.specs.Facts.{Accepted, IsFresh, Arrival}
 use Rattle.theory.specs.Soundness.{ParametersStand, Sound, SoundIffPlain, Fresh, FreshIsPlain}
 use Rattle.model.proofs.Tests.{by-test, by-cond, clash, and-true-iff, tests}
 use Rattle.theory.proofs.Entries.{same-at, Among, here, there, each-entry, among-entry, among-from}
@@ -161,6 +161,10 @@ module _ {k : Parameters} where
   given-state (given _) e = refl
   given-state (refused n _) e = absurd (n e)
 
+  given-answer : {o : Outcome} → Made k o → Accepted o → o .answer ≡ answerOf 0 0 0
+  given-answer (given _) e = refl
+  given-answer (refused n _) e = absurd (n e)
+
   refused-state : {o : Outcome} → Made k o → o .answer .code ≢ 0 → o .state ≡ blank
   refused-state (given _) n = absurd (n refl)
   refused-state (refused _ _) n = refl
@@ -175,3 +179,12 @@ fresh-is-plain k =
       refused = λ n. rw (refused-state m n) (initial-fresh noParameters);
       unsound = λ n. rw (refused-state m n) blank-unsound;
     }
+
+module _ (k : Parameters) (e : Accepted (freshOf k)) where
+  -- an accepted call gives a fresh table
+  pub fresh-is : IsFresh (freshOf k .state)
+  fresh-is = record { parameters = k; accepted = e; is = refl }
+
+  -- and an answer with nothing in it
+  pub fresh-answer : freshOf k .answer ≡ answerOf 0 0 0
+  fresh-answer = given-answer (made k) e

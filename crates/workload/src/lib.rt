@@ -1,6 +1,9 @@
 // The work of the benchmarks: the state that a case starts from, the act of each of its steps, and the loop that makes them.
 // `bench/cases.rs` has the same cases in Rust.
 use libc::STDOUT_FILENO;
+use machine::actions::REM;
+use machine::actions::TRY;
+use machine::actions::WAIT;
 use machine::entry_at;
 use model::Location;
 use model::Parameters;
@@ -98,20 +101,20 @@ fn act_of(case: u64, i: u64) -> Act {
     let place = turn % 8;
     if case == OUT_OF_PLACE {
         return Act {
-            action: 8,
+            action: REM,
             process: 1,
             time: 0,
         };
     }
     if LATE <= case {
         return Act {
-            action: 0,
+            action: WAIT,
             process: 0,
             time: 1000,
         };
     }
     Act {
-        action: place + 1,
+        action: TRY + place,
         process: turn_of(case, round),
         time: round * 20 + place + place / 3 * 8 - place / 6 * 8,
     }

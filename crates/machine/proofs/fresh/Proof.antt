@@ -14,14 +14,17 @@ count-stands-requires c κs = search needs
 answer-with-requires : tie.Need-answer-with-requires
 answer-with-requires c κs = search needs
 
+no-parameters-requires : tie.Need-no-parameters-requires
+no-parameters-requires c κs = search needs
+
 initial-state-requires : tie.Need-initial-state-requires
 initial-state-requires c κs = search needs
 
 returns : tie.Need-returns
 unfolding freshOf
 returns c =
-    rw (c .before .answer-with .ensures, c .initial-state .ensures .0)
-    (simp (sym (c .before .before .before .count-stands .ensures) ∙ not-true _ (c .before .before .if1 .taken)))
+    rw (c .before .before .answer-with .ensures, c .initial-state .ensures .0, c .before .no-parameters .ensures)
+    (simp (sym (c .before .before .before .before .count-stands .ensures) ∙ not-true _ (c .before .before .before .if1 .taken)))
 
 limits-stand-requires : tie.Need-limits-stand-requires
 limits-stand-requires c κs = search needs
@@ -29,19 +32,22 @@ limits-stand-requires c κs = search needs
 answer-with-requires-2 : tie.Need-answer-with-requires-2
 answer-with-requires-2 c κs = search needs
 
+no-parameters-requires-2 : tie.Need-no-parameters-requires-2
+no-parameters-requires-2 c κs = search needs
+
 initial-state-requires-2 : tie.Need-initial-state-requires-2
 initial-state-requires-2 c κs = search needs
 
-counted : (c : tie.Else1) → countStands (c .before .before .args .n) ≡ true
+counted : (c : tie.Else1) → countStands (c .before .before .args .parameters) ≡ true
 counted c = sym (c .before .count-stands .ensures) ∙ not-false _ (c .if1 .left)
 
 returns-2 : tie.Need-returns-2
 unfolding freshOf
 returns-2 c =
-    rw (c .before .answer-with2 .ensures, c .initial-state2 .ensures .0)
+    rw (c .before .before .answer-with2 .ensures, c .initial-state2 .ensures .0, c .before .no-parameters2 .ensures)
     (simp (
-      counted (c .before .before .before .before),
-      sym (c .before .before .before .limits-stand .ensures) ∙ not-true _ (c .before .before .if2 .taken),
+      counted (c .before .before .before .before .before),
+      sym (c .before .before .before .before .limits-stand .ensures) ∙ not-true _ (c .before .before .before .if2 .taken),
     ))
 
 answer-with-requires-3 : tie.Need-answer-with-requires-3
@@ -65,10 +71,12 @@ fresh-spec =
     (tie.spec
     count-stands-requires
     answer-with-requires
+    no-parameters-requires
     initial-state-requires
     returns
     limits-stand-requires
     answer-with-requires-2
+    no-parameters-requires-2
     initial-state-requires-2
     returns-2
     answer-with-requires-3

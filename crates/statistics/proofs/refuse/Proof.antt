@@ -2,6 +2,7 @@
 -- Assumes nothing.
 use mathlib.Core.Path.{_∙_}
 use borrow.Author.Needs.{needs}
+use Rattle.model.specs.Acts.{waitAct}
 use Rattle.theory.proofs.Steps.{unsound-iff-one, unsound-is}
 use Rattle.statistics.proofs.Laws.{not-one-sound}
 use Rattle.statistics.proofs.refuse.Statement.{statement}
@@ -13,8 +14,8 @@ step-requires c κs = search needs
 returns : tie.Need-returns
 returns c =
     let s = c .before .before .before .before .args .state in
-    let e = unsound-iff-one s 0 0 (s .clock) .0 (rw (c .before .before .before .step .ensures) at (c .if1 .taken)) in
-    rw e (c .before .before .before .step .ensures ∙ unsound-is s 0 0 (s .clock) e)
+    let e = unsound-iff-one s waitAct 0 (s .clock) .0 (rw (c .before .before .before .step .ensures) at (c .if1 .taken)) in
+    rw e (c .before .before .before .step .ensures ∙ unsound-is s waitAct 0 (s .clock) e)
 
 answer-with-requires : tie.Need-answer-with-requires
 answer-with-requires c κs = search needs
@@ -22,7 +23,7 @@ answer-with-requires c κs = search needs
 returns-2 : tie.Need-returns-2
 returns-2 c =
     let s = c .before .before .before .before .before .args .state in
-    rw (not-one-sound s 0 0 (s .clock) (rw (c .before .before .before .before .step .ensures) at (c .before .if1 .left)), c .answer-with .ensures)
+    rw (not-one-sound s waitAct 0 (s .clock) (rw (c .before .before .before .before .step .ensures) at (c .before .if1 .left)), c .answer-with .ensures)
 
 pub refuse-spec : {M : Type 1} → statement M
 refuse-spec = tie.close (tie.spec step-requires returns answer-with-requires returns-2)

@@ -6,6 +6,7 @@ use mathlib.Core.Bool.{cond}
 use lib.Dec.{ltb, eqb}
 use borrow.Author.Needs.{needs}
 use borrow.Author.Tests.{lt-ltb, le-ltb, eq-eqb, ne-eqb}
+use Rattle.model.specs.Acts.{waitAct}
 use Rattle.model.specs.Answers.{answerOf, unknown, misnamed}
 use Rattle.machine.specs.Judging.{turnJudged, judged}
 use Rattle.machine.proofs.answers.judge.Statement.{statement}
@@ -44,12 +45,12 @@ answer-with-requires-4 c κs = search needs
 -- not before the clock and not past its end
 past3 : (c : tie.Else3)
     → (let a = c .before .before .before .before .before .args in
-    judged (a .found) (a .numbers) (a .own) (a .transition) (a .action) (a .process) (a .time)
+    judged (a .found) (a .scene) (a .place) (a .since) (a .transition) (a .action) (a .time)
     ≡ cond (unknown (a .action)) (answerOf 6 0 0)
-    (cond (misnamed (a .numbers .n) (a .action) (a .process)) (answerOf 7 0 0)
-    (cond (ltb (a .found .left) (a .time - a .numbers .clock)) (answerOf 8 (a .found .process) (a .numbers .clock + a .found .left))
-    (cond (eqb (a .action) 0) (answerOf 0 (a .found .critical) (a .time))
-    (turnJudged (a .found .critical) (a .numbers .b) (a .own) (a .transition) (a .action) (a .process) (a .time))))))
+    (cond (misnamed (a .scene .n) (a .action) (a .scene .acting)) (answerOf 7 0 0)
+    (cond (ltb (a .found .left) (a .time - a .scene .clock)) (answerOf 8 (a .found .process) (a .scene .clock + a .found .left))
+    (cond (eqb (a .action) waitAct) (answerOf 0 (a .found .critical) (a .time))
+    (turnJudged (a .found .critical) (a .scene) (a .place) (a .since) (a .transition) (a .action) (a .time))))))
 unfolding judged
 past3 c = simp (eq-eqb _ _ (c .before .before .before .if1 .left), le-ltb _ _ (c .before .if2 .left), le-ltb _ _ (c .if3 .left))
 
@@ -71,10 +72,10 @@ returns-5 c =
 -- a known action of a process that there is
 past5 : (c : tie.Else5)
     → (let a = c .before .before .before .before .before .before .before .before .args in
-    judged (a .found) (a .numbers) (a .own) (a .transition) (a .action) (a .process) (a .time)
-    ≡ cond (ltb (a .found .left) (a .time - a .numbers .clock)) (answerOf 8 (a .found .process) (a .numbers .clock + a .found .left))
-    (cond (eqb (a .action) 0) (answerOf 0 (a .found .critical) (a .time))
-    (turnJudged (a .found .critical) (a .numbers .b) (a .own) (a .transition) (a .action) (a .process) (a .time))))
+    judged (a .found) (a .scene) (a .place) (a .since) (a .transition) (a .action) (a .time)
+    ≡ cond (ltb (a .found .left) (a .time - a .scene .clock)) (answerOf 8 (a .found .process) (a .scene .clock + a .found .left))
+    (cond (eqb (a .action) waitAct) (answerOf 0 (a .found .critical) (a .time))
+    (turnJudged (a .found .critical) (a .scene) (a .place) (a .since) (a .transition) (a .action) (a .time))))
 past5 c =
     past3 (c .before .before .before)
     ∙ simp (le-ltb _ _ (c .before .before .if4 .left), sym (c .before .is-misnamed .ensures) ∙ c .if5 .left)
@@ -96,9 +97,9 @@ answer-with-requires-7 c κs = search needs
 -- nobody is late
 past6 : (c : tie.Else6)
     → (let a = c .before .before .before .before .before .before .before .before .before .before .before .args in
-    judged (a .found) (a .numbers) (a .own) (a .transition) (a .action) (a .process) (a .time)
-    ≡ cond (eqb (a .action) 0) (answerOf 0 (a .found .critical) (a .time))
-    (turnJudged (a .found .critical) (a .numbers .b) (a .own) (a .transition) (a .action) (a .process) (a .time)))
+    judged (a .found) (a .scene) (a .place) (a .since) (a .transition) (a .action) (a .time)
+    ≡ cond (eqb (a .action) waitAct) (answerOf 0 (a .found .critical) (a .time))
+    (turnJudged (a .found .critical) (a .scene) (a .place) (a .since) (a .transition) (a .action) (a .time)))
 past6 c = past5 (c .before .before .before) ∙ simp (le-ltb _ _ (c .if6 .left))
 
 returns-7 : tie.Need-returns-7

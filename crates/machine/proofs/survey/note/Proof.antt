@@ -1,9 +1,15 @@
 -- `machine::survey::note` meets its contract: past the two tests, the location decides. Assumes nothing.
 use mathlib.Core.Path.{_≡_, sym, _∙_}
+use mathlib.Core.Bool.{cond}
 use mathlib.Core.Logic.{⊎-elim}
+use lib.Dec.{eqb}
 use borrow.Author.Needs.{needs}
 use borrow.Author.Tests.{lt-ltb, le-ltb, eq-eqb, ne-eqb}
-use Rattle.machine.specs.Survey.{timedNoted, placeNoted, noted}
+use Rattle.model.specs.declared.Location.{Location}
+use Rattle.model.specs.Stages.{checking, critical}
+use Rattle.model.specs.States.{stageOf, sinceOf}
+use Rattle.machine.specs.declared.survey.Survey.{Survey}
+use Rattle.machine.specs.Survey.{timedNoted, criticalNoted, noted}
 use Rattle.machine.proofs.survey.note.Statement.{statement}
 use Rattle.machine.proofs.survey.note.Tie as tie
 
@@ -57,17 +63,25 @@ enum-known-location-6 c = search needs
 note-timed-requires-2 : tie.Need-note-timed-requires-2
 note-timed-requires-2 c κs = search needs
 
--- an entry of a process up to n that is not in remainder
+-- what is noted of an entry by its location, past the tests
+abbrev byLocation : tie.Else2 → Location → Survey
+byLocation c l =
+    let a = c .before .before .before .before .args in
+    cond (eqb (stageOf l) critical) (criticalNoted (a .scene .acting) (a .process) (a .found))
+    (timedNoted (a .scene .clock) (a .process) (sinceOf l) (cond (eqb (stageOf l) checking) (a .scene .c) (a .limit)) (a .found))
+
+-- an entry of a process up to n that is not in the remainder
 placed : (c : tie.Else2)
     → (let a = c .before .before .before .before .args in
-    noted (a .numbers) (a .acting) (a .process) (a .location) (a .found) ≡ placeNoted (a .numbers) (a .acting) (a .process) (a .location) (a .found))
+    noted (a .scene) (a .process) (a .location) (a .limit) (a .found) ≡ byLocation c (a .location))
 unfolding noted
 placed c =
     rw (← c .before .before .before .stage-of .ensures)
     (simp (ne-eqb _ _ (c .before .before .if1 .left), le-ltb _ _ (c .if2 .left)))
 
 returns-3 : tie.Need-returns-3
-returns-3 c = sym (placed (c .before .before) ∙ rw (c .enum-told .given .1))
+unfolding noted
+returns-3 c = rw (c .enum-told .given .1)
 
 returns-4 : tie.Need-returns-4
 returns-4 c = c .note-critical .ensures ∙ sym (placed (c .before .before .before) ∙ rw (c .before .enum-told2 .given .1))
@@ -75,19 +89,18 @@ returns-4 c = c .note-critical .ensures ∙ sym (placed (c .before .before .befo
 returns-5 : tie.Need-returns-5
 returns-5 c = c .note-timed .ensures ∙ sym (placed (c .before .before .before .before) ∙ rw (c .before .before .location .given .1))
 
--- the five locations in which a process may stay for a
-within-a : (c : tie.At-match-came)
+-- the five locations in which a process may stay for `limit`
+within-limit : (c : tie.At-match-came)
     → (let a = c .before .before .before .before .before .args in
-    placeNoted (a .numbers) (a .acting) (a .process) (a .location) (a .found)
-    ≡ timedNoted (a .numbers .clock) (a .process) (c .match .since) (a .numbers .a) (a .found))
-within-a c =
+    byLocation (c .before) (a .location) ≡ timedNoted (a .scene .clock) (a .process) (c .match .since) (a .limit) (a .found))
+within-limit c =
     ⊎-elim (λ w. rw (w .1 .given .1, w .3))
     (⊎-elim (λ w. rw (w .1 .given .1, w .3))
     (⊎-elim (λ w. rw (w .1 .given .1, w .3))
     (⊎-elim (λ w. rw (w .1 .given .1, w .3)) (λ w. rw (w .1 .given .1, w .3))))) (c .match .came)
 
 returns-6 : tie.Need-returns-6
-returns-6 c = c .note-timed2 .ensures ∙ sym (placed (c .before .before) ∙ within-a (c .before))
+returns-6 c = c .note-timed2 .ensures ∙ sym (placed (c .before .before) ∙ within-limit (c .before))
 
 pub note-spec : {M : Type 1} → statement M
 note-spec =
