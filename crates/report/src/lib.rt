@@ -95,7 +95,7 @@ fn put_run(
         );
         size += put_rows(
             out,
-            (size + 26) as u32,
+            (26 + size) as u32,
             line + (i as u64),
             &answers[..count],
         );
