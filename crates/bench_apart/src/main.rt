@@ -1,5 +1,5 @@
 // Runs a case with a second call of `step` in the program, so that the compiler leaves both calls.
-use machine::actions::WAIT;
+use rules::actions::WAIT;
 
 fn main() {
     let case = workload::chosen();

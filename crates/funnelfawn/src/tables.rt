@@ -1,17 +1,17 @@
 // A table of windows in lent numbers: n, a, b, c, clock, word, and then of each window its place and its arrival. A table is read
 // whole, for `step` takes it by value; of an accepted act only what may have changed is written.
 use machine::entry_at;
-use machine::limits::numbers_stand;
-use machine::stages::LEAVING;
-use machine::stages::REMAINDER;
-use machine::stages::location_at;
-use machine::stages::since_of;
-use machine::stages::stage_of;
-use machine::survey::entry_stands;
 use model::Location;
 use model::Parameters;
 use model::Process;
 use model::State;
+use rules::limits::numbers_stand;
+use rules::stages::LEAVING;
+use rules::stages::REMAINDER;
+use rules::stages::location_at;
+use rules::stages::since_of;
+use rules::stages::stage_of;
+use rules::survey::entry_stands;
 ghost use mathlib.Core.Path.{_≡_};
 ghost use mathlib.Core.Bool.{_&&_};
 ghost use Prim.Native.Nat.{_+_, _*_, _<_, _≤_};

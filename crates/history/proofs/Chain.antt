@@ -1,8 +1,8 @@
--- Demand 3, and the tally, where no code makes the list. A chain has for each call a result that the contract of the function called allows, as the
--- checker reads the contract off the source, each on the table that the result before it holds. Its results are those of the plain
--- table, so demand 3 holds of it. Assumes nothing.
+-- Demand 3, and the tally, where no code makes the list. A chain has for each call a result that the contract of the function called
+-- allows, as the checker reads the contract off the source, each on the table that the result before it holds. Its results are those of
+-- the plain table, so demand 3 holds of it. Assumes nothing.
 use Prim.Native.Nat.{ℕ}
-use mathlib.Core.Path.{_≡_, refl, sym, ap, subst, _∙_}
+use mathlib.Core.Path.{_≡_, refl, ap, _∙_}
 use mathlib.Core.Bool.{true, false}
 use mathlib.Core.List.{List, [], _∷_}
 use base.Logic.{emp}
@@ -11,6 +11,7 @@ use denote.Ref.{RefT}
 use borrow.Fn.World.{World, Pr}
 use borrow.Fn.Claims.{AllOf}
 use borrow.Fn.Read.{Read, no-know, all-models, r-last}
+use Rattle.model.specs.declared.Parameters.{Parameters}
 use Rattle.model.specs.declared.State.{State}
 use Rattle.model.specs.declared.Outcome.{Outcome}
 use Rattle.model.specs.declared.Statistics.{Statistics}
@@ -20,12 +21,15 @@ use Rattle.model.specs.Facts.{Accepted}
 use Rattle.model.specs.Texts.{Event}
 use Rattle.model.specs.Summaries.{newStatistics, beside}
 use Rattle.model.specs.Tallies.{Attempt}
-use Rattle.model.specs.Calls.{Call, callOf, tableOf, runOf, resultsOf}
+use Rattle.model.specs.Folds.{endBy, resultsBy}
+use Rattle.model.specs.Calls.{Call, callOf, tableOf, handedOn, resultsOf}
 use Rattle.model.proofs.Tests.{by-test}
 use Rattle.lists.specs.Demand3.{Demand3}
-use Rattle.tallies.specs.Tallies.{recordNext, recordAll, attemptOf, logFrom, Tallied, startOf}
+use Rattle.tallies.specs.Tallies.{recordNext, recordedAfter, recordsOf, attemptOf, logFrom, Tallied, startOf}
+use Rattle.theory.proofs.Soundness.{fresh-is}
 use Rattle.lists.proofs.Demand3.{every-list}
 use Rattle.tallies.proofs.Tallies.{every-tally}
+use Rattle.history.proofs.RecordedTurns.{fresh-starts}
 use Rattle.machine.proofs.fresh.Reads as fresh-reads
 use Rattle.machine.proofs.step.Reads as step-reads
 use Rattle.statistics.proofs.record.Reads as record-reads
@@ -33,8 +37,8 @@ use Rattle.statistics.proofs.record_step as record-step
 
 -- What the contracts allow
 
-abbrev pub Starts : ℕ → ℕ → ℕ → ℕ → Outcome → Type 0
-Starts n a b c o = fresh-reads.Post tt (n, (a, (b, (c, tt)))) o (n, (a, (b, (c, tt))))
+abbrev pub Starts : Parameters → Outcome → Type 0
+Starts k o = fresh-reads.Post tt (k, tt) o (k, tt)
 
 abbrev pub Steps : State → ℕ → ℕ → ℕ → Outcome → Type 0
 Steps s a p t o = step-reads.Post tt (s, (a, (p, (t, tt)))) o (s, (a, (p, (t, tt))))
@@ -67,6 +71,33 @@ pub record Records (s : State) (x : Statistics) (a p t : ℕ) (r : Recorded) : T
 
 -- Chains
 
+-- a result for each call, one of those that `Allows` has for it, where the result before it led
+pub data Chained {S D R : Type 0} (Allows : S → D → R → Type 0) (next : R → S) : S → List D → List R → Type 0 where
+  ended : {s : S} → Chained Allows next s [] []
+  made : {s : S} {d : D} {ds : List D} {r : R} {rs : List R} → Allows s d r → Chained Allows next (next r) ds rs
+      → Chained Allows next s (d ∷ ds) (r ∷ rs)
+
+-- where the last result leads, or the start where there is none
+abbrev pub lastOf : {S R : Type 0} → (R → S) → S → List R → S
+lastOf next s [] = s
+lastOf next s (r ∷ rs) = lastOf next (next r) rs
+
+-- where one result alone is allowed, a chain is the list of calls
+module _ {S D R : Type 0} {Allows : S → D → R → Type 0} {gives : S → D → R} (next : R → S)
+    (only : (s : S) (d : D) (r : R) → Allows s d r → r ≡ gives s d) where
+  chain-results : {s : S} {ds : List D} {rs : List R} → Chained Allows next s ds rs → rs ≡ resultsBy gives next s ds
+  unfolding resultsBy
+  chain-results ended = refl
+  chain-results (made {s} {d} {ds} {r} m ch) =
+      λ i. only s d r m i ∷ (chain-results ch ∙ ap (λ (q : R). resultsBy gives next (next q) ds) (only s d r m)) i
+
+  chain-last : {s : S} {ds : List D} {rs : List R} → Chained Allows next s ds rs → lastOf next s rs ≡ endBy gives next s ds
+  unfolding endBy
+  chain-last ended = refl
+  chain-last (made {s} {d} {ds} {r} m ch) = chain-last ch ∙ ap (λ (q : R). endBy gives next (next q) ds) (only s d r m)
+
+-- Demand 3
+
 -- [8.135] a result of one call
 pub data Made (s : State) (d : Call) (r : Recorded) : Type 0 where
   by-step : d .recorded ≡ false → Steps s (d .action) (d .process) (d .time) (r .outcome) → r .statistics ≡ d .lent → Made s d r
@@ -74,45 +105,20 @@ pub data Made (s : State) (d : Call) (r : Recorded) : Type 0 where
   by-record : d .recorded ≡ true → Records s (d .lent) (d .action) (d .process) (d .time) r → Made s d r
 
 -- [8.40] [8.135] each result on the table of the one before it
-pub data Chain : State → List Call → List Recorded → Type 0 where
-  ended : {s : State} → Chain s [] []
-  made : {s : State} {d : Call} {ds : List Call} {r : Recorded} {rs : List Recorded} → Made s d r → Chain (r .outcome .state) ds rs
-      → Chain s (d ∷ ds) (r ∷ rs)
+abbrev pub Chain : State → List Call → List Recorded → Type 0
+Chain s ds rs = Chained Made handedOn s ds rs
 
--- the table that the last result holds, or the first table where there is none
-abbrev pub lastTable : State → List Recorded → State
-lastTable s [] = s
-lastTable s (r ∷ rs) = lastTable (r .outcome .state) rs
-
--- The theorem
-
-call-made : {s : State} {d : Call} {r : Recorded} → Made s d r → r ≡ callOf s d
+call-made : (s : State) (d : Call) (r : Recorded) → Made s d r → r ≡ callOf s d
 unfolding callOf
-call-made (by-step k h e) = rw k (λ i. record { outcome = h i; statistics = e i })
-call-made (by-value k h) = rw k h
-call-made (by-record k h) = rw k (rw (h .entry, h .exit) at (h .allowed))
-
-chain-results : {s : State} {ds : List Call} {rs : List Recorded} → Chain s ds rs → rs ≡ resultsOf s ds
-unfolding resultsOf
-chain-results ended = refl
-chain-results (made {s} {d} {ds} {r} {rs} m ch) =
-    let rest : rs ≡ resultsOf (tableOf s d) ds = chain-results ch ∙ ap (λ (q : Recorded). resultsOf (q .outcome .state) ds) (call-made m) in
-    λ i. call-made m i ∷ rest i
-
-chain-last : {s : State} {ds : List Call} {rs : List Recorded} → Chain s ds rs → lastTable s rs ≡ runOf s ds
-unfolding runOf
-chain-last ended = refl
-chain-last (made {ds = ds} m ch) = chain-last ch ∙ ap (λ (q : Recorded). runOf (q .outcome .state) ds) (call-made m)
+call-made s d r (by-step k h e) = rw k (λ i. record { outcome = h i; statistics = e i })
+call-made s d r (by-value k h) = rw k h
+call-made s d r (by-record k h) = rw k (rw (h .entry, h .exit) at (h .allowed))
 
 -- [8.130] [8.135] whoever makes the calls
-pub every-chain : (n a b c : ℕ) {o : Outcome} {ds : List Call} {rs : List Recorded} → Starts n a b c o → Accepted o → Chain (o .state) ds rs
-    → Demand3 (freshOf n a b c .state) ds rs (lastTable (o .state) rs)
-every-chain n a b c {o} {ds} {rs} h accepted ch =
-    let s : State = freshOf n a b c .state in
-    let results : rs ≡ resultsOf s ds = chain-results ch ∙ ap (λ (q : Outcome). resultsOf (q .state) ds) h in
-    let last : lastTable (o .state) rs ≡ runOf s ds = chain-last ch ∙ ap (λ (q : Outcome). runOf (q .state) ds) h in
-    subst (λ (q : List Recorded). Demand3 s ds q (lastTable (o .state) rs)) (sym results)
-    (subst (Demand3 s ds (resultsOf s ds)) (sym last) (every-list n a b c (rw h at accepted) ds))
+pub every-chain : (k : Parameters) {o : Outcome} {ds : List Call} {rs : List Recorded} → Starts k o → Accepted o → Chain (o .state) ds rs
+    → Demand3 (o .state) ds rs (lastOf handedOn (o .state) rs)
+every-chain k {o} {ds} h accepted ch = rw (chain-last handedOn call-made ch, chain-results handedOn call-made ch)
+    (every-list (o .state) (record { parameters = k; accepted = rw h at accepted; is = ap (λ (q : Outcome). q .state) h }) ds)
 
 -- The premise is not an empty one: every list has a chain
 
@@ -130,23 +136,22 @@ callable s d = by-test (d .recorded)
     (λ k. by-step k (rw k) (rw k))
 
 pub some-chain : (s : State) (ds : List Call) → Chain s ds (resultsOf s ds)
-unfolding resultsOf
+unfolding resultsBy
 some-chain s [] = ended
 some-chain s (d ∷ ds) = made (callable s d) (some-chain (tableOf s d) ds)
 
--- The tally of a chain of recorded steps, each lent the summary that the result before it left
+-- The tally
 
 abbrev pub callOn : Recorded → Event → Call
 callOn r e = record { recorded = true; action = e .action; process = e .process; time = e .time; lent = r .statistics }
 
-pub data RecordedChain : Recorded → List Event → List Recorded → Type 0 where
-  ended : {r : Recorded} → RecordedChain r [] []
-  made : {r t : Recorded} {e : Event} {es : List Event} {rs : List Recorded} → Made (r .outcome .state) (callOn r e) t
-      → RecordedChain t es rs → RecordedChain r (e ∷ es) (t ∷ rs)
+-- [5.120] a result of a recorded step that is lent the summary which the result r before it left
+abbrev pub MadeOn : Recorded → Event → Recorded → Type 0
+MadeOn r e t = Made (r .outcome .state) (callOn r e) t
 
-abbrev pub lastResult : Recorded → List Recorded → Recorded
-lastResult r [] = r
-lastResult r (t ∷ rs) = lastResult t rs
+-- [5.120] each on the table and with the summary of the one before it
+abbrev pub RecordedChain : Recorded → List Event → List Recorded → Type 0
+RecordedChain r es rs = Chained MadeOn recordedAfter r es rs
 
 -- the acts with the answers to them, the last one first
 abbrev pub logOver : List Attempt → List Event → List Recorded → List Attempt
@@ -154,29 +159,20 @@ logOver log [] rs = log
 logOver log (e ∷ es) [] = log
 logOver log (e ∷ es) (r ∷ rs) = logOver (attemptOf e r ∷ log) es rs
 
-next-made : (r : Recorded) (e : Event) {t : Recorded} → Made (r .outcome .state) (callOn r e) t → t ≡ recordNext r e
+next-made : (r : Recorded) (e : Event) (t : Recorded) → MadeOn r e t → t ≡ recordNext r e
 unfolding callOf
-next-made r e m = call-made m
+next-made r e t m = call-made (r .outcome .state) (callOn r e) t m
 
-recorded-last : {r : Recorded} {es : List Event} {rs : List Recorded} → RecordedChain r es rs → lastResult r rs ≡ recordAll r es
-unfolding recordAll
-recorded-last ended = refl
-recorded-last (made {r = r} {e = e} {es = es} m ch) = recorded-last ch ∙ ap (λ (q : Recorded). recordAll q es) (next-made r e m)
-
-recorded-log : (log : List Attempt) {r : Recorded} {es : List Event} {rs : List Recorded} → RecordedChain r es rs
-    → logOver log es rs ≡ logFrom log r es
-unfolding logFrom
-recorded-log log ended = refl
-recorded-log log (made {r = r} {e = e} {es = es} m ch) =
-    recorded-log _ ch ∙ ap (λ (q : Recorded). logFrom (attemptOf e q ∷ log) q es) (next-made r e m)
+log-results : (log : List Attempt) (r : Recorded) (es : List Event) → logOver log es (recordsOf r es) ≡ logFrom log r es
+unfolding resultsBy logFrom
+log-results log r [] = refl
+log-results log r (e ∷ es) = log-results _ (recordNext r e) es
 
 -- [5.120] [5.125] [5.130] whoever makes the calls
-pub every-recorded-chain : (n a b c : ℕ) {o : Outcome} {es : List Event} {rs : List Recorded} → Starts n a b c o → Accepted o
-    → RecordedChain (beside newStatistics o) es rs → Tallied (logOver [] es rs) (lastResult (beside newStatistics o) rs)
-every-recorded-chain n a b c {o} {es} {rs} h accepted ch =
-    let last : lastResult (beside newStatistics o) rs ≡ recordAll (startOf n a b c) es =
-    recorded-last ch ∙ ap (λ (q : Outcome). recordAll (beside newStatistics q) es) h in
-    let log : logOver [] es rs ≡ logFrom [] (startOf n a b c) es =
-    recorded-log [] ch ∙ ap (λ (q : Outcome). logFrom [] (beside newStatistics q) es) h in
-    subst (λ (q : Recorded). Tallied (logOver [] es rs) q) (sym last)
-    (subst (λ (l : List Attempt). Tallied l (recordAll (startOf n a b c) es)) (sym log) (every-tally n a b c (rw h at accepted) es))
+pub every-recorded-chain : (k : Parameters) {o : Outcome} {es : List Event} {rs : List Recorded} → Starts k o → Accepted o
+    → RecordedChain (beside newStatistics o) es rs → Tallied (logOver [] es rs) (lastOf recordedAfter (beside newStatistics o) rs)
+every-recorded-chain k {o} {es} h accepted ch =
+    let given : Accepted (freshOf k) = rw h at accepted in
+    let start : beside newStatistics o ≡ startOf (freshOf k .state) = ap (beside newStatistics) h ∙ fresh-starts k given in
+    rw (chain-last recordedAfter next-made ch, chain-results recordedAfter next-made ch, log-results [] (beside newStatistics o) es, start)
+    (every-tally (freshOf k .state) (fresh-is k given) es)

@@ -7,9 +7,7 @@ use native.Mathlib.Omega.{arith}
 use lib.ListN.{length, getD, set, length-take, length-map, List·getD-map}
 use lib.Seq.{getD-take}
 use Rattle.model.specs.declared.Parameters.{Parameters}
-use Rattle.model.specs.declared.Outcome.{Outcome}
 use Rattle.model.specs.declared.Recorded.{Recorded}
-use Rattle.model.specs.Texts.{Event}
 use Rattle.model.specs.Readings.{over}
 use Rattle.model.specs.Answers.{freshOf}
 use Rattle.model.specs.Facts.{Accepted}
@@ -19,9 +17,9 @@ use Rattle.model.specs.Tallies.{Attempt}
 use Rattle.model.proofs.Lists.{row-at, rows-snoc}
 use Rattle.model.proofs.Folds.{Going, count-going, long-going, moves-on, end-reached, all-written}
 use Rattle.theory.proofs.Soundness.{fresh-is, fresh-answer}
-use Rattle.tallies.specs.Tallies.{recordNext, recordedAfter, recordAll, recordsOf, logFrom, Tallied, startOf}
+use Rattle.tallies.specs.Tallies.{recordNext, recordedAfter, recordsOf, logFrom, Tallied, startOf}
 use Rattle.tallies.proofs.Tallies.{every-tally}
-use Rattle.history.specs.Lists.{Tuple, answerRow, ending}
+use Rattle.history.specs.Lists.{Tuple, answerRow}
 use Rattle.history.specs.RecordedRuns.{eventIn, eventsOf, logOnto, logOf, RecordedRun, recordedRunGave, started}
 use Rattle.history.specs.RecordedRuns.{recordedRunFrom, recordedRunOf, recordAt}
 
@@ -48,9 +46,9 @@ abbrev pub answered : List Recorded → List Tuple → List Tuple
 answered rs answers = over (map answerRow rs) answers
 
 abbrev pub Recording : Recorded → List Tuple → List Tuple → ℕ → ℕ → Recorded → List Tuple → Type 0
-Recording r acts answers n i t m = Going recordNext recordedAfter answered r (eventsOf acts answers) answers n i t m
+Recording r acts answers n i t m = Going recordNext recordedAfter eventsOf answered r acts answers n i t m
 
-module _ {r : Recorded} (acts answers : List Tuple) {n i : ℕ} {t : Recorded} {m : List Tuple} (g : Recording r acts answers n i t m) where
+module _ {r : Recorded} {acts answers : List Tuple} {n i : ℕ} {t : Recorded} {m : List Tuple} (g : Recording r acts answers n i t m) where
   pub records-on : i < n → {u : Recorded} {k : List Tuple} → recordedRunGave u k ≡ recordAt t acts m i
       → Recording r acts answers n (i + 1) u k
   records-on h e =
@@ -63,11 +61,9 @@ module _ {r : Recorded} (acts answers : List Tuple) {n i : ℕ} {t : Recorded} {
   pub answers-long : length m ≡ length answers
   answers-long = rw (g .written) (long-going g answerRow answers (omega (arith, g .all, length-events acts answers)))
 
-pub ends : (acts answers : List Tuple) {o : Outcome} {r : Recorded} {n i : ℕ} {t : Recorded} {m : List Tuple} → o ≡ r .outcome
-    → Recording r acts answers n i t m → n ≤ i
-    → recordedRunGave (beside (t .statistics) (ending o (t .outcome .state))) m ≡ recordedRunFrom r (eventsOf acts answers) answers
-ends acts answers e g h = λ j. recordedRunGave
-    (beside (end-reached g h j .statistics) (ending (e j) (end-reached g h j .outcome .state))) (all-written g h j)
+pub ends : (r : Recorded) {acts answers : List Tuple} {n i : ℕ} {t : Recorded} {m : List Tuple} → Recording r acts answers n i t m → n ≤ i
+    → recordedRunGave (started r t) m ≡ recordedRunFrom r (eventsOf acts answers) answers
+ends r g h = λ j. recordedRunGave (started r (end-reached g h j)) (all-written g h j)
 
 -- The log
 

@@ -87,9 +87,9 @@ module _ (rs : List Recorded) (calls : List Tuple) (l : Rows) (i : ℕ) (made : 
 -- The loop of `run`: of n calls i have been made, the table is t, and the rows have become m
 
 abbrev pub Turning : State → List Tuple → Rows → ℕ → ℕ → State → Rows → Type 0
-Turning s calls l n i t m = Going callOf handedOn overwritten s (callsOf calls l) l n i t m
+Turning s calls l n i t m = Going callOf handedOn callsOf overwritten s calls l n i t m
 
-module _ (calls : List Tuple) (l : Rows) {s : State} {n i : ℕ} {t : State} {m : Rows} (g : Turning s calls l n i t m) where
+module _ {s : State} {calls : List Tuple} {l : Rows} {n i : ℕ} {t : State} {m : Rows} (g : Turning s calls l n i t m) where
   pub is-inside : i < n → Inside i calls l
   is-inside h = omega (arith, g .all, length-calls calls l)
 
@@ -109,9 +109,10 @@ module _ (calls : List Tuple) (l : Rows) {s : State} {n i : ℕ} {t : State} {m 
   pub answers-long : length (m .answers) ≡ length (l .answers)
   answers-long = rw (g .written) (long-going g answerRow (l .answers) (omega (arith, g .all, length-calls calls l)))
 
-pub ends : (calls : List Tuple) (l : Rows) {p o : Outcome} {n i : ℕ} {t : State} {m : Rows} → p ≡ o → Turning (o .state) calls l n i t m
-    → n ≤ i → runGave (ending p t) m ≡ ranFrom o (callsOf calls l) l
-ends calls l e g h = λ j. runGave (ending (e j) (end-reached g h j)) (all-written g h j)
+-- o is the outcome of the fresh table
+pub ends : (o : Outcome) {calls : List Tuple} {l : Rows} {n i : ℕ} {t : State} {m : Rows} → Turning (o .state) calls l n i t m → n ≤ i
+    → runGave (ending o t) m ≡ ranFrom o (callsOf calls l) l
+ends o g h = λ j. runGave (ending o (end-reached g h j)) (all-written g h j)
 
 -- Demand 3, which holds of every list, of what the loop leaves
 

@@ -5,6 +5,7 @@ use mathlib.Core.Path.{_≡_, refl, sym, ap, _∙_}
 use mathlib.Core.Logic.{_≢_}
 use mathlib.Core.Bool.{Bool, true, false, cond, not, _&&_, _||_}
 use native.Mathlib.Omega.{arith}
+use native.Mathlib.Nat.{mod-eq-of-lt}
 use lib.Dec.{ltb, eqb}
 use lib.ListN.{length, set}
 use borrow.Author.Tests.{ltb-true, ltb-false, lt-ltb, le-ltb, eq-eqb, ne-eqb, eqb-true, not-false}
@@ -19,15 +20,15 @@ use Rattle.model.specs.States.{lastTime, entry, stageOf, sinceOf, release, soun
 use Rattle.model.specs.Actions.{transitionOf, changed, waited, moved, effect}
 use Rattle.model.specs.Answers.{answerOf, answers, backward, beyond, unknown, misnamed, Due, firstDeadline, missed, misplaced, early}
 use Rattle.model.specs.Answers.{criticalOf, accepts, stepOf}
-use Rattle.machine.specs.declared.survey.Scene.{Scene}
-use Rattle.machine.specs.declared.survey.Survey.{Survey}
-use Rattle.machine.specs.Survey.{sceneOf}
-use Rattle.machine.specs.Judging.{lowestOf, turnJudged, judged}
-use Rattle.model.proofs.Soundness.{sound-numbers}
+use Rattle.rules.specs.declared.survey.Scene.{Scene}
+use Rattle.rules.specs.declared.survey.Survey.{Survey}
+use Rattle.rules.specs.Survey.{sceneOf}
+use Rattle.rules.specs.Judging.{lowestOf, checkFrom, turnJudged, judged}
+use Rattle.model.proofs.Soundness.{sound-numbers, sound-past}
 use Rattle.model.proofs.Tests.{by-test, if-lt, if-eq, tests}
 use Rattle.model.proofs.Rows.{row-leaves}
-use Rattle.machine.proofs.Critical.{others-all, others-moved}
-use Rattle.machine.proofs.Notes.{Finds, none, one}
+use Rattle.rules.proofs.Critical.{others-all, others-moved}
+use Rattle.rules.proofs.Notes.{Finds, none, one}
 use Rattle.machine.proofs.Pass.{Whole, Surveyed, faulty, whole}
 
 -- The outcome o of the model goes with the answer j of the code
@@ -86,20 +87,28 @@ module _ (s : State) (act p m : ℕ) (f : Survey) (found : Whole s p f) (size : 
         (rw (others-moved p 1 (s .processes) (p - 1) (transitionOf s act p m .to) (omega arith) (omega arith) (omega arith), found .critical))
         refl)
 
+    -- in a sound state the sum of an arrival and b fits
+    abbrev own-release : ℕ
+    own-release = checkFrom (entryOf s p .location) (s .parameters .b)
+
+    release-fits : own-release ≡ sinceOf (entryOf s p .location) + s .parameters .b
+    unfolding entryOf
+    release-fits = mod-eq-of-lt (omega (arith, sound-past s (found .sound) (p - 1), sound-numbers s (found .sound)))
+
     -- a check leaves checking, and there its release is b after its arrival
     check-leaves : act ≡ checkAct → leaves act ≡ checking
     unfolding leaves
     check-leaves e = rw e
 
     module _ (placed : stageOf (entryOf s p .location) ≡ leaves act) where
-      check-release : act ≡ checkAct → release s (entryOf s p) ≡ sinceOf (entryOf s p .location) + s .parameters .b
-      check-release e = simp (eq-eqb (stageOf (entryOf s p .location)) checking (placed ∙ check-leaves e))
+      check-release : act ≡ checkAct → release s (entryOf s p) ≡ own-release
+      check-release e = simp (eq-eqb (stageOf (entryOf s p .location)) checking (placed ∙ check-leaves e)) (sym release-fits)
 
-      early-is : early s act p m ≡ eqb act checkAct && ltb m (sinceOf (entryOf s p .location) + s .parameters .b)
+      early-is : early s act p m ≡ eqb act checkAct && ltb m own-release
       early-is = by-test (eqb act checkAct) (λ e. rw (check-release (eqb-true act checkAct e))) (λ e. simp e)
 
     turn-goes : Goes s act p m (turnOf s act p m)
-        (turnJudged (f .critical) scene (stageOf (entryOf s p .location)) (sinceOf (entryOf s p .location)) (transitionOf s act p m) act m)
+        (turnJudged (f .critical) p (stageOf (entryOf s p .location)) own-release (transitionOf s act p m) act m)
     unfolding turnJudged
     turn-goes =
         by-both (misplaced s act p) _ (rw (row-leaves s act p m) (simp (ne-eqb act waitAct some))) (λ _. refusal (λ z. omega arith))
@@ -114,21 +123,21 @@ module _ (s : State) (act p m : ℕ) (f : Survey) (found : Whole s p f) (size : 
       (few : s .parameters .n ≤ 96) where
     -- past the refusals up to 8: a wait, or an action of a process
     past-late : act ≤ lastAct → misnamed (s .parameters .n) act p ≡ false → Goes s act p m (turnOf s act p m)
-        (cond (eqb act waitAct) (answerOf 0 (f .critical) m) (turnJudged (f .critical) scene (stageOf own) (sinceOf own) t act m))
+        (cond (eqb act waitAct) (answerOf 0 (f .critical) m) (turnJudged (f .critical) p (stageOf own) (checkFrom own (s .parameters .b)) t act m))
     past-late known named = if-eq act waitAct
         (λ e. rw (eq-eqb act waitAct e, ne-eqb act checkAct (λ (q : act ≡ checkAct). omega arith))
         (wait-goes e (eqb-true p 0 (not-false (eqb p 0) (rw (eq-eqb act waitAct e) at named)))))
         (λ n. acts n (rw (ne-eqb act waitAct n) at named))
       where
         acts : act ≢ waitAct → eqb p 0 || ltb (s .parameters .n) p ≡ false → Goes s act p m (turnOf s act p m)
-            (cond (eqb act waitAct) (answerOf 0 (f .critical) m) (turnJudged (f .critical) scene (stageOf own) (sinceOf own) t act m))
+            (cond (eqb act waitAct) (answerOf 0 (f .critical) m) (turnJudged (f .critical) p (stageOf own) (checkFrom own (s .parameters .b)) t act m))
         acts some h =
             let range : (1 ≤ p) × (p ≤ 96) = omega (arith, simp tests at h) in
             rw (ne-eqb act waitAct some, own-is (range .0) (range .1), t-is some known)
             (rw (ne-eqb act waitAct some) at (turn-goes some known (range .0) (range .1)))
 
     -- the answers table, row by row
-    sound-goes : Goes s act p m (stepOf s act p m) (judged f scene (stageOf own) (sinceOf own) t act m)
+    sound-goes : Goes s act p m (stepOf s act p m) (judged f scene (stageOf own) (checkFrom own (s .parameters .b)) t act m)
     unfolding stepOf judged
     sound-goes =
         by-both (not (soundOf s)) (not (eqb (f .faults) 0)) (ap not (found .sound ∙ sym (eq-eqb _ 0 (found .faultless))))
@@ -144,7 +153,7 @@ module _ (s : State) (act p m : ℕ) (f : Survey) (found : Whole s p f) (size : 
 -- Any state
 
 unsound-goes : (s : State) (act p m : ℕ) (f : Survey) (own : Location) (t : Transition) → soundOf s ≡ false → f .faults ≢ 0
-    → Goes s act p m (stepOf s act p m) (judged f (sceneOf (s .parameters) (s .clock) p) (stageOf own) (sinceOf own) t act m)
+    → Goes s act p m (stepOf s act p m) (judged f (sceneOf (s .parameters) (s .clock) p) (stageOf own) (checkFrom own (s .parameters .b)) t act m)
 unfolding stepOf judged
 unsound-goes s act p m f own t e n = rw (e, ne-eqb (f .faults) 0 n) (refusal (λ z. omega arith))
 
@@ -156,7 +165,7 @@ exit-unsound s act p m e = rw e
 pub goes : (s : State) (act p m : ℕ) (f : Survey) (own : Location) (t : Transition)
     → Surveyed s p f → length (s .processes) ≡ 96
     → (1 ≤ p → p ≤ 96 → own ≡ entryOf s p .location) → (act ≢ waitAct → act ≤ lastAct → t ≡ transitionOf s act p m)
-    → Goes s act p m (stepOf s act p m) (judged f (sceneOf (s .parameters) (s .clock) p) (stageOf own) (sinceOf own) t act m)
+    → Goes s act p m (stepOf s act p m) (judged f (sceneOf (s .parameters) (s .clock) p) (stageOf own) (checkFrom own (s .parameters .b)) t act m)
 goes s act p m f own t (faulty e n) size own-is t-is = unsound-goes s act p m f own t e n
 goes s act p m f own t (whole w) size own-is t-is = sound-goes s act p m f w size own t own-is t-is (sound-numbers s (w .sound) .count)
 

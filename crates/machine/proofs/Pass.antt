@@ -1,6 +1,6 @@
 -- The one pass over the entries: after i of them, what is left of each of the model's searches gives what the whole gives. One note
 -- takes each search one entry on, and after 96 entries nothing is left of them. Assumes nothing.
-use Prim.Native.Nat.{ℕ, _+_, _≤_, _<_, _^_}
+use Prim.Native.Nat.{ℕ, _+_, _≤_, _<_}
 use mathlib.Core.Path.{_≡_, refl, sym, _∙_}
 use mathlib.Core.Logic.{_≢_}
 use mathlib.Core.Bool.{Bool, true, false, cond, _&&_}
@@ -11,15 +11,14 @@ use lib.ListN.{length, getD, drop}
 use borrow.Author.Tests.{eqb-true}
 use Rattle.model.specs.declared.Process.{Process}
 use Rattle.model.specs.declared.State.{State}
-use Rattle.model.specs.States.{idle, sinceOf, limitIn, limitOf, deadline, entrySound, entriesSound, soundOf}
+use Rattle.model.specs.States.{limitIn, limitOf, deadline, entrySound, entriesSound, soundOf}
 use Rattle.model.specs.Answers.{Due, due, noneDue, sooner, firstFrom, firstDeadline}
-use Rattle.machine.specs.declared.survey.Survey.{Survey}
-use Rattle.machine.specs.Survey.{sceneOf, numbersStand, nothing, noted}
-use Rattle.model.proofs.Soundness.{sound-numbers, sound-past}
+use Rattle.rules.specs.declared.survey.Survey.{Survey}
+use Rattle.rules.specs.Survey.{sceneOf, numbersStand, nothing, noted}
 use Rattle.model.proofs.Tests.{by-test, tests}
 use Rattle.model.proofs.Lists.{drop-at, drop-end}
-use Rattle.machine.proofs.Critical.{otherCritical, othersFrom}
-use Rattle.machine.proofs.Notes.{Finds, none, Ends, first, Noted, fault, fine, note-at}
+use Rattle.rules.proofs.Critical.{otherCritical, othersFrom}
+use Rattle.rules.proofs.Notes.{Finds, none, Ends, first, Noted, fault, fine, note-at}
 
 -- The numbers of a state
 
@@ -142,10 +141,3 @@ passed-whole s acting i f passed h =
       finds = rw (← rw e at (passed .due-left)) (passed .finds);
       critical = sym (rw e at (passed .critical)) ∙ by-test (eqb (f .critical) 0) (λ z. rw z (sym (eqb-true _ _ z))) (λ z. rw z);
     }
-
--- where nothing is at fault, an arrival and b have a sum that fits
-pub surveyed-fits : (s : State) (acting : ℕ) (f : Survey) → Surveyed s acting f → f .faults ≡ 0
-    → (i : ℕ) → sinceOf (getD (s .processes) i idle .location) + s .parameters .b < 2 ^ 64
-surveyed-fits s acting f (faulty e n) z i = absurd (n z)
-surveyed-fits s acting f (whole w) z i =
-    omega (arith, sound-past s (w .sound) i, sound-numbers s (w .sound))

@@ -1,45 +1,40 @@
 // Fischer's timed mutual exclusion as a step machine: `fresh` makes a state, `step` takes one action in it.
 // Both take any numbers and any state, and answer what `freshOf` and `stepOf` of the model say.
-pub mod actions;
-pub mod answers;
-pub mod limits;
-pub mod stages;
-pub mod survey;
 
-use crate::actions::CHECK;
-use crate::actions::CRIT;
-use crate::actions::EXIT;
-use crate::actions::REM;
-use crate::actions::RESET;
-use crate::actions::SET;
-use crate::actions::TEST;
-use crate::actions::TRY;
-use crate::actions::UNKNOWN;
-use crate::actions::WAIT;
-use crate::actions::checked;
-use crate::actions::no_row;
-use crate::actions::row;
-use crate::actions::tested;
-use crate::answers::judge;
-use crate::limits::numbers_stand;
-use crate::stages::CHECKING;
-use crate::stages::CRITICAL;
-use crate::stages::ENTERING;
-use crate::stages::LEAVING;
-use crate::stages::REMAINDER;
-use crate::stages::RESETTING;
-use crate::stages::SETTING;
-use crate::stages::TESTING;
-use crate::stages::since_of;
-use crate::stages::stage_of;
-use crate::survey::empty;
-use crate::survey::note;
-use crate::survey::scene_of;
 use model::Location;
 use model::Outcome;
 use model::Parameters;
 use model::Process;
 use model::State;
+use rules::actions::CHECK;
+use rules::actions::CRIT;
+use rules::actions::EXIT;
+use rules::actions::REM;
+use rules::actions::RESET;
+use rules::actions::SET;
+use rules::actions::TEST;
+use rules::actions::TRY;
+use rules::actions::UNKNOWN;
+use rules::actions::WAIT;
+use rules::actions::checked;
+use rules::actions::no_row;
+use rules::actions::row;
+use rules::actions::tested;
+use rules::answers::check_from;
+use rules::answers::judge;
+use rules::limits::numbers_stand;
+use rules::stages::CHECKING;
+use rules::stages::CRITICAL;
+use rules::stages::ENTERING;
+use rules::stages::LEAVING;
+use rules::stages::REMAINDER;
+use rules::stages::RESETTING;
+use rules::stages::SETTING;
+use rules::stages::TESTING;
+use rules::stages::stage_of;
+use rules::survey::empty;
+use rules::survey::note;
+use rules::survey::scene_of;
 use values::answer_with;
 use values::count_stands;
 use values::limit_of;
@@ -154,7 +149,7 @@ pub fn step(mut state: State, action: u64, process: u64, time: u64) -> Outcome
         found,
         scene,
         stage_of(own),
-        since_of(own),
+        check_from(own, parameters.b),
         transition,
         action,
         time,

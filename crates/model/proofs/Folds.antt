@@ -77,19 +77,21 @@ module _ {S D R : Type 0} {gives : S → D → R} {next : R → S} {s : S} {ds :
 
 -- The loop that writes down what the calls give back
 
--- `write` puts results into what is lent: of the n calls ds from s on the first i have been made, they led to t, and l has become m
-pub record Going {S D R L : Type 0} (gives : S → D → R) (next : R → S) (write : List R → L → L) (s : S) (ds : List D) (l : L) (n i : ℕ)
-    (t : S) (m : L) : Type 0 where
+-- `read` tells the calls that stand in what is lent, a and l, and `write` puts results into l: of the n calls from s on the first i have
+-- been made, they led to t, and l has become m
+pub record Going {S D R A L : Type 0} (gives : S → D → R) (next : R → S) (read : A → L → List D) (write : List R → L → L)
+    (s : S) (a : A) (l : L) (n i : ℕ) (t : S) (m : L) : Type 0 where
   pub results : List R
-  pub made : Made gives next s ds i t results
-  pub all : n ≡ length ds
+  pub made : Made gives next s (read a l) i t results
+  pub all : n ≡ length (read a l)
   pub written : m ≡ write results l
 
-module _ {S D R L : Type 0} {gives : S → D → R} {next : R → S} {write : List R → L → L} {s : S} {ds : List D} {l : L} {n : ℕ} where
-  pub sets-out : {t : S} → t ≡ s → n ≡ length ds → l ≡ write [] l → Going gives next write s ds l n 0 t l
-  sets-out e h none = record { results = []; made = rw e begins; all = h; written = none }
+module _ {S D R A L : Type 0} {gives : S → D → R} {next : R → S} {read : A → L → List D} {write : List R → L → L}
+    {s : S} {a : A} {l : L} {n : ℕ} where
+  pub sets-out : n ≡ length (read a l) → l ≡ write [] l → Going gives next read write s a l n 0 s l
+  sets-out h none = record { results = []; made = begins; all = h; written = none }
 
-  module _ {i : ℕ} {t : S} {m : L} (g : Going gives next write s ds l n i t m) where
+  module _ {i : ℕ} {t : S} {m : L} (g : Going gives next read write s a l n i t m) where
     pub count-going : length (g .results) ≡ i
     count-going = count-made (g .made)
 
@@ -98,8 +100,8 @@ module _ {S D R L : Type 0} {gives : S → D → R} {next : R → S} {write : Li
     long-going f rows h = rows-long f (g .results) rows i count-going (omega (arith, g .made .within, g .all))
 
     -- d is the next call; e is of no account
-    pub moves-on : i < n → (d e : D) → getD ds i e ≡ d → {u : S} {k : L} → u ≡ next (gives t d)
-        → k ≡ write (g .results ++ (gives t d ∷ [])) l → Going gives next write s ds l n (i + 1) u k
+    pub moves-on : i < n → (d e : D) → getD (read a l) i e ≡ d → {u : S} {k : L} → u ≡ next (gives t d)
+        → k ≡ write (g .results ++ (gives t d ∷ [])) l → Going gives next read write s a l n (i + 1) u k
     moves-on h d e at led put = record {
       results = g .results ++ (gives t d ∷ []);
       made = rw led (goes-on (g .made) (omega (arith, g .all)) d e at);
@@ -108,8 +110,8 @@ module _ {S D R L : Type 0} {gives : S → D → R} {next : R → S} {write : Li
     }
 
     -- all have been made
-    pub end-reached : n ≤ i → t ≡ endBy gives next s ds
+    pub end-reached : n ≤ i → t ≡ endBy gives next s (read a l)
     end-reached h = end-made (g .made) (omega (arith, g .all))
 
-    pub all-written : n ≤ i → m ≡ write (resultsBy gives next s ds) l
+    pub all-written : n ≤ i → m ≡ write (resultsBy gives next s (read a l)) l
     all-written h = g .written ∙ ap (λ (rs : List R). write rs l) (results-made (g .made) (omega (arith, g .all)))

@@ -2,10 +2,10 @@
 // the answer, then the clock, the word, and place and arrival of windows 1 and 2 of the table given back.
 use cases::Row;
 use libc::STDOUT_FILENO;
-use machine::stages::since_of;
-use machine::stages::stage_of;
 use model::Outcome;
 use model::Process;
+use rules::stages::since_of;
+use rules::stages::stage_of;
 use values::no_parameters;
 
 fn print_next(number: u64) {

@@ -1,11 +1,11 @@
 // What comes of a list of calls, printed: numbers between commas.
 use history::rows::tuple_of;
 use libc::STDOUT_FILENO;
-use machine::stages::since_of;
-use machine::stages::stage_of;
 use model::Process;
 use model::State;
 use model::Statistics;
+use rules::stages::since_of;
+use rules::stages::stage_of;
 ghost use Prim.Native.Nat.{_≤_};
 
 pub(crate) fn print_line(text: &[u8]) {

@@ -1,8 +1,8 @@
 // A summary that is not full after one more act: the counts, and the try moment of the acting window.
-use machine::actions::CRIT;
-use machine::actions::EXIT;
-use machine::actions::TRY;
 use model::Counts;
+use rules::actions::CRIT;
+use rules::actions::EXIT;
+use rules::actions::TRY;
 ghost use mathlib.Core.Path.{_≡_};
 ghost use Prim.Native.Nat.{_≤_, max};
 ghost use Rattle.model.specs.Summaries.{oneRefused, oneAccepted, oneEntry, oneExit, countsAfter, triedAfter};

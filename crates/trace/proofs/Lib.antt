@@ -1,3 +1,4 @@
+pub mod Rows
 pub mod Stores
 pub mod Readings
 pub mod Sizes

@@ -1,12 +1,13 @@
--- What a reading gives back, by what the passes over its text found: one law for each way out of `read`. Assumes nothing.
-use Prim.Native.Nat.{ℕ, _≤_, _<_, min}
+-- What a scan gives back, by what the passes over its text found: one law for each way out of `scan`. Assumes nothing.
+use Prim.Native.Nat.{ℕ, _≤_, _<_}
 use mathlib.Core.Path.{_≡_}
+use mathlib.Core.Logic.{_≢_}
 use mathlib.Core.List.{List}
 use native.Mathlib.Omega.{arith}
 use lib.ListN.{length, drop}
 use borrow.Author.Tests.{lt-ltb, le-ltb, eq-eqb, ne-eqb}
-use Rattle.model.specs.declared.Head.the-variants.{Values, Refused}
-use Rattle.model.specs.Readings.{Body, bodyOf, headOf, Lists, room, stored, readingOf, unread, readOf}
+use Rattle.model.specs.declared.Scan.{Scan}
+use Rattle.model.specs.Readings.{scanOf, scanFails, headOf, Body, bodyOf, trace, traceOf, Lists, room, stored, scanGave, scannedOf}
 use Rattle.model.proofs.Tests.{if-eq}
 use Rattle.trace.specs.declared.steps.Tally.the-variants.{Steps, Fault}
 use Rattle.trace.specs.Passes.{tallyOf}
@@ -45,33 +46,28 @@ tally-fault b code line e =
     let s : Fault 14 (b .fault) ≡ Fault code line = simp (ne-eqb (b .fault) 0 z) at e in
     record { broken = z; named = cc; here = cc })
 
--- The ways out
+-- The ways out, where h was found of the first lines
 
-module _ (text : List ℕ) (l : Lists) where
-  pub read-refused : (code line : ℕ) → headOf text ≡ Refused code line → readOf text l ≡ unread code line l
-  unfolding readOf
-  read-refused code line e = rw (trace-refused text code line e)
+module _ (text : List ℕ) (l : Lists) (h : Scan) (e : headOf text ≡ h) where
+  pub scan-refused : h .code ≢ 0 → scannedOf text l ≡ scanGave (scanFails (h .code) (h .line)) l
+  unfolding scannedOf
+  scan-refused n = rw (trace-refused text h e n)
 
-  module _ (n a b c k : ℕ) (h : headOf text ≡ Values n a b c k) where
-    pub read-fault : (code line : ℕ) → tallyOf (bodyOf 4 (drop k text)) ≡ Fault code line → readOf text l ≡ unread code line l
-    unfolding readOf
-    read-fault code line e =
-        let f = tally-fault (bodyOf 4 (drop k text)) code line e in
-        rw (trace-fault text n a b c k h (f .broken), f .named, f .here)
+  module _ (read : h .code ≡ 0) (body : Body) (rest : bodyOf (h .line) (drop (h .size) text) ≡ body) where
+    says : body .fault ≡ 0 → traceOf text ≡ trace (h .line) (h .parameters) (body .events)
+    says z = rw rest at (trace-events text h e read (rw rest z))
 
-    module _ (count : ℕ) (e : tallyOf (bodyOf 4 (drop k text)) ≡ Steps count) where
-      pub read-many : length (bodyOf 4 (drop k text) .events) ≡ count
-      read-many = tally-steps (bodyOf 4 (drop k text)) count e .many
+    pub scan-fault : (code line : ℕ) → tallyOf body ≡ Fault code line → scannedOf text l ≡ scanGave (scanFails code line) l
+    unfolding scannedOf
+    scan-fault code line t =
+        let f = tally-fault body code line t in
+        rw (trace-fault text h e read (rw rest (f .broken)), rest, f .named, f .here)
 
-      pub read-full : room l < count → readOf text l ≡ unread 16 0 l
-      unfolding readOf
-      read-full g = let t = tally-steps (bodyOf 4 (drop k text)) count e in rw (trace-events text n a b c k h (t .whole), t .many, lt-ltb (room l) count g)
+    module _ (count : ℕ) (t : tallyOf body ≡ Steps count) where
+      pub scan-full : room l < count → scannedOf text l ≡ scanGave (scanFails 16 0) l
+      unfolding scannedOf
+      scan-full g = let c = tally-steps body count t in rw (says (c .whole), c .many, lt-ltb (room l) count g)
 
-      pub read-stored : count ≤ room l
-          → readOf text l ≡ record { reading = readingOf 0 count n a b c; kept = stored (bodyOf 4 (drop k text) .events) l }
-      unfolding readOf
-      read-stored g = let t = tally-steps (bodyOf 4 (drop k text)) count e in rw (trace-events text n a b c k h (t .whole), t .many, le-ltb (room l) count g)
-
--- what fits the shortest of three lists fits each
-pub fits-each : (x y z count n : ℕ) → count ≤ min x (min y z) → n ≡ count → (n ≤ x) × ((n ≤ y) × (n ≤ z))
-fits-each x y z count n h q = (omega arith, (omega arith, omega arith))
+      pub scan-stored : count ≤ room l → scannedOf text l ≡ scanGave (scanOf (h .line) (h .parameters) count) (stored (body .events) l)
+      unfolding scannedOf
+      scan-stored g = let c = tally-steps body count t in rw (says (c .whole), c .many, le-ltb (room l) count g)

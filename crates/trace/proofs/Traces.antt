@@ -5,7 +5,7 @@ use mathlib.Core.Bool.{true, false}
 use mathlib.Core.List.{List, [], _∷_, _++_}
 use native.Mathlib.Omega.{arith}
 use lib.ListN.{length, getD, drop, drop-of-length-le}
-use Rattle.model.specs.Texts.{Event, eventText, eventsText, hasForm}
+use Rattle.model.specs.Texts.{Event, event, eventText, eventsText, hasForm}
 use Rattle.model.specs.Readings.{Lists, lists, room}
 use Rattle.model.specs.Writings.{eventsIn, eventsOf, formlessFrom}
 use Rattle.model.proofs.Tests.{if-lt}
@@ -25,7 +25,7 @@ none-third (t ∷ x) (p ∷ y) = refl
 
 -- the step at place i, and the lists from i on
 abbrev pub eventOf : Lists → ℕ → Event
-eventOf l i = record { time = getD (l .times) i 0; process = getD (l .processes) i 0; action = getD (l .actions) i 0 }
+eventOf l i = event (getD (l .times) i 0) (getD (l .processes) i 0) (getD (l .actions) i 0)
 
 abbrev pub from : ℕ → Lists → Lists
 from i l = lists (drop i (l .times)) (drop i (l .processes)) (drop i (l .actions))
@@ -59,12 +59,12 @@ module _ (l : Lists) (i : ℕ) where
     unfolding eventsText
     text-at = rw events-at
 
-    -- the first line with a step is the fourth
-    pub formless-here : hasForm (eventOf l i) ≡ false → i + 4 ≡ formlessFrom (i + 4) (eventsOf (from i l))
+    -- where the first step has the line `first`
+    pub formless-here : (first : ℕ) → hasForm (eventOf l i) ≡ false → first + i ≡ formlessFrom (first + i) (eventsOf (from i l))
     unfolding formlessFrom
-    formless-here e = rw events-at (rw e)
+    formless-here first e = rw events-at (rw e)
 
-    pub formless-next : hasForm (eventOf l i) ≡ true
-        → formlessFrom (i + 1 + 4) (eventsOf (from (i + 1) l)) ≡ formlessFrom (i + 4) (eventsOf (from i l))
+    pub formless-next : (first : ℕ) → hasForm (eventOf l i) ≡ true
+        → formlessFrom (first + (i + 1)) (eventsOf (from (i + 1) l)) ≡ formlessFrom (first + i) (eventsOf (from i l))
     unfolding formlessFrom
-    formless-next e = let q : i + 4 + 1 ≡ i + 1 + 4 = omega arith in rw events-at (rw (e, q))
+    formless-next first e = let q : first + i + 1 ≡ first + (i + 1) = omega arith in rw events-at (rw (e, q))

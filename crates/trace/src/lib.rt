@@ -1,109 +1,135 @@
-// Reader and writer of recordings: `read` takes a text apart into lent lists, `write` makes a text of lists. Both take
-// anything, and give back what `readOf` and `writeOf` of the model say, refusals included.
-mod fields;
+// Reader and writer of recordings: `scan` and `read` take a text apart into lent lists, `write` makes a text of lists. They take
+// anything, and give back what `scannedOf`, `readOf` and `writeOf` of the model say, refusals included.
 mod lines;
-pub mod puts;
 mod steps;
 mod texts;
-mod words;
 
+use crate::lines::first_line;
 use crate::lines::head_of;
+use crate::lines::scan_fails;
 use crate::steps::Tally;
 use crate::steps::count_events;
 use crate::steps::store_events;
 use crate::texts::Size;
 use crate::texts::formless;
-use crate::texts::least;
 use crate::texts::put_trace;
-use machine::answers::answer_with;
-use machine::limits::count_stands;
-use machine::limits::limits_stand;
 use model::Answer;
-use model::Head;
+use model::Parameters;
 use model::Reading;
+use model::Scan;
+use values::answer_with;
+use values::count_stands;
+use values::least;
+use values::limits_stand;
+use values::no_parameters;
 ghost use mathlib.Core.Path.{_≡_};
-ghost use Rattle.model.specs.Readings.{lists, readGave, readingOf, readOf};
+ghost use Rattle.model.specs.Readings.{lent, scanGave, scannedOf, lineTold, readingFrom, readGave, readOf};
 ghost use Rattle.model.specs.Writings.{eventsOf, writeGave, writeOf};
 
-fn reading_with(code: u64, time: u64, n: u64, a: u64, b: u64, c: u64) -> Reading
-    ensures { λ r. ⌜ r ≡ readingOf code time n a b c ⌝ }
+// [6.90] [6.130] [6.133] [6.136] [21.110] Scans a recording: its steps go to the three lists. A refused one stores nothing.
+pub fn scan(text: &[u8], times: &mut [u64], processes: &mut [u64], actions: &mut [u64]) -> Scan
+    ensures { λ r. ⌜ scanGave r (lent (times .exit) (processes .exit) (actions .exit))
+        ≡ scannedOf (now (text .entry)) (lent (times .entry) (processes .entry) (actions .entry)) ⌝ }
 {
-    Reading {
-        answer: Answer {
-            code: code,
-            process: 0,
-            time: time,
-        },
-        n: n,
-        a: a,
-        b: b,
-        c: c,
+    let head = head_of(text);
+    if head.code != 0 {
+        return scan_fails(head.code, head.line);
     }
-}
-
-// [6.140] A refused reading: n, a, b, c are 0.
-fn unread(code: u64, line: u64) -> Reading
-    ensures { λ r. ⌜ r ≡ readingOf code line 0 0 0 0 ⌝ }
-{
-    reading_with(code, line, 0, 0, 0, 0)
-}
-
-// [6.90] [6.130] [6.133] [6.136] [6.140] [21.110] Reads a recording: its steps go to the three lists. A refused reading stores nothing.
-pub fn read(text: &[u8], times: &mut [u64], processes: &mut [u64], actions: &mut [u64]) -> Reading
-    ensures { λ r. ⌜ readGave r (lists (now (times .exit)) (now (processes .exit)) (now (actions .exit))) ≡ readOf (now (text .entry)) (lists (now (times .entry)) (now (processes .entry)) (now (actions .entry))) ⌝ }
-{
-    let first = head_of(text);
-    match first {
-        Head::Refused(code, line) => unread(code, line),
-        Head::Values(n, a, b, c, k) => {
-            let body = &text[k..];
-            let counted = count_events(body);
-            match counted {
-                Tally::Fault(code, line) => unread(code, line),
-                Tally::Steps(count) => {
-                    let room = least(times.len(), least(processes.len(), actions.len()));
-                    if room < count {
-                        return unread(16, 0);
-                    }
-                    store_events(body, times, processes, actions);
-                    reading_with(0, count as u64, n, a, b, c)
-                }
+    let at = head.size;
+    let first = head.line;
+    let body = &text[at..];
+    let counted = count_events(body, first);
+    match counted {
+        Tally::Fault(code, line) => scan_fails(code, line),
+        Tally::Steps(count) => {
+            let room = least(times.len(), least(processes.len(), actions.len()));
+            if room < count {
+                return scan_fails(16, 0);
+            }
+            store_events(body, first, times, processes, actions);
+            let parameters = head.parameters;
+            Scan {
+                code: 0,
+                line: first,
+                parameters: parameters,
+                size: count,
             }
         }
     }
 }
 
+// [6.110] The line in the answer, of the line that a refusal is reported at.
+fn line_told(code: u64, line: u64) -> u64
+    ensures { λ r. ⌜ r ≡ lineTold code line ⌝ }
+{
+    if code == 11 {
+        return 0;
+    }
+    if code == 12 {
+        return 0;
+    }
+    line
+}
+
+// [6.110] [6.130] [6.140] How many steps there are and the parameters; or the refusal with its line.
+fn reading_from(found: Scan) -> Reading
+    ensures { λ r. ⌜ r ≡ readingFrom found ⌝ }
+{
+    if found.code != 0 {
+        let line = line_told(found.code, found.line);
+        let answer = answer_with(found.code, 0, line);
+        let parameters = no_parameters();
+        return Reading {
+            answer: answer,
+            parameters: parameters,
+        };
+    }
+    let answer = answer_with(0, 0, found.size as u64);
+    let parameters = found.parameters;
+    Reading {
+        answer: answer,
+        parameters: parameters,
+    }
+}
+
+// [6.90] [6.110] [6.130] [6.133] [6.136] [6.140] [21.110] Reads a recording: a scan of it, and what is told of that.
+pub fn read(text: &[u8], times: &mut [u64], processes: &mut [u64], actions: &mut [u64]) -> Reading
+    ensures { λ r. ⌜ readGave r (lent (times .exit) (processes .exit) (actions .exit))
+        ≡ readOf (now (text .entry)) (lent (times .entry) (processes .entry) (actions .entry)) ⌝ }
+{
+    let found = scan(text, times, processes, actions);
+    reading_from(found)
+}
+
 // [6.150] [6.153] [6.156] [6.170] [6.180] [21.110] Writes a recording of the steps in the three lists, as many as the shortest holds.
 // A refused writing stores nothing.
 pub fn write(
-    n: u64,
-    a: u64,
-    b: u64,
-    c: u64,
+    parameters: Parameters,
     times: &[u64],
     processes: &[u64],
     actions: &[u64],
     out: &mut [u8],
 ) -> Answer
-    ensures { λ r. ⌜ writeGave r (now (out .exit)) ≡ writeOf n a b c (eventsOf (lists (now (times .entry)) (now (processes .entry)) (now (actions .entry)))) (now (out .entry)) ⌝ }
+    ensures { λ r. ⌜ writeGave r (now (out .exit))
+        ≡ writeOf parameters (eventsOf (lent (times .entry) (processes .entry) (actions .entry))) (now (out .entry)) ⌝ }
 {
-    if !count_stands(n) {
+    if !count_stands(parameters) {
         return answer_with(11, 0, 0);
     }
-    if !limits_stand(a, b, c) {
+    if !limits_stand(parameters) {
         return answer_with(12, 0, 0);
     }
-    let line = formless(times, processes, actions);
+    let line = formless(first_line(parameters), times, processes, actions);
     if line != 0 {
         return answer_with(14, 0, line);
     }
-    let measured = put_trace(&mut out[..0], n, a, b, c, times, processes, actions);
+    let measured = put_trace(&mut out[..0], parameters, times, processes, actions);
     let Size::Bytes(size) = measured else {
         return answer_with(15, 0, 0);
     };
     if out.len() < size {
         return answer_with(16, 0, 0);
     }
-    put_trace(out, n, a, b, c, times, processes, actions);
+    put_trace(out, parameters, times, processes, actions);
     answer_with(0, 0, size as u64)
 }

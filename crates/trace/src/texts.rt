@@ -1,15 +1,18 @@
-// The text of a trace: which of its steps has no form, how many bytes it takes, and putting it into an output.
-use crate::fields::NUMBER_BOUND;
-use crate::fields::TIME_BOUND;
-use crate::puts::put_event;
-use crate::puts::put_text;
-use crate::puts::put_values;
-use crate::words::COUNT;
+// The text of a recording: which of its steps has no form, how many bytes it takes, and putting it into an output.
+use model::Parameters;
+use text::fields::NUMBER_BOUND;
+use text::fields::TIME_BOUND;
+use text::numbers::put_numbers;
+use text::puts::put_number;
+use text::puts::put_text;
+use text::puts::put_word;
+use text::words::COUNT;
+use values::least;
 ghost use mathlib.Core.Path.{_≡_};
-ghost use Prim.Native.Nat.{_≤_, min};
-ghost use Rattle.model.specs.Texts.{hasForm, headText, eventsText, traceText};
-ghost use Rattle.model.specs.Readings.{lists};
-ghost use Rattle.model.specs.Writings.{eventsOf, formlessOf};
+ghost use Prim.Native.Nat.{_≤_};
+ghost use Rattle.model.specs.Texts.{event, hasForm, eventText, headText, eventsText, traceText};
+ghost use Rattle.model.specs.Readings.{lent};
+ghost use Rattle.model.specs.Writings.{eventsOf, formlessFrom};
 ghost use Rattle.text.specs.Puts.{Put};
 ghost use Rattle.trace.specs.Passes.{PutSized};
 
@@ -19,15 +22,9 @@ pub(crate) enum Size {
     Long,
 }
 
-pub(crate) fn least(a: usize, b: usize) -> usize
-    ensures { λ r. ⌜ r ≡ min a b ⌝ }
-{
-    if a < b { a } else { b }
-}
-
 // [6.160]
 fn has_form(time: u64, process: u64, action: u64) -> bool
-    ensures { λ r. ⌜ r ≡ hasForm (record { time = time; process = process; action = action }) ⌝ }
+    ensures { λ r. ⌜ r ≡ hasForm (event time process action) ⌝ }
 {
     if TIME_BOUND <= time {
         return false;
@@ -38,15 +35,16 @@ fn has_form(time: u64, process: u64, action: u64) -> bool
     action < COUNT
 }
 
-// [6.170] The line of the first step that has no form; 0 where there is none.
-pub(crate) fn formless(times: &[u64], processes: &[u64], actions: &[u64]) -> u64
-    ensures { λ r. ⌜ r ≡ formlessOf (eventsOf (lists (now (times .entry)) (now (processes .entry)) (now (actions .entry)))) ⌝ }
+// [6.170] The line of the first step that has no form, where the first step has the line `first`; 0 where there is none.
+pub(crate) fn formless(first: u64, times: &[u64], processes: &[u64], actions: &[u64]) -> u64
+    requires { ⌜ first ≤ 65536 ⌝ }
+    ensures { λ r. ⌜ r ≡ formlessFrom first (eventsOf (lent (times .entry) (processes .entry) (actions .entry))) ⌝ }
 {
     let count = least(times.len(), least(processes.len(), actions.len()));
     let mut i: usize = 0;
     while i < count {
         if !has_form(times[i], processes[i], actions[i]) {
-            return (i as u64) + 4;
+            return first + (i as u64);
         }
         i += 1;
     }
@@ -54,12 +52,26 @@ pub(crate) fn formless(times: &[u64], processes: &[u64], actions: &[u64]) -> u64
 }
 
 // [6.20] [6.30] [6.40] The first three lines.
-fn put_head(out: &mut [u8], n: u64, a: u64, b: u64, c: u64) -> usize
-    ensures { λ r. ⌜ Put (now (out .entry)) (now (out .exit)) 0 (headText n a b c) r ⌝ }
+fn put_head(out: &mut [u8], parameters: Parameters) -> usize
+    ensures { λ r. ⌜ Put (now (out .entry)) (now (out .exit)) 0 (headText parameters) r ⌝ }
+    ensures { λ r. ⌜ r ≤ 114 ⌝ }
 {
+    let rest = [parameters.a, parameters.b, parameters.c];
     let i = put_text(out, 0, b"windows,a,b,c\n");
-    let j = put_values(out, i as u32, n, a, b, c);
+    let j = put_numbers(out, i as u32, parameters.n, &rest);
     let k = put_text(out, i + j, b"time,window,act\n");
+    i + (j + k)
+}
+
+// [6.50] The line of a step. The place is a u32 so that no sum of places overflows.
+fn put_event(out: &mut [u8], at: u32, time: u64, process: u64, action: u64) -> usize
+    ensures { λ r. ⌜ Put (now (out .entry)) (now (out .exit)) at (eventText (event time process action)) r ⌝ }
+    ensures { λ r. ⌜ r ≤ 48 ⌝ }
+{
+    let start = at as usize;
+    let i = put_number(out, start, time, b',');
+    let j = put_number(out, start + i, process, b',');
+    let k = put_word(out, start + i + j, action);
     i + (j + k)
 }
 
@@ -72,7 +84,8 @@ fn put_events(
     actions: &[u64],
 ) -> Size
     requires { ⌜ start ≤ 65536 ⌝ }
-    ensures { λ r. ⌜ PutSized (now (out .entry)) (now (out .exit)) start (eventsText (eventsOf (lists (now (times .entry)) (now (processes .entry)) (now (actions .entry))))) r ⌝ }
+    ensures { λ r. ⌜ PutSized (now (out .entry)) (now (out .exit)) start
+        (eventsText (eventsOf (lent (times .entry) (processes .entry) (actions .entry)))) r ⌝ }
 {
     let count = least(times.len(), least(processes.len(), actions.len()));
     let mut at = start;
@@ -87,19 +100,17 @@ fn put_events(
     Size::Bytes(at)
 }
 
-// Puts the text of a trace, and answers how many bytes it has. What a text that is too long leaves is not told.
+// Puts the text of a recording, and answers how many bytes it has. What a text that is too long leaves is not told.
 pub(crate) fn put_trace(
     out: &mut [u8],
-    n: u64,
-    a: u64,
-    b: u64,
-    c: u64,
+    parameters: Parameters,
     times: &[u64],
     processes: &[u64],
     actions: &[u64],
 ) -> Size
-    ensures { λ r. ⌜ PutSized (now (out .entry)) (now (out .exit)) 0 (traceText n a b c (eventsOf (lists (now (times .entry)) (now (processes .entry)) (now (actions .entry))))) r ⌝ }
+    ensures { λ r. ⌜ PutSized (now (out .entry)) (now (out .exit)) 0
+        (traceText parameters (eventsOf (lent (times .entry) (processes .entry) (actions .entry)))) r ⌝ }
 {
-    let head = put_head(out, n, a, b, c);
+    let head = put_head(out, parameters);
     put_events(out, head, times, processes, actions)
 }

@@ -1,14 +1,14 @@
 // The work of the benchmarks: the state that a case starts from, the act of each of its steps, and the loop that makes them.
 // `bench/cases.rs` has the same cases in Rust.
 use libc::STDOUT_FILENO;
-use machine::actions::REM;
-use machine::actions::TRY;
-use machine::actions::WAIT;
 use machine::entry_at;
 use model::Location;
 use model::Parameters;
 use model::Process;
 use model::State;
+use rules::actions::REM;
+use rules::actions::TRY;
+use rules::actions::WAIT;
 use std::num::wrapping_add_u64;
 
 // The cases. NONE makes no step: what it costs is taken off the others. 1, 2 and 3 are accepted acts of 2, 24 and 96 processes.

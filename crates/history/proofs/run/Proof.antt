@@ -1,19 +1,21 @@
 -- `history::run` meets its contract: the invariant is what the first i calls of the list give, and demand 3 holds of every list.
 -- Assumes nothing.
 use Prim.Native.Nat.{_-_}
+use mathlib.Core.Path.{refl, ap, _∙_}
 use native.Mathlib.Omega.{arith}
-use Rattle.model.specs.Answers.{freshOf}
-use Rattle.history.specs.Lists.{Rows, rows, ranOf, turnGave}
-use Rattle.history.proofs.Turns.{length-calls, Going, begins, is-inside, goes-on, counts-long, tries-long, answers-long, ends, ran-demand3}
+use Rattle.model.specs.declared.Outcome.{Outcome}
+use Rattle.model.proofs.Folds.{sets-out}
+use Rattle.history.specs.Lists.{Rows, rows, callsOf, ranFrom, ranOf}
+use Rattle.history.proofs.Turns.{length-calls, Turning, is-inside, turns-on, counts-long, tries-long, answers-long, ends, ran-demand3}
 use Rattle.history.proofs.run.Statement.{statement}
 use Rattle.history.proofs.run.Tie as tie
 
 abbrev Inv-loop : tie.InvT-loop
-Inv-loop n a b c calls counts₀ tries₀ answers₀ answer state₀ count i₀ counts tries answers state i =
-    Going (freshOf n a b c .state) calls (rows counts₀ tries₀ answers₀) count (turnGave state (rows counts tries answers)) i
+Inv-loop calls counts₀ tries₀ answers₀ answer state₀ count i₀ counts tries answers state i =
+    Turning state₀ calls (rows counts₀ tries₀ answers₀) count i state (rows counts tries answers)
 
 abbrev μ-loop : tie.MeasureT-loop
-μ-loop n a b c calls counts₀ tries₀ answers₀ answer state₀ count i₀ counts tries answers state i = count - i
+μ-loop calls counts₀ tries₀ answers₀ answer state₀ count i₀ counts tries answers state i = count - i
 
 -- the rows at entry
 abbrev lent : tie.Start Inv-loop μ-loop → Rows
@@ -34,8 +36,7 @@ least-requires-3 c κs = tt
 loop-holds : tie.Need-loop-holds Inv-loop μ-loop
 loop-holds c =
     let s = c .before .before .before .before .before .before in
-    begins (s .args .calls .now) (lent s) (c .before .before .before .before .before .fresh .ensures)
-    (omega (arith, length-calls (s .args .calls .now) (lent s)))
+    sets-out (omega (arith, length-calls (s .args .calls .now) (lent s))) refl
 
 make-turn-requires : tie.Need-make-turn-requires Inv-loop μ-loop
 make-turn-requires c κs =
@@ -49,7 +50,7 @@ loop-less : tie.Need-loop-less Inv-loop μ-loop
 loop-less c = omega arith
 
 loop-again : tie.Need-loop-again Inv-loop μ-loop
-loop-again c = goes-on (c .before .before .before .before .before .before .before .before .loop .inv) (omega arith)
+loop-again c = turns-on (c .before .before .before .before .before .before .before .before .loop .inv) (omega arith)
     (c .before .before .before .make-turn .ensures)
 
 same-length : tie.Need-same-length Inv-loop μ-loop
@@ -65,8 +66,11 @@ returns : tie.Need-returns Inv-loop μ-loop
 unfolding ranOf
 returns c =
     let s = c .before .before .before .before .before .before .before .before in
-    let e = ends (c .before .before .before .before .before .before .before .fresh .ensures) (c .before .loop .inv) (omega arith) in
-    (e, ran-demand3 (s .args .n) (s .args .a) (s .args .b) (s .args .c) (s .args .calls .now) (lent s) e)
+    let made = c .before .before .before .before .before .before .before .fresh in
+    let calls = s .args .calls .now in
+    let e = ends (made .result) (c .before .loop .inv) (omega arith)
+    ∙ ap (λ (o : Outcome). ranFrom o (callsOf calls (lent s)) (lent s)) (made .ensures) in
+    (e, ran-demand3 (s .args .parameters) calls (lent s) e)
 
 pub run-spec : {M : Type 1} → statement M
 run-spec =

@@ -1,20 +1,20 @@
 -- `history::run_recorded` meets its contract: the invariant is what the first i steps of the list give, and the tally follows from
 -- what all of them give. Assumes nothing.
 use Prim.Native.Nat.{_-_}
+use mathlib.Core.Path.{refl, _∙_}
 use native.Mathlib.Omega.{arith}
 use Rattle.model.specs.Summaries.{beside}
-use Rattle.tallies.specs.Tallies.{startOf}
-use Rattle.history.specs.RecordedRuns.{recordedRunGave, recordedRunOf}
-use Rattle.history.proofs.RecordedTurns.{length-events, Underway, begins, goes-on, answers-long, ends, recorded-run-tallied}
+use Rattle.model.proofs.Folds.{sets-out}
+use Rattle.history.specs.RecordedRuns.{eventsOf, recordedRunFrom, recordedRunOf}
+use Rattle.history.proofs.RecordedTurns.{length-events, Recording, records-on, answers-long, ends, recorded-run-tallied}
 use Rattle.history.proofs.run_recorded.Statement.{statement}
 use Rattle.history.proofs.run_recorded.Tie as tie
 
 abbrev Inv-loop : tie.InvT-loop
-Inv-loop n a b c acts answers₀ answer last₀ count i₀ answers last i =
-    Underway (startOf n a b c) acts answers₀ count (recordedRunGave last answers) i
+Inv-loop acts answers₀ answer last₀ count i₀ answers last i = Recording last₀ acts answers₀ count i last answers
 
 abbrev μ-loop : tie.MeasureT-loop
-μ-loop n a b c acts answers₀ answer last₀ count i₀ answers last i = count - i
+μ-loop acts answers₀ answer last₀ count i₀ answers last i = count - i
 
 fresh-requires : tie.Need-fresh-requires Inv-loop μ-loop
 fresh-requires c κs = tt
@@ -28,9 +28,7 @@ least-requires c κs = tt
 loop-holds : tie.Need-loop-holds Inv-loop μ-loop
 loop-holds c =
     let s = c .before .before .before .before in
-    begins (s .args .acts .now) (s .args .answers .now)
-    (λ j. beside (c .before .new-statistics .ensures j) (c .before .before .before .fresh .ensures j))
-    (omega (arith, length-events (s .args .acts .now) (s .args .answers .now)))
+    sets-out (omega (arith, length-events (s .args .acts .now) (s .args .answers .now))) refl
 
 record-turn-requires : tie.Need-record-turn-requires Inv-loop μ-loop
 record-turn-requires c κs =
@@ -45,7 +43,7 @@ loop-less : tie.Need-loop-less Inv-loop μ-loop
 loop-less c = omega arith
 
 loop-again : tie.Need-loop-again Inv-loop μ-loop
-loop-again c = goes-on (c .before .before .before .before .loop .inv) (omega arith) (c .before .record-turn .ensures)
+loop-again c = records-on (c .before .before .before .before .loop .inv) (omega arith) (c .before .record-turn .ensures)
 
 same-length : tie.Need-same-length Inv-loop μ-loop
 same-length c = answers-long (c .before .before .before .before .loop .inv)
@@ -54,9 +52,13 @@ returns : tie.Need-returns Inv-loop μ-loop
 unfolding recordedRunOf
 returns c =
     let s = c .before .before .before .before .before .before .before .before .before in
-    let e = ends (c .before .before .before .before .before .before .before .before .fresh .ensures)
-    (c .before .before .before .before .loop .inv) (omega arith) in
-    (e, recorded-run-tallied (s .args .n) (s .args .a) (s .args .b) (s .args .c) (s .args .acts .now) (s .args .answers .now) e)
+    let acts = s .args .acts .now in
+    let answers = s .args .answers .now in
+    let made = c .before .before .before .before .before .before .before .before .fresh in
+    let summary = c .before .before .before .before .before .before .new-statistics in
+    let e = ends (beside (summary .result) (made .result)) (c .before .before .before .before .loop .inv) (omega arith)
+    ∙ (λ j. recordedRunFrom (beside (summary .ensures j) (made .ensures j)) (eventsOf acts answers) answers) in
+    (e, recorded-run-tallied (s .args .parameters) acts answers e)
 
 pub run-recorded-spec : {M : Type 1} → statement M
 run-recorded-spec =

@@ -15,7 +15,7 @@ use Rattle.model.specs.Actions.{row, transitionOf}
 use Rattle.model.specs.Answers.{stepOf}
 use Rattle.machine.proofs.Laws.{length-mapped, none-below}
 use Rattle.machine.proofs.Pass.{Passed, numbers-fault, nothing-passed, turn-fault, turn-passed, passed-whole}
-use Rattle.machine.proofs.Pass.{Surveyed, faulty, whole, surveyed-fits}
+use Rattle.machine.proofs.Pass.{Surveyed, faulty, whole}
 use Rattle.machine.proofs.Judged.{Goes, goes, exit-unsound, exit-refused, exit-waited, exit-moved}
 use Rattle.machine.proofs.step.Statement.{statement}
 use Rattle.machine.proofs.step.Tie as tie
@@ -130,8 +130,8 @@ no-row-requires-2 c κs = search needs
 stage-of-requires : tie.Need-stage-of-requires Inv-loop μ-loop
 stage-of-requires c κs = search needs
 
-since-of-requires : tie.Need-since-of-requires Inv-loop μ-loop
-since-of-requires c κs = search needs
+check-from-requires : tie.Need-check-from-requires Inv-loop μ-loop
+check-from-requires c κs = search needs
 
 -- what the pass told, where its ways out meet
 surveyed : (c : tie.Left-loop Inv-loop μ-loop)
@@ -174,9 +174,7 @@ is-row c some known =
     (c .match .came)
 
 judge-requires : tie.Need-judge-requires Inv-loop μ-loop
-judge-requires c κs = λ z.
-    rw (c .since-of .ensures, c .before .before .before .before .before .before .before .before .scene-of .ensures)
-    (surveyed-fits _ _ _ (surveyed (c .before .before .before)) z (c .before .before .before .before .before .before .before .slot-of .result))
+judge-requires c κs = search needs
 
 entry-at-requires : tie.Need-entry-at-requires Inv-loop μ-loop
 entry-at-requires c κs = search needs
@@ -197,7 +195,7 @@ answered c =
     let scene = c .before .before .before .before .before .before .before .before .before .scene-of in
     let slot = c .before .before .before .before .before .before .before .before .slot-of in
     let met = c .before .before .before in
-    rw (c .judge .ensures, c .before .since-of .ensures, c .before .before .stage-of .ensures, scene .ensures)
+    rw (c .judge .ensures, c .before .check-from .ensures, c .before .before .stage-of .ensures, scene .ensures)
     (goes (a .t1) (a .action) (a .process) (a .time) (met .before .loop-test .found) (own met) (met .match .transition)
     (surveyed (met .before)) (search (needs, length-mapped))
     (λ from to. ap (λ (i : ℕ). getD (a .t1 .processes) i idle .location) (slot .ensures .1 to)) (is-row met))
@@ -261,7 +259,7 @@ step-spec =
     row-requires-8
     no-row-requires-2
     stage-of-requires
-    since-of-requires
+    check-from-requires
     judge-requires
     entry-at-requires
     mul-t47

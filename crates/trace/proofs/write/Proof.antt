@@ -13,7 +13,7 @@ use Rattle.model.specs.Texts.{textLimit}
 use Rattle.model.specs.Readings.{lists}
 use Rattle.model.specs.Writings.{eventsOf}
 use Rattle.trace.proofs.Sizes.{size-bytes, size-long, nothing-put}
-use Rattle.trace.proofs.Writes.{Task, textOf, Sound}
+use Rattle.trace.proofs.Writes.{Task, textOf, formless, Sound}
 use Rattle.trace.proofs.Writes.{write-uncounted, write-unlimited, write-formless, write-long, write-roomless, write-done}
 use borrow.Author.Needs.{needs}
 use Rattle.trace.proofs.write.Statement.{statement}
@@ -23,31 +23,31 @@ abbrev task : tie.Start → Task
 task c =
     let a = c .args in
     record {
-      n = a .n;
-      a = a .a;
-      b = a .b;
-      c = a .c;
+      parameters = a .parameters;
       events = eventsOf (lists (a .times .now) (a .processes .now) (a .actions .now));
       out = a .out .now;
     }
 
-counted : (c : tie.Else1) → countStands (task (c .before .before .before .before .before .before) .n) ≡ true
+counted : (c : tie.Else1) → countStands (task (c .before .before .before .before .before .before) .parameters) ≡ true
 counted c = sym (c .before .count-stands .ensures) ∙ not-false _ (c .if1 .left)
 
-limited : (c : tie.Else2)
-    → let t = task (c .before .before .before .before .before .before .before .before) in limitsStand (t .a) (t .b) (t .c) ≡ true
+limited : (c : tie.Else2) → limitsStand (task (c .before .before .before .before .before .before .before .before) .parameters) ≡ true
 limited c = sym (c .before .limits-stand .ensures) ∙ not-false _ (c .if2 .left)
 
 -- what is written, at the place where it has been measured
 abbrev whole : tie.After-put-trace → Task
-whole c = task (c .before .before .before .before .before .before .before .before .before .before .before .before)
+whole c = task (c .before .before .before .before .before .before .before .before .before .before .before .before .before)
+
+-- the line that the steps are judged with
+judged : (c : tie.After-formless) → c .formless .result ≡ formless (task (c .before .before .before .before .before .before .before .before .before .before))
+judged c = rw (c .before .first-line .ensures .0) at (c .formless .ensures)
 
 sound : (c : tie.After-put-trace) → Sound (whole c)
 sound c =
     record {
-      counted = counted (c .before .before .before .before .before .before);
-      limited = limited (c .before .before .before .before);
-      formed = sym (c .before .before .before .formless .ensures) ∙ c .before .before .if3 .left;
+      counted = counted (c .before .before .before .before .before .before .before);
+      limited = limited (c .before .before .before .before .before);
+      formed = sym (judged (c .before .before .before)) ∙ c .before .before .if3 .left;
     }
 
 -- measuring leaves the bytes as they were lent
@@ -85,6 +85,9 @@ returns-2 c =
     let e = sym (c .before .before .limits-stand .ensures) ∙ not-true _ (c .before .if2 .taken) in
     rw (write-unlimited t (counted (c .before .before .before)) e) (write-gave (c .answer-with2 .ensures) refl)
 
+first-line-requires : tie.Need-first-line-requires
+first-line-requires c κs = search needs
+
 formless-requires : tie.Need-formless-requires
 formless-requires c κs = search needs
 
@@ -93,9 +96,10 @@ answer-with-requires-3 c κs = search needs
 
 returns-3 : tie.Need-returns-3
 returns-3 c =
-    let t = task (c .before .before .before .before .before .before .before .before .before .before .before) in
-    let e = c .before .before .formless .ensures in
-    rw (write-formless t (counted (c .before .before .before .before .before)) (limited (c .before .before .before)) (rw e at (c .before .if3 .taken)))
+    let t = task (c .before .before .before .before .before .before .before .before .before .before .before .before) in
+    let e = judged (c .before .before) in
+    let k = c .before .before .before .before in
+    rw (write-formless t (counted (k .before .before)) (limited k) (rw e at (c .before .if3 .taken)))
     (write-gave (rw e at (c .answer-with3 .ensures)) refl)
 
 slice-relend-prefix-put-trace : tie.Need-slice-relend-prefix-put-trace
@@ -120,7 +124,9 @@ same-length : tie.Need-same-length
 same-length c = search needs
 
 returns-4 : tie.Need-returns-4
-returns-4 c = rw (write-long (sound (c .before .before .before .before .before)) (long (c .before))) (write-gave (c .answer-with4 .ensures) (untouched (c .before .before .before .before .before)))
+returns-4 c =
+    let p = c .before .before .before .before .before in
+    rw (write-long (sound p) (long (c .before))) (write-gave (c .answer-with4 .ensures) (untouched p))
 
 answer-with-requires-5 : tie.Need-answer-with-requires-5
 answer-with-requires-5 c κs = search needs
@@ -166,6 +172,7 @@ write-spec =
     limits-stand-requires
     answer-with-requires-2
     returns-2
+    first-line-requires
     formless-requires
     answer-with-requires-3
     returns-3

@@ -6,17 +6,12 @@ use native.Mathlib.Omega.{arith}
 use lib.ListN.{length, drop, length-drop}
 use Rattle.model.specs.declared.Field.the-variants.{Value}
 use Rattle.model.specs.Texts.{comma, timeBound, numberBound}
-use Rattle.model.specs.Readings.{numberAt, wordAt}
-use Rattle.model.specs.Readings.{eventAt}
+use Rattle.model.specs.Readings.{numberAt, wordAt, eventAt}
 use Rattle.model.proofs.Lists.{part-is}
 use Rattle.grammar.proofs.Fields.{took-le, number-was, word-was}
 use borrow.Author.Needs.{needs}
 use Rattle.trace.proofs.lines.event_at.Statement.{statement}
 use Rattle.trace.proofs.lines.event_at.Tie as tie
-use Rattle.trace.proofs.lines.event_at.Reads as reads
-use Rattle.trace.proofs.lines.event_at.Lts as lts
-use Rattle.trace.proofs.fields.number_at.Reads as number-at-reads
-use Rattle.trace.proofs.fields.word_at.Reads as word-at-reads
 
 -- Where a field is known: the text that it was read from, its value, and how many bytes it takes; that it was read so, and
 -- that it lies within that text
@@ -31,7 +26,7 @@ abbrev k1 : tie.After-known-told → ℕ
 k1 c = c .before .first .given .0 .1 .0
 
 read1 : (c : tie.After-known-told) → numberAt timeBound comma (s1 c) ≡ Value (v1 c) (k1 c)
-read1 c = sym (c .before .before .before .number-at .ensures) ∙ c .before .first .given .1
+read1 c = sym (c .before .before .before .time-at .ensures) ∙ c .before .first .given .1
 
 fits1 : (c : tie.After-known-told) → k1 c ≤ length (s1 c)
 fits1 c = took-le (number-was timeBound comma _ _ _ (omega arith) (read1 c) .0)
@@ -49,7 +44,7 @@ abbrev k2 : tie.After-known-told2 → ℕ
 k2 c = c .before .second .given .0 .1 .0
 
 read2 : (c : tie.After-known-told2) → numberAt numberBound comma (s2 c) ≡ Value (v2 c) (k2 c)
-read2 c = rw part-is at (sym (c .before .before .before .number-at2 .ensures) ∙ c .before .second .given .1)
+read2 c = rw part-is at (sym (c .before .before .before .number-at .ensures) ∙ c .before .second .given .1)
 
 fits2 : (c : tie.After-known-told2) → k2 c ≤ length (s2 c)
 fits2 c = took-le (number-was numberBound comma _ _ _ (omega arith) (read2 c) .0)
@@ -84,8 +79,8 @@ within c =
       fits3 c,
     )
 
-number-at-requires : tie.Need-number-at-requires
-number-at-requires c κs = search needs
+time-at-requires : tie.Need-time-at-requires
+time-at-requires c κs = search needs
 
 enum-known-first : tie.Need-enum-known-first
 enum-known-first c = search needs
@@ -95,7 +90,7 @@ enum-told c = search needs
 
 returns : tie.Need-returns
 unfolding eventAt
-returns c = rw (sym (c .before .before .number-at .ensures) ∙ c .enum-told .given .1)
+returns c = rw (sym (c .before .before .time-at .ensures) ∙ c .enum-told .given .1)
 
 sub-after-time : tie.Need-sub-after-time
 sub-after-time c = fits1 c
@@ -106,8 +101,8 @@ part-after-time-start c = fits1 c
 part-after-time-end : tie.Need-part-after-time-end
 part-after-time-end c = search needs
 
-number-at-requires-2 : tie.Need-number-at-requires-2
-number-at-requires-2 c κs = search needs
+number-at-requires : tie.Need-number-at-requires
+number-at-requires c κs = search needs
 
 enum-known-second : tie.Need-enum-known-second
 enum-known-second c = search needs
@@ -117,7 +112,9 @@ enum-told-2 c = search needs
 
 returns-2 : tie.Need-returns-2
 unfolding eventAt
-returns-2 c = let k = c .before .before .before .before in rw (read1 k, rw part-is at (sym (c .before .before .number-at2 .ensures) ∙ c .enum-told2 .given .1))
+returns-2 c =
+    let k = c .before .before .before .before in
+    rw (read1 k, rw part-is at (sym (c .before .before .number-at .ensures) ∙ c .enum-told2 .given .1))
 
 sub-word-at : tie.Need-sub-word-at
 sub-word-at c = rw part-is (fits2 c)
@@ -139,7 +136,9 @@ enum-told-3 c = search needs
 
 returns-3 : tie.Need-returns-3
 unfolding eventAt
-returns-3 c = let k = c .before .before .before .before in rw (read1 (to1 k), read2 k, rw (part-is, part-is) at (sym (c .before .before .word-at .ensures) ∙ c .enum-told3 .given .1))
+returns-3 c =
+    let k = c .before .before .before .before in
+    rw (read1 (to1 k), read2 k, rw (part-is, part-is) at (sym (c .before .before .word-at .ensures) ∙ c .enum-told3 .given .1))
 
 add-t14 : tie.Need-add-t14
 add-t14 c = omega (arith, within c)
@@ -155,14 +154,14 @@ pub event-at-spec : {M : Type 1} → statement M
 event-at-spec =
     tie.close
     (tie.spec
-    number-at-requires
+    time-at-requires
     enum-known-first
     enum-told
     returns
     sub-after-time
     part-after-time-start
     part-after-time-end
-    number-at-requires-2
+    number-at-requires
     enum-known-second
     enum-told-2
     returns-2

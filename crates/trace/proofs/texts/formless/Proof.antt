@@ -1,22 +1,23 @@
--- `trace::texts::formless` meets its contract: a step without a form is yet to come just where there is one. Assumes nothing.
+-- `texts::formless` meets its contract: a step without a form is yet to come just where there is one. Assumes nothing.
 use Prim.Native.Nat.{_+_, _-_, _≤_}
-use mathlib.Core.Path.{_≡_, refl, sym, _∙_}
+use mathlib.Core.Path.{_≡_, sym, _∙_}
 use native.Mathlib.Omega.{arith}
+use native.Mathlib.Nat.{add-zero}
 use borrow.Author.Tests.{not-true, not-false}
 use Rattle.model.specs.Readings.{Lists, lists}
-use Rattle.model.specs.Writings.{eventsOf, formlessFrom, formlessOf}
+use Rattle.model.specs.Writings.{eventsOf, formlessFrom}
 use Rattle.trace.proofs.Traces.{from, formless-here, formless-next, formless-end}
 use borrow.Author.Needs.{needs}
 use Rattle.trace.proofs.texts.formless.Statement.{statement}
 use Rattle.trace.proofs.texts.formless.Tie as tie
 
 abbrev Inv-loop : tie.InvT-loop
-Inv-loop times processes actions count i₀ i =
+Inv-loop first times processes actions count i₀ i =
     let l = lists times processes actions in
-    (i ≤ count) × (formlessFrom (i + 4) (eventsOf (from i l)) ≡ formlessOf (eventsOf l))
+    (i ≤ count) × (formlessFrom (first + i) (eventsOf (from i l)) ≡ formlessFrom first (eventsOf l))
 
 abbrev μ-loop : tie.MeasureT-loop
-μ-loop times processes actions count i₀ i = count - i
+μ-loop first times processes actions count i₀ i = count - i
 
 -- the lists that are lent
 abbrev given : tie.Start Inv-loop μ-loop → Lists
@@ -29,7 +30,7 @@ least-requires-2 : tie.Need-least-requires-2 Inv-loop μ-loop
 least-requires-2 c κs = search needs
 
 loop-holds : tie.Need-loop-holds Inv-loop μ-loop
-loop-holds c = (omega arith, refl)
+loop-holds c = (omega arith, rw add-zero)
 
 mul-has-form : tie.Need-mul-has-form Inv-loop μ-loop
 mul-has-form c = search needs
@@ -60,7 +61,7 @@ returns c =
     let v = c .before .before .before .before .before .before .loop in
     let s = c .before .before .before .before .before .before .before .before .before .before .before .before in
     let e = sym (c .before .has-form .ensures) ∙ not-true _ (c .if1 .taken) in
-    formless-here (given s) (v .i) (omega arith) e ∙ v .inv .1
+    formless-here (given s) (v .i) (omega arith) (s .args .first) e ∙ v .inv .1
 
 add-i : tie.Need-add-i Inv-loop μ-loop
 add-i c = search needs
@@ -73,13 +74,13 @@ loop-again c =
     let v = c .before .before .before .before .before .before .loop in
     let s = c .before .before .before .before .before .before .before .before .before .before .before .before in
     let e = sym (c .before .has-form .ensures) ∙ not-false _ (c .if1 .left) in
-    (omega arith, formless-next (given s) (v .i) (omega arith) e ∙ v .inv .1)
+    (omega arith, formless-next (given s) (v .i) (omega arith) (s .args .first) e ∙ v .inv .1)
 
 returns-2 : tie.Need-returns-2 Inv-loop μ-loop
 returns-2 c =
     let v = c .before .loop in
     let s = c .before .before .before .before .before .before .before in
-    sym (formless-end (given s) (v .i) (v .i + 4) (omega arith)) ∙ v .inv .1
+    sym (formless-end (given s) (v .i) (s .args .first + v .i) (omega arith)) ∙ v .inv .1
 
 pub formless-spec : {M : Type 1} → statement M
 formless-spec =

@@ -1,4 +1,4 @@
--- `trace::texts::has_form` meets its contract. Assumes nothing.
+-- `texts::has_form` meets its contract. Assumes nothing.
 use borrow.Author.Tests.{lt-ltb, le-ltb}
 use Rattle.trace.proofs.texts.has_form.Statement.{statement}
 use Rattle.trace.proofs.texts.has_form.Tie as tie

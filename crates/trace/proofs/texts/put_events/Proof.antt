@@ -1,11 +1,11 @@
--- `trace::texts::put_events` meets its contract: the lines from step i on are left to put. Assumes nothing.
+-- `texts::put_events` meets its contract: the lines from step i on are left to put. Assumes nothing.
 use Prim.Native.Nat.{_+_, _-_, _≤_}
 use native.Mathlib.Omega.{arith}
 use Rattle.model.specs.Texts.{eventsText}
 use Rattle.model.specs.Readings.{Lists, lists}
 use Rattle.model.specs.Writings.{eventsOf}
-use Rattle.text.proofs.Putting.{Left, left-all, left-next, event-width}
-use Rattle.trace.proofs.Traces.{eventOf, from, text-at, text-end}
+use Rattle.text.proofs.Putting.{Left, left-all, left-next}
+use Rattle.trace.proofs.Traces.{from, text-at, text-end}
 use Rattle.trace.proofs.Sizes.{left-nothing, left-long}
 use borrow.Author.Needs.{needs}
 use Rattle.trace.proofs.texts.put_events.Statement.{statement}
@@ -57,12 +57,7 @@ put-event-requires : tie.Need-put-event-requires Inv-loop μ-loop
 put-event-requires c κs = search needs
 
 add-at : tie.Need-add-at Inv-loop μ-loop
-add-at c =
-    let i = c .before .before .before .before .before .before .before .before .loop .i in
-    let s = c .before .before .before .before .before .before .before .before .before .before .before .before .before .before .before in
-    let time = c .before .before .before .before .before .shared-slice-known4 .given i in
-    let process = c .before .before .before .before .shared-slice-known5 .given i in
-    omega (arith, c .before .before .put-event .ensures .wide, event-width (eventOf (given s) i) (omega arith) (omega arith))
+add-at c = omega (arith, c .before .before .put-event .ensures .1)
 
 same-length : tie.Need-same-length Inv-loop μ-loop
 same-length c = search needs
@@ -76,7 +71,7 @@ went : (c : tie.After-slice-known2 Inv-loop μ-loop)
 went c =
     let v = c .before .before .before .before .before .before .before .before .loop in
     let s = c .before .before .before .before .before .before .before .before .before .before .before .before .before .before .before in
-    left-next (rw (text-at (given s) (v .i) (omega arith)) at (v .inv .2)) (c .before .before .put-event .ensures)
+    left-next (rw (text-at (given s) (v .i) (omega arith)) at (v .inv .2)) (c .before .before .put-event .ensures .0)
 
 returns : tie.Need-returns Inv-loop μ-loop
 returns c = left-long (went (c .before)) (c .if1 .taken)

@@ -1,8 +1,8 @@
--- `trace::texts::put_head` meets its contract. Assumes nothing.
-use Prim.Native.Nat.{_+_, _≤_}
+-- `texts::put_head` meets its contract. Assumes nothing.
+use mathlib.Core.List.{[], _∷_}
 use native.Mathlib.Omega.{arith}
-use Rattle.model.specs.Texts.{headText}
-use Rattle.text.proofs.Putting.{put-both, put-first, values-width}
+use Rattle.model.specs.Texts.{valuesText, headText}
+use Rattle.text.proofs.Putting.{put-both, put-first, all-numbers}
 use borrow.Author.Needs.{needs}
 use Rattle.trace.proofs.texts.put_head.Statement.{statement}
 use Rattle.trace.proofs.texts.put_head.Tie as tie
@@ -13,22 +13,17 @@ slice-aggregate-put-text c = search needs
 put-text-requires : tie.Need-put-text-requires
 put-text-requires c κs = search needs
 
-cast-put-values : tie.Need-cast-put-values
-cast-put-values c = search needs
+cast-put-numbers : tie.Need-cast-put-numbers
+cast-put-numbers c = search needs
 
-put-values-requires : tie.Need-put-values-requires
-put-values-requires c κs = search needs
+slice-aggregate-put-numbers : tie.Need-slice-aggregate-put-numbers
+slice-aggregate-put-numbers c = search needs
 
--- how wide the first two lines are together
-two : (c : tie.After-put-values) → c .before .before .before .before .put-text .result + c .put-values .result ≤ 98
-two c =
-    let s = c .before .before .before .before .before .before .before .before in
-    let a = s .args in
-    let wide = values-width (a .n) (a .a) (a .b) (a .c) (omega arith) (omega arith) (omega arith) (omega arith) in
-    omega (arith, c .before .before .before .before .put-text .ensures .wide, c .put-values .ensures .wide)
+put-numbers-requires : tie.Need-put-numbers-requires
+put-numbers-requires c κs = search needs
 
 add-put-text : tie.Need-add-put-text
-add-put-text c = omega (arith, two (c .before .before .before))
+add-put-text c = search needs
 
 slice-aggregate-put-text-2 : tie.Need-slice-aggregate-put-text-2
 slice-aggregate-put-text-2 c = search needs
@@ -37,19 +32,25 @@ put-text-requires-2 : tie.Need-put-text-requires-2
 put-text-requires-2 c κs = search needs
 
 add-result : tie.Need-add-result
-add-result c = omega (arith, two (c .before .before .before .before .before .before .before), c .before .before .put-text2 .ensures .wide)
+add-result c = search needs
 
 add-result-2 : tie.Need-add-result-2
-add-result-2 c = omega (arith, two (c .before .before .before .before .before .before .before), c .before .before .put-text2 .ensures .wide)
+add-result-2 c = search needs
 
 same-length : tie.Need-same-length
 same-length c = search needs
 
 returns : tie.Need-returns
-unfolding headText
+unfolding headText valuesText
 returns c =
-    put-first (c .before .before .before .before .before .before .before .before .before .before .before .put-text .ensures)
-    (put-both (c .before .before .before .before .before .before .before .put-values .ensures) (c .before .before .put-text2 .ensures))
+    let names = c .before .before .before .before .before .before .before .before .before .before .before .before in
+    let values = c .before .before .before .before .before .before .before in
+    let steps = c .before .before in
+    let k = names .before .before .before .before .args .parameters in
+    let all = all-numbers (k .a ∷ k .b ∷ k .c ∷ []) (omega arith) in (
+      put-first (names .put-text .ensures) (put-both (rw all at (values .put-numbers .ensures .0)) (steps .put-text2 .ensures)),
+      search needs,
+    )
 
 pub put-head-spec : {M : Type 1} → statement M
 put-head-spec =
@@ -57,8 +58,9 @@ put-head-spec =
     (tie.spec
     slice-aggregate-put-text
     put-text-requires
-    cast-put-values
-    put-values-requires
+    cast-put-numbers
+    slice-aggregate-put-numbers
+    put-numbers-requires
     add-put-text
     slice-aggregate-put-text-2
     put-text-requires-2

@@ -1,0 +1,3 @@
+pub mod Critical
+pub mod Entries
+pub mod Notes

@@ -1,0 +1,135 @@
+-- `rules::answers::judge` meets its contract. `past1`, `past2`, .. say at the place behind each test what is left of the
+-- definition there, so that each exit computes one condition. Assumes nothing.
+use Prim.Native.Nat.{_+_, _-_}
+use mathlib.Core.Path.{_≡_, sym, _∙_}
+use mathlib.Core.Bool.{cond}
+use lib.Dec.{ltb, eqb}
+use borrow.Author.Needs.{needs}
+use borrow.Author.Tests.{lt-ltb, le-ltb, eq-eqb, ne-eqb}
+use Rattle.model.specs.Acts.{waitAct}
+use Rattle.model.specs.Answers.{answerOf, unknown, misnamed}
+use Rattle.rules.specs.Judging.{turnJudged, judged}
+use Rattle.rules.proofs.answers.judge.Statement.{statement}
+use Rattle.rules.proofs.answers.judge.Tie as tie
+
+answer-with-requires : tie.Need-answer-with-requires
+answer-with-requires c κs = search needs
+
+returns : tie.Need-returns
+unfolding judged
+returns c = c .answer-with .ensures ∙ simp (ne-eqb _ _ (c .before .if1 .taken))
+
+answer-with-requires-2 : tie.Need-answer-with-requires-2
+answer-with-requires-2 c κs = search needs
+
+returns-2 : tie.Need-returns-2
+unfolding judged
+returns-2 c = c .answer-with2 .ensures ∙ simp (eq-eqb _ _ (c .before .before .before .if1 .left), lt-ltb _ _ (c .before .if2 .taken))
+
+answer-with-requires-3 : tie.Need-answer-with-requires-3
+answer-with-requires-3 c κs = search needs
+
+returns-3 : tie.Need-returns-3
+unfolding judged
+returns-3 c =
+    c .answer-with3 .ensures
+    ∙ simp (
+      eq-eqb _ _ (c .before .before .before .before .if1 .left),
+      le-ltb _ _ (c .before .before .if2 .left),
+      lt-ltb _ _ (c .before .if3 .taken),
+    )
+
+answer-with-requires-4 : tie.Need-answer-with-requires-4
+answer-with-requires-4 c κs = search needs
+
+-- not before the clock and not past its end
+past3 : (c : tie.Else3)
+    → (let a = c .before .before .before .before .before .args in
+    judged (a .found) (a .scene) (a .place) (a .release) (a .transition) (a .action) (a .time)
+    ≡ cond (unknown (a .action)) (answerOf 6 0 0)
+    (cond (misnamed (a .scene .n) (a .action) (a .scene .acting)) (answerOf 7 0 0)
+    (cond (ltb (a .found .left) (a .time - a .scene .clock)) (answerOf 8 (a .found .process) (a .scene .clock + a .found .left))
+    (cond (eqb (a .action) waitAct) (answerOf 0 (a .found .critical) (a .time))
+    (turnJudged (a .found .critical) (a .scene .acting) (a .place) (a .release) (a .transition) (a .action) (a .time))))))
+unfolding judged
+past3 c = simp (eq-eqb _ _ (c .before .before .before .if1 .left), le-ltb _ _ (c .before .if2 .left), le-ltb _ _ (c .if3 .left))
+
+returns-4 : tie.Need-returns-4
+returns-4 c = c .answer-with4 .ensures ∙ sym (past3 (c .before .before) ∙ simp (lt-ltb _ _ (c .before .if4 .taken)))
+
+is-misnamed-requires : tie.Need-is-misnamed-requires
+is-misnamed-requires c κs = search needs
+
+answer-with-requires-5 : tie.Need-answer-with-requires-5
+answer-with-requires-5 c κs = search needs
+
+returns-5 : tie.Need-returns-5
+returns-5 c =
+    c .answer-with5 .ensures
+    ∙ sym (past3 (c .before .before .before .before)
+    ∙ simp (le-ltb _ _ (c .before .before .before .if4 .left), sym (c .before .before .is-misnamed .ensures) ∙ c .before .if5 .taken))
+
+-- a known action of a process that there is
+past5 : (c : tie.Else5)
+    → (let a = c .before .before .before .before .before .before .before .before .args in
+    judged (a .found) (a .scene) (a .place) (a .release) (a .transition) (a .action) (a .time)
+    ≡ cond (ltb (a .found .left) (a .time - a .scene .clock)) (answerOf 8 (a .found .process) (a .scene .clock + a .found .left))
+    (cond (eqb (a .action) waitAct) (answerOf 0 (a .found .critical) (a .time))
+    (turnJudged (a .found .critical) (a .scene .acting) (a .place) (a .release) (a .transition) (a .action) (a .time))))
+past5 c =
+    past3 (c .before .before .before)
+    ∙ simp (le-ltb _ _ (c .before .before .if4 .left), sym (c .before .is-misnamed .ensures) ∙ c .if5 .left)
+
+add-answer-with : tie.Need-add-answer-with
+add-answer-with c = search needs
+
+answer-with-requires-6 : tie.Need-answer-with-requires-6
+answer-with-requires-6 c κs = search needs
+
+returns-6 : tie.Need-returns-6
+returns-6 c =
+    c .answer-with6 .ensures
+    ∙ sym (past5 (c .before .before .before .before .before .before) ∙ simp (lt-ltb _ _ (c .before .before .before .if6 .taken)))
+
+answer-with-requires-7 : tie.Need-answer-with-requires-7
+answer-with-requires-7 c κs = search needs
+
+-- nobody is late
+past6 : (c : tie.Else6)
+    → (let a = c .before .before .before .before .before .before .before .before .before .before .before .args in
+    judged (a .found) (a .scene) (a .place) (a .release) (a .transition) (a .action) (a .time)
+    ≡ cond (eqb (a .action) waitAct) (answerOf 0 (a .found .critical) (a .time))
+    (turnJudged (a .found .critical) (a .scene .acting) (a .place) (a .release) (a .transition) (a .action) (a .time)))
+past6 c = past5 (c .before .before .before) ∙ simp (le-ltb _ _ (c .if6 .left))
+
+returns-7 : tie.Need-returns-7
+returns-7 c = c .answer-with7 .ensures ∙ sym (past6 (c .before .before) ∙ simp (eq-eqb _ _ (c .before .if7 .taken)))
+
+judge-turn-requires : tie.Need-judge-turn-requires
+judge-turn-requires c κs = search needs
+
+returns-8 : tie.Need-returns-8
+returns-8 c = c .judge-turn .ensures ∙ sym (past6 (c .before .before) ∙ simp (ne-eqb _ _ (c .before .if7 .left)))
+
+pub judge-spec : {M : Type 1} → statement M
+judge-spec =
+    tie.close
+    (tie.spec
+    answer-with-requires
+    returns
+    answer-with-requires-2
+    returns-2
+    answer-with-requires-3
+    returns-3
+    answer-with-requires-4
+    returns-4
+    is-misnamed-requires
+    answer-with-requires-5
+    returns-5
+    add-answer-with
+    answer-with-requires-6
+    returns-6
+    answer-with-requires-7
+    returns-7
+    judge-turn-requires
+    returns-8)

@@ -1,0 +1,16 @@
+-- `rules::survey::note_critical` meets its contract. Assumes nothing.
+use borrow.Author.Tests.{eq-eqb, ne-eqb}
+use Rattle.rules.proofs.survey.note_critical.Statement.{statement}
+use Rattle.rules.proofs.survey.note_critical.Tie as tie
+
+returns : tie.Need-returns
+returns c = simp (eq-eqb _ _ (c .if1 .taken))
+
+returns-2 : tie.Need-returns-2
+returns-2 c = simp (ne-eqb _ _ (c .before .before .if1 .left), ne-eqb _ _ (c .if2 .taken))
+
+returns-3 : tie.Need-returns-3
+returns-3 c = simp (ne-eqb _ _ (c .before .before .if1 .left), eq-eqb _ _ (c .if2 .left))
+
+pub note-critical-spec : {M : Type 1} → statement M
+note-critical-spec = tie.close (tie.spec returns returns-2 returns-3)

@@ -1,0 +1,42 @@
+-- The answer to an action on numbers, from what the looks at the entries found. The acting process has the stage `place` and may check
+-- from `release` on, and its act has the row t. `proofs/` of the machine relates these definitions to the model. Assumes nothing.
+use Prim.Native.Nat.{ℕ, _+_, _-_, _%_, _^_}
+use mathlib.Core.Bool.{cond, not, _&&_}
+use lib.Dec.{ltb, eqb}
+use Rattle.model.specs.declared.Location.{Location}
+use Rattle.model.specs.declared.Transition.{Transition}
+use Rattle.model.specs.declared.Answer.{Answer}
+use Rattle.model.specs.Stages.{critical}
+use Rattle.model.specs.Acts.{waitAct, checkAct}
+use Rattle.model.specs.States.{stageOf, sinceOf}
+use Rattle.model.specs.Answers.{answerOf, beyond, unknown, misnamed}
+use Rattle.rules.specs.declared.survey.Scene.{Scene}
+use Rattle.rules.specs.declared.survey.Survey.{Survey}
+
+-- helper: the lowest critical process once process p has come to a location, from the lowest of the others
+unfoldable pub lowestOf : ℕ → ℕ → Location → ℕ
+lowestOf others p to =
+    cond (not (eqb (stageOf to) critical)) others (cond (eqb others 0) p (cond (ltb others p) others p))
+
+-- helper: from when on a process in this location may check; the sum of an entry that is not sound may wrap
+abbrev pub checkFrom : Location → ℕ → ℕ
+checkFrom l b = (sinceOf l + b) % 2 ^ 64
+
+-- helper: an action of the process p that nobody is late for
+unfoldable pub turnJudged : ℕ → ℕ → ℕ → ℕ → Transition → ℕ → ℕ → Answer
+turnJudged others p place release t act m =
+    cond (not (eqb place (t .from))) (answerOf 9 p 0)
+    (cond (eqb act checkAct && ltb m release) (answerOf 10 p release)
+    (answerOf 0 (lowestOf others p (t .to)) m))
+
+-- helper: any action, from what the pass found
+unfoldable pub judged : Survey → Scene → ℕ → ℕ → Transition → ℕ → ℕ → Answer
+judged f x place release t act m =
+    cond (not (eqb (f .faults) 0)) (answerOf 1 0 0)
+    (cond (ltb m (x .clock)) (answerOf 4 0 (x .clock))
+    (cond (beyond m) (answerOf 5 0 0)
+    (cond (unknown act) (answerOf 6 0 0)
+    (cond (misnamed (x .n) act (x .acting)) (answerOf 7 0 0)
+    (cond (ltb (f .left) (m - x .clock)) (answerOf 8 (f .process) (x .clock + f .left))
+    (cond (eqb act waitAct) (answerOf 0 (f .critical) m)
+    (turnJudged (f .critical) (x .acting) place release t act m)))))))
