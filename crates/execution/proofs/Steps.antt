@@ -5,8 +5,9 @@ use mathlib.Core.List.{List, [], _∷_}
 use native.Mathlib.Omega.{arith}
 use lib.ListN.{length, getD, drop}
 use Rattle.model.specs.Texts.{Event, event}
-use Rattle.model.specs.Readings.{Lists, lists, room}
+use Rattle.model.specs.Readings.{Lists, room}
 use Rattle.model.specs.Writings.{eventsIn, eventsOf}
+use Rattle.trace.proofs.Traces.{from}
 use Rattle.execution.specs.Turns.{eventIn}
 
 length-in : (ts ps qs : List ℕ) → length (eventsIn ts ps qs) ≡ min (length ts) (min (length ps) (length qs))
@@ -52,5 +53,5 @@ module _ (l : Lists) where
   step-at i e h = at-in (l .times) (l .processes) (l .actions) i e (omega arith) (omega arith) (omega arith)
 
   -- the lists from place i on stand for the steps from there on
-  pub steps-from : (i : ℕ) → eventsOf (lists (drop i (l .times)) (drop i (l .processes)) (drop i (l .actions))) ≡ drop i (eventsOf l)
+  pub steps-from : (i : ℕ) → eventsOf (from i l) ≡ drop i (eventsOf l)
   steps-from i = from-in i (l .times) (l .processes) (l .actions)

@@ -3,10 +3,9 @@ use Prim.Native.Nat.{ℕ, _+_, _≤_, _<_, min}
 use mathlib.Core.Path.{_≡_, refl, sym, ap, _∙_}
 use mathlib.Core.List.{List, map, map-map}
 use native.Mathlib.Omega.{arith}
-use lib.ListN.{length, getD, take, length-take}
+use lib.ListN.{length, take, length-take}
 use lib.Seq.{getD-take}
 use Rattle.model.specs.declared.State.{State}
-use Rattle.model.specs.declared.Answer.{Answer}
 use Rattle.model.specs.declared.Outcome.{Outcome}
 use Rattle.model.specs.Answers.{answerNumbers}
 use Rattle.model.specs.Texts.{Event}
@@ -36,12 +35,12 @@ abbrev answered : List Outcome → List (List ℕ) → List (List ℕ)
 answered os rows = over (map rowOf os) rows
 
 abbrev pub Taking : State → Lists → List (List ℕ) → ℕ → ℕ → State → List (List ℕ) → Type 0
-Taking s l rows n i t m = Going stepBy stateAfter answered s (stepsFor l rows) rows n i t m
+Taking s l rows n i t m = Going stepBy stateAfter stepsFor answered s l rows n i t m
 
-pub sets-off : {s : State} (l : Lists) {rows : List (List ℕ)} {n : ℕ} → n ≡ min (length rows) (room l) → Taking s l rows n 0 s rows
-sets-off l {rows} e = sets-out refl (e ∙ sym (length-for l rows)) refl
+pub sets-off : {s : State} {l : Lists} {rows : List (List ℕ)} {n : ℕ} → n ≡ min (length rows) (room l) → Taking s l rows n 0 s rows
+sets-off {l = l} {rows = rows} e = sets-out (e ∙ sym (length-for l rows)) refl
 
-module _ {s : State} (l : Lists) {rows : List (List ℕ)} {n i : ℕ} {t : State} {m : List (List ℕ)} (g : Taking s l rows n i t m) where
+module _ {s : State} {l : Lists} {rows : List (List ℕ)} {n i : ℕ} {t : State} {m : List (List ℕ)} (g : Taking s l rows n i t m) where
   pub is-inside : i < n → i < min (length rows) (room l)
   is-inside h = omega (arith, g .all, length-for l rows)
 

@@ -2,7 +2,7 @@
 use Prim.Native.Nat.{_-_}
 use native.Mathlib.Omega.{arith}
 use borrow.Author.Needs.{needs}
-use Rattle.model.specs.Readings.{Lists, lists}
+use Rattle.model.specs.Readings.{lists}
 use Rattle.execution.proofs.Turns.{Taking, sets-off, takes-on, rows-kept, is-inside, all-taken}
 use Rattle.execution.proofs.run_steps.Statement.{statement}
 use Rattle.execution.proofs.run_steps.Tie as tie
@@ -14,10 +14,6 @@ Inv-loop times processes actions answers₀ count state₀ i₀ answers state i 
 abbrev μ-loop : tie.MeasureT-loop
 μ-loop times processes actions answers₀ count state₀ i₀ answers state i = count - i
 
--- the lent lists
-abbrev steps : tie.Start Inv-loop μ-loop → Lists
-steps s = lists (s .args .times .now) (s .args .processes .now) (s .args .actions .now)
-
 least-requires : tie.Need-least-requires Inv-loop μ-loop
 least-requires c κs = search needs
 
@@ -28,15 +24,12 @@ least-requires-3 : tie.Need-least-requires-3 Inv-loop μ-loop
 least-requires-3 c κs = search needs
 
 loop-holds : tie.Need-loop-holds Inv-loop μ-loop
-loop-holds c =
-    sets-off (steps (c .before .before .before .before .before .before))
-    (omega (arith, c .least3 .ensures, c .before .least2 .ensures, c .before .before .least .ensures))
+loop-holds c = sets-off (omega (arith, c .least3 .ensures, c .before .least2 .ensures, c .before .before .least .ensures))
 
 run-turn-requires : tie.Need-run-turn-requires Inv-loop μ-loop
 run-turn-requires c κs =
-    let l = steps (c .before .before .before .before .before .before .before .before .before) in
     let g = c .before .before .loop .inv in
-    omega (arith, is-inside l g (c .before .loop-test .taken), rows-kept l g)
+    omega (arith, is-inside g (c .before .loop-test .taken), rows-kept g)
 
 add-i : tie.Need-add-i Inv-loop μ-loop
 add-i c = omega arith
@@ -46,15 +39,13 @@ loop-less c = omega arith
 
 loop-again : tie.Need-loop-again Inv-loop μ-loop
 loop-again c =
-    takes-on (steps (c .before .before .before .before .before .before .before .before .before .before .before))
-    (c .before .before .before .before .loop .inv) (c .before .before .before .loop-test .taken) (c .before .run-turn .ensures)
+    takes-on (c .before .before .before .before .loop .inv) (c .before .before .before .loop-test .taken) (c .before .run-turn .ensures)
 
 same-length : tie.Need-same-length Inv-loop μ-loop
-same-length c = rows-kept (steps (c .before .before .before .before .before .before .before .before)) (c .before .loop .inv)
+same-length c = rows-kept (c .before .loop .inv)
 
 returns : tie.Need-returns Inv-loop μ-loop
-returns c =
-    all-taken (steps (c .before .before .before .before .before .before .before .before)) (c .before .loop .inv) (c .loop-test .left)
+returns c = all-taken (c .before .loop .inv) (c .loop-test .left)
 
 pub run-steps-spec : {M : Type 1} → statement M
 run-steps-spec =
