@@ -16,20 +16,20 @@ ghost use Rattle.model.specs.Executions.{startGave, startedOf, executedGave, ex
 ghost use Rattle.execution.specs.Turns.{turnOf};
 
 // [7.46] What was found of a text, and the state that its first step is taken in.
-pub struct Start {
+pub struct Started {
     pub found: Scan,
     pub state: State,
 }
 
 // [7.46] [21.110] Reads a trace into three lists. A refusal tells the line that it is reported at, and then nothing is stored.
-pub fn start(text: &[u8], times: &mut [u64], processes: &mut [u64], actions: &mut [u64]) -> Start
+pub fn start(text: &[u8], times: &mut [u64], processes: &mut [u64], actions: &mut [u64]) -> Started
     ensures { λ r. ⌜ startGave (r .found) (r .state) (lent (times .exit) (processes .exit) (actions .exit))
         ≡ startedOf (now (text .entry)) (lent (times .entry) (processes .entry) (actions .entry)) ⌝ }
 {
     let found = scan(text, times, processes, actions);
     let made = fresh(found.parameters);
     let state = made.state;
-    Start {
+    Started {
         found: found,
         state: state,
     }

@@ -1,19 +1,22 @@
 // The whole text that `replay` prints, as a function from bytes to bytes: a recording is run, and there is a line for each of its
 // steps, or one for what is at fault.
-use execution::execute;
+use execution::run_steps;
+use execution::start;
 use model::Answer;
+use model::State;
 use text::numbers::put_numbers;
 use text::puts::put_text;
 use values::answer_with;
+use values::least;
 ghost use mathlib.Core.Path.{_≡_};
-ghost use mathlib.Core.List.{[], _∷_};
-ghost use Prim.Native.Nat.{_≤_};
+ghost use Prim.Native.Nat.{_*_, _≤_};
 ghost use lib.ListN.{length};
 ghost use Rattle.model.specs.Texts.{numbersText};
-ghost use Rattle.model.specs.Writings.{writeGave};
-ghost use Rattle.model.specs.Reports.{reportText, reportOf};
+ghost use Rattle.model.specs.Readings.{lent};
+ghost use Rattle.model.specs.Writings.{eventsOf, writeGave};
+ghost use Rattle.model.specs.Reports.{rowsText, reportText, reportOf};
 ghost use Rattle.text.specs.Puts.{Put};
-ghost use Rattle.report.specs.Rows.{rowsText};
+ghost use Rattle.report.specs.Runs.{runText};
 
 // [9.115] No recording has more steps: 65,536 bytes less those of the first lines, eight a step.
 const MOST_STEPS: usize = 8187;
@@ -92,7 +95,7 @@ fn put_run(
         );
         size += put_rows(
             out,
-            (size + 26) as u32,
+            (26 + size) as u32,
             line + (i as u64),
             &answers[..count],
         );

@@ -120,11 +120,14 @@ fn run_list(text: &[u8]) {
     let size = head.size;
     let values = head.numbers;
     let n = values[0];
+    let a = values[1];
+    let b = values[2];
+    let c = values[3];
     let parameters = Parameters {
         n: n,
-        a: values[1],
-        b: values[2],
-        c: values[3],
+        a: a,
+        b: b,
+        c: c,
     };
     let mut calls = call_rows();
     let mut counts = counts_rows();

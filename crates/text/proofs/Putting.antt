@@ -1,7 +1,7 @@
 -- Laws of putting texts into a lent output, and how wide the texts are at most. Assumes nothing.
 use Prim.Native.Nat.{ℕ, zero, suc, _+_, _^_, _≤_, _<_, max}
 use mathlib.Core.Path.{_≡_, refl, sym, ap, _∙_}
-use mathlib.Core.List.{List, [], _∷_, _++_, append-nil}
+use mathlib.Core.List.{List, [], _∷_, _++_, append-nil, append-assoc}
 use native.Mathlib.Omega.{arith}
 use native.Mathlib.Nat.{add-zero, zero-add}
 use lib.ListN.{length, getD, set, take, drop, length-append}
@@ -10,6 +10,7 @@ use Rattle.model.specs.Texts.{decimal, comma, newline, numberText, words, wordT
 use Rattle.model.specs.Readings.{over}
 use Rattle.model.proofs.Lists.{drop-at, drop-end}
 use Rattle.grammar.proofs.Digits.{digits-word}
+use Rattle.grammar.proofs.Lines.{number-length}
 use Rattle.text.specs.Puts.{mostNumbers, Put}
 
 pub sets-append : (xs ys l : List ℕ) (i : ℕ) → sets l i (xs ++ ys) ≡ sets (sets l i xs) (i + length xs) ys
@@ -62,10 +63,6 @@ pub record Left (old : List ℕ) (start : ℕ) (whole new : List ℕ) (at : ℕ)
 pub left-all : {old : List ℕ} {start : ℕ} {whole : List ℕ} → Left old start whole old start whole
 left-all = record { ends = refl; same = refl; stored = refl }
 
--- at the start, of which nothing is put
-pub left-none : {old : List ℕ} {start : ℕ} {whole : List ℕ} → Left old start whole old (start + 0) whole
-left-none = rw add-zero left-all
-
 -- one text more is put
 pub left-next : {old whole mid new x y : List ℕ} {start at k : ℕ}
     → Left old start whole mid at (x ++ y) → Put mid new at x k → Left old start whole new (at + k) y
@@ -74,6 +71,16 @@ left-next {mid = mid} {x = x} {y = y} {at = at} f p =
       ends = omega (arith, f .ends, p .wide, length-append x y);
       same = put-long p ∙ f .same;
       stored = rw (p .stored, p .wide) (sym (sets-append x y mid at) ∙ f .stored);
+    }
+
+-- what is being put comes after a text that is put already
+pub left-after : {old mid new x y z : List ℕ} {start at k : ℕ}
+    → Put old mid start x k → Left mid (start + k) y new at z → Left old start (x ++ y) new at z
+left-after {old} {x = x} {y = y} {start = start} p f =
+    record {
+      ends = omega (arith, f .ends, p .wide, length-append x y);
+      same = f .same ∙ put-long p;
+      stored = f .stored ∙ rw (p .stored, p .wide) (sym (sets-append x y old start));
     }
 
 -- nothing is left
@@ -92,26 +99,31 @@ pub all-numbers : (ws : List ℕ) → length ws < 2 ^ 32 → take mostNumbers ws
 unfolding mostNumbers
 all-numbers ws h = take-all mostNumbers ws (omega arith)
 
--- v is the next to be put, and those of ws from the i-th on follow it
+-- what follows the digits of a number, where the numbers ws come after it
+abbrev pub tailText : List ℕ → List ℕ
+tailText [] = newline ∷ []
+tailText (w ∷ ws) = comma ∷ numbersText w ws
 
-module _ (v : ℕ) (ws : List ℕ) (i : ℕ) where
-  pub numbers-at : i < length ws → numbersText v (drop i ws) ≡ numberText comma v ++ numbersText (getD ws i 0) (drop (i + 1) ws)
-  unfolding numbersText
-  numbers-at h = rw (drop-at ws i 0 h)
+pub digits-first : (v : ℕ) (ws : List ℕ) → numbersText v ws ≡ decimal v ++ tailText ws
+unfolding numbersText numberText
+digits-first v [] = refl
+digits-first v (w ∷ ws) = append-assoc (decimal v) (comma ∷ []) (numbersText w ws)
 
-  pub numbers-end : length ws ≤ i → i ≤ length ws → numbersText v (drop i ws) ≡ numberText newline v
-  unfolding numbersText
-  numbers-end h g = rw (drop-end ws i h g)
+module _ (ws : List ℕ) (i : ℕ) where
+  pub tail-at : i < length ws → tailText (drop i ws) ≡ (comma ∷ []) ++ (decimal (getD ws i 0) ++ tailText (drop (i + 1) ws))
+  tail-at h = rw (drop-at ws i 0 h, digits-first (getD ws i 0) (drop (i + 1) ws))
+
+  pub tail-end : length ws ≤ i → i ≤ length ws → tailText (drop i ws) ≡ newline ∷ []
+  tail-end h g = rw (drop-end ws i h g)
 
 -- Widths
 
--- a number that a u64 holds
-pub number-width : (v end : ℕ) → v < 2 ^ 64 → length (numberText end v) ≤ 21
-unfolding numberText
-number-width v end h = omega (arith, length-append (decimal v) (end ∷ []), digits-word v h)
+-- of a number that a u64 holds, without the byte that ends it and with it
+pub digits-narrow : {old new : List ℕ} {at k : ℕ} (v : ℕ) → v < 2 ^ 64 → Put old new at (decimal v) k → k ≤ 20
+digits-narrow v h p = omega (arith, p .wide, digits-word v h)
 
 pub number-narrow : {old new : List ℕ} {at k : ℕ} (v end : ℕ) → v < 2 ^ 64 → Put old new at (numberText end v) k → k ≤ 21
-number-narrow v end h p = omega (arith, p .wide, number-width v end h)
+number-narrow v end h p = omega (arith, p .wide, number-length v end, digits-word v h)
 
 abbrev longest : List (List ℕ) → ℕ
 longest [] = 0

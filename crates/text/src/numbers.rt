@@ -1,6 +1,7 @@
 // Lines of numbers: reading one at the start of a text, and putting one into a lent output.
 use crate::fields::number_at;
-use crate::puts::put_number;
+use crate::puts::put_byte;
+use crate::puts::put_digits;
 use model::Field;
 use model::Line;
 use values::least;
@@ -68,20 +69,21 @@ pub fn numbers_at(s: &[u8], more: usize, line: u64) -> Line
 }
 
 // [6.30] [7.25] Puts a line of numbers, `first` and then the others: a number has at most 20 digits, and a byte ends it. The place is a u32
-// so that no sum of places overflows.
+// so that no sum of places overflows. The digits are put by this loop itself, since a call of `put_number` for each was slower.
 pub fn put_numbers(out: &mut [u8], at: u32, first: u64, rest: &[u64]) -> usize
     ensures { λ r. ⌜ Put (now (out .entry)) (now (out .exit)) at (numbersText first (take mostNumbers (now (rest .entry)))) r ⌝ }
     ensures { λ r. ⌜ r ≤ 21 + 21 * length (now (rest .entry)) ⌝ }
 {
     let start = at as usize;
     let count = least(rest.len(), MOST_NUMBERS);
-    let mut number = first;
-    let mut size: usize = 0;
+    let mut size = put_digits(out, start, first);
     let mut i: usize = 0;
     while i < count {
-        size += put_number(out, start + size, number, b',');
-        number = rest[i];
+        put_byte(out, start, size, b',');
+        size += 1;
+        size += put_digits(out, start + size, rest[i]);
         i += 1;
     }
-    size + put_number(out, start + size, number, b'\n')
+    put_byte(out, start, size, b'\n');
+    size + 1
 }

@@ -11,7 +11,7 @@ ghost use Rattle.model.specs.Texts.{decimal, numberText, wordText};
 ghost use Rattle.text.specs.Puts.{Put};
 
 // Stores x at place at + k, where `out` has such a place.
-fn put_byte(out: &mut [u8], at: usize, k: usize, x: u8)
+pub(crate) fn put_byte(out: &mut [u8], at: usize, k: usize, x: u8)
     ensures { λ _. ⌜ now (out .exit) ≡ set (now (out .entry)) (at + k) x ⌝ }
 {
     if at < out.len() {
@@ -34,7 +34,7 @@ pub fn put_text(out: &mut [u8], at: usize, text: &[u8]) -> usize
 }
 
 // [6.60]
-fn put_digits(out: &mut [u8], at: usize, v: u64) -> usize
+pub(crate) fn put_digits(out: &mut [u8], at: usize, v: u64) -> usize
     ensures { λ r. ⌜ Put (now (out .entry)) (now (out .exit)) at (decimal v) r ⌝ }
 {
     if v < 10 {

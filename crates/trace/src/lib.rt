@@ -26,7 +26,7 @@ ghost use mathlib.Core.Path.{_≡_};
 ghost use Rattle.model.specs.Readings.{lent, scanGave, scannedOf, lineTold, readingFrom, readGave, readOf};
 ghost use Rattle.model.specs.Writings.{eventsOf, writeGave, writeOf};
 
-// [6.90] [6.130] [6.133] [6.136] [21.110] Scans a recording: its steps go to the three lists. A refused one stores nothing.
+// [6.145] [6.90] [6.130] [6.133] [6.136] [6.140] [21.110] Scans a recording: its steps go to the three lists. A refused scan stores nothing.
 pub fn scan(text: &[u8], times: &mut [u64], processes: &mut [u64], actions: &mut [u64]) -> Scan
     ensures { λ r. ⌜ scanGave r (lent (times .exit) (processes .exit) (actions .exit))
         ≡ scannedOf (now (text .entry)) (lent (times .entry) (processes .entry) (actions .entry)) ⌝ }

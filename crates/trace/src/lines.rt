@@ -37,7 +37,7 @@ pub(crate) fn event_at(s: &[u8], line: u64) -> Row
     Row::Step(time, process, action, i + j + k)
 }
 
-// [6.90] [7.35] A refusal's code, and the line that it is reported at.
+// [6.145] [7.35] A refusal's code, and the line that it is reported at.
 pub(crate) fn scan_fails(code: u64, line: u64) -> Scan
     ensures { λ r. ⌜ r ≡ scanFails code line ⌝ }
 {
@@ -70,7 +70,7 @@ fn parameters_in(numbers: [u64; 4]) -> Parameters
     }
 }
 
-// [6.20] [6.30] [6.40] [6.90] The first three lines.
+// [6.20] [6.30] [6.40] [6.90] [6.100] [6.120] The first three lines.
 pub(crate) fn head_of(text: &[u8]) -> Scan
     ensures { λ r. ⌜ r ≡ headOf (now (text .entry)) ⌝ }
 {

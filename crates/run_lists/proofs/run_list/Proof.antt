@@ -11,6 +11,15 @@ first-line-requires c κs = search needs
 array-read-n : tie.Need-array-read-n
 array-read-n c = search needs
 
+array-read-a : tie.Need-array-read-a
+array-read-a c = search needs
+
+array-read-b : tie.Need-array-read-b
+array-read-b c = search needs
+
+array-read-c : tie.Need-array-read-c
+array-read-c c = search needs
+
 call-rows-requires : tie.Need-call-rows-requires
 call-rows-requires c κs = search needs
 
@@ -53,15 +62,6 @@ slice-aggregate-read-calls-4 c = search needs
 read-calls-requires : tie.Need-read-calls-requires
 read-calls-requires c κs = search needs
 
-array-read-run : tie.Need-array-read-run
-array-read-run c = search needs
-
-array-read-run-2 : tie.Need-array-read-run-2
-array-read-run-2 c = search needs
-
-array-read-run-3 : tie.Need-array-read-run-3
-array-read-run-3 c = search needs
-
 array-share-prefix-calls : tie.Need-array-share-prefix-calls
 array-share-prefix-calls c = search needs
 
@@ -79,15 +79,6 @@ slice-aggregate-run-4 c = search needs
 
 run-requires : tie.Need-run-requires
 run-requires c κs = search needs
-
-array-read-run-recorded : tie.Need-array-read-run-recorded
-array-read-run-recorded c = search needs
-
-array-read-run-recorded-2 : tie.Need-array-read-run-recorded-2
-array-read-run-recorded-2 c = search needs
-
-array-read-run-recorded-3 : tie.Need-array-read-run-recorded-3
-array-read-run-recorded-3 c = search needs
 
 array-share-prefix-acts : tie.Need-array-share-prefix-acts
 array-share-prefix-acts c = search needs
@@ -125,6 +116,9 @@ run-list-spec =
     (tie.spec
     first-line-requires
     array-read-n
+    array-read-a
+    array-read-b
+    array-read-c
     call-rows-requires
     counts-rows-requires
     tries-rows-requires
@@ -139,18 +133,12 @@ run-list-spec =
     slice-aggregate-read-calls-3
     slice-aggregate-read-calls-4
     read-calls-requires
-    array-read-run
-    array-read-run-2
-    array-read-run-3
     array-share-prefix-calls
     slice-aggregate-run
     slice-aggregate-run-2
     slice-aggregate-run-3
     slice-aggregate-run-4
     run-requires
-    array-read-run-recorded
-    array-read-run-recorded-2
-    array-read-run-recorded-3
     array-share-prefix-acts
     slice-aggregate-run-recorded
     slice-aggregate-run-recorded-2
