@@ -13,7 +13,7 @@ use Rattle.model.specs.Texts.{Event, traceText}
 use Rattle.model.specs.Readings.{Lists, room, over, Trace, refused, trace, traceOf, Scanned, scannedOf, Read, readGave, readingFrom, readOf}
 use Rattle.model.specs.Writings.{eventsOf, Written, writeGave, writeOf}
 use Rattle.model.proofs.Tests.{by-cond}
-use Rattle.grammar.specs.RoundTrips.{eventsRead, rewritten, reread}
+use Rattle.grammar.specs.RoundTrips.{rewritten, reread}
 use Rattle.grammar.proofs.Faults.{fault-some}
 use Rattle.grammar.proofs.Exact.{refused-for, refusal-told}
 use Rattle.grammar.proofs.RoundTrips.{write-done, write-was, read-then-write, same-events}
