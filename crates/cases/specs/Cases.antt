@@ -21,9 +21,13 @@ use Rattle.model.specs.Answers.{answerOf, freshOf, stepOf}
 abbrev pub kindOf : List ℕ → ℕ
 kindOf row = getD row 0 0
 
--- helper: four numbers from a place on
+-- helper: parameters, four numbers from a place on
 abbrev pub parametersFrom : ℕ → List ℕ → Parameters
 parametersFrom at row = parametersOf (getD row at 0) (getD row (at + 1) 0) (getD row (at + 2) 0) (getD row (at + 3) 0)
+
+-- helper: those that a fresh state is asked for with
+abbrev pub askedOf : List ℕ → Parameters
+askedOf row = parametersFrom 1 row
 
 -- helper: the action of a step
 abbrev pub actionOf : List ℕ → ℕ
@@ -39,7 +43,7 @@ timeOf row = getD row 3 0
 
 -- [20.120] what a row's call gives back, a step from the state s
 unfoldable pub outcomeOf : State → List ℕ → Outcome
-outcomeOf s row = cond (eqb (kindOf row) 0) (freshOf (parametersFrom 1 row)) (stepOf s (actionOf row) (processOf row) (timeOf row))
+outcomeOf s row = cond (eqb (kindOf row) 0) (freshOf (askedOf row)) (stepOf s (actionOf row) (processOf row) (timeOf row))
 
 -- What must come of it
 
@@ -47,19 +51,38 @@ outcomeOf s row = cond (eqb (kindOf row) 0) (freshOf (parametersFrom 1 row)) (st
 abbrev pub answerTold : List ℕ → Answer
 answerTold row = answerOf (getD row 5 0) (getD row 6 0) (getD row 7 0)
 
--- helper: an entry, by its stage and its since
-abbrev pub entryTold : ℕ → List ℕ → Process
-entryTold at row = entry (locationAt (getD row at 0) (getD row (at + 1) 0))
+-- helper: the state's parameters
+abbrev pub parametersTold : List ℕ → Parameters
+parametersTold row = parametersFrom 8 row
+
+-- helper: its clock
+abbrev pub clockTold : List ℕ → ℕ
+clockTold row = getD row 12 0
+
+-- helper: its word
+abbrev pub wordTold : List ℕ → ℕ
+wordTold row = getD row 13 0
+
+-- helper: an entry, its stage and its since from a place on
+abbrev pub entryFrom : ℕ → List ℕ → Process
+entryFrom at row = entry (locationAt (getD row at 0) (getD row (at + 1) 0))
+
+-- helper: that of process 1
+abbrev pub firstTold : List ℕ → Process
+firstTold row = entryFrom 14 row
+
+-- helper: that of process 2
+abbrev pub secondTold : List ℕ → Process
+secondTold row = entryFrom 16 row
 
 -- helper: the fresh state that the told one is compared with
 abbrev pub startTold : List ℕ → State
-startTold row = initial (parametersFrom 8 row)
+startTold row = initial (parametersTold row)
 
 -- helper: clock, word, and the entries of processes 1 and 2; all else is as in a fresh state
 abbrev pub stateTold : List ℕ → State
 stateTold row =
-    changed (startTold row) (getD row 12 0) (getD row 13 0)
-    (entryTold 14 row ∷ entryTold 16 row ∷ drop 2 (startTold row .processes))
+    changed (startTold row) (clockTold row) (wordTold row) (firstTold row ∷ secondTold row ∷ drop 2 (startTold row .processes))
 
 -- [20.120] the outcome that a row tells
 unfoldable pub expectedOf : List ℕ → Outcome

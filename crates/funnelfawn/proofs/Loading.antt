@@ -15,8 +15,7 @@ use Rattle.model.specs.declared.Process.{Process}
 use Rattle.model.specs.declared.Parameters.{Parameters}
 use Rattle.model.specs.declared.State.{State}
 use Rattle.model.specs.Stages.{remainder, testing, setting, checking, entering, critical, resetting}
-use Rattle.model.specs.States.{entry, idle, stageOf, entrySound, entriesSound, soundOf, locationAt}
-use Rattle.model.specs.Readings.{parametersIn}
+use Rattle.model.specs.States.{entry, idle, stageOf, entrySound, entriesSound, soundOf, locationAt, parametersIn}
 use Rattle.layout.specs.Encodings.{headerLength, stride, tableLength, clockPlace, wordPlace, processesIn, stateIn, isEntry, areEntries}
 use Rattle.model.proofs.Lists.{drop-at, drop-end}
 use Rattle.model.proofs.Tests.{tests, if-eq, by-cond}

@@ -18,9 +18,8 @@ ghost use Prim.Native.Nat.{_+_, _*_, _<_, _≤_};
 ghost use lib.ListN.{length, drop, set};
 ghost use lib.Dec.{eqb};
 ghost use Rattle.model.specs.Stages.{remainder};
-ghost use Rattle.model.specs.States.{entry, entrySound, locationAt};
+ghost use Rattle.model.specs.States.{entry, entrySound, locationAt, parametersIn};
 ghost use Rattle.layout.specs.Encodings.{headerLength, stride, tableLength, isEntry, stateNumbers};
-ghost use Rattle.model.specs.Readings.{parametersIn};
 ghost use Rattle.rules.specs.Survey.{bare};
 ghost use Rattle.funnelfawn.specs.Loading.{areIdle, Loads, placedAt, stored};
 

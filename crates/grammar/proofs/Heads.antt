@@ -14,9 +14,9 @@ use borrow.Author.Tests.{ltb-true, ltb-false, le-ltb, eq-eqb, ne-eqb, not-true, 
 use Rattle.model.specs.declared.Line.{Line}
 use Rattle.model.specs.declared.Parameters.{Parameters}
 use Rattle.model.specs.declared.Scan.{Scan}
-use Rattle.model.specs.States.{countStands, limitsStand, parametersStand}
+use Rattle.model.specs.States.{countStands, limitsStand, parametersStand, parametersIn}
 use Rattle.model.specs.Texts.{valueNames, valuesText, eventNames, headText, firstLine, textLimit}
-use Rattle.model.specs.Readings.{startsWith, lineOf, numbersAt, scanOf, scanFails, parametersIn, afterValues, ofValues, headOf, bodyOf, refused, trace, traceOf}
+use Rattle.model.specs.Readings.{startsWith, lineOf, numbersAt, scanOf, scanFails, afterValues, ofValues, headOf, bodyOf, refused, trace, traceOf}
 use Rattle.model.proofs.Tests.{by-cond, and-true-iff, tests}
 use Rattle.grammar.specs.Faults.{Short, Starts, Fault, long, names, values, count, limits, steps}
 use Rattle.grammar.proofs.Fields.{Took, starts-took}

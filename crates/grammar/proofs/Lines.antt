@@ -20,7 +20,8 @@ use Rattle.model.specs.declared.Line.{Line}
 use Rattle.model.specs.declared.Parameters.{Parameters}
 use Rattle.model.specs.Texts.{comma, newline, timeBound, numberBound, decimal, numberText, words, wordText}
 use Rattle.model.specs.Texts.{Event, event, numbersText, valuesText, eventText, hasForm}
-use Rattle.model.specs.Readings.{numberAt, wordAt, opened, eventAt, lineOf, lineFails, numbersFrom, numbersAt, parametersIn}
+use Rattle.model.specs.States.{parametersIn}
+use Rattle.model.specs.Readings.{numberAt, wordAt, opened, eventAt, lineOf, lineFails, numbersFrom, numbersAt}
 use Rattle.model.proofs.Tests.{tests}
 use Rattle.grammar.specs.Faults.{Short}
 use Rattle.grammar.proofs.Tables.{every-at}

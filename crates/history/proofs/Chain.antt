@@ -21,11 +21,11 @@ use Rattle.model.specs.Facts.{Accepted}
 use Rattle.model.specs.Texts.{Event}
 use Rattle.model.specs.Summaries.{newStatistics, beside}
 use Rattle.model.specs.Tallies.{Attempt}
-use Rattle.model.specs.Folds.{endBy, resultsBy}
+use Rattle.model.specs.Folds.{endBy, resultsBy, itself}
 use Rattle.model.specs.Calls.{Call, callOf, tableOf, handedOn, resultsOf}
 use Rattle.model.proofs.Tests.{by-test}
 use Rattle.lists.specs.Demand3.{Demand3}
-use Rattle.tallies.specs.Tallies.{recordNext, recordedAfter, recordsOf, attemptOf, logFrom, Tallied, startOf}
+use Rattle.tallies.specs.Tallies.{recordNext, recordsOf, attemptOf, logFrom, Tallied, startOf}
 use Rattle.theory.proofs.Soundness.{fresh-is}
 use Rattle.lists.proofs.Demand3.{every-list}
 use Rattle.tallies.proofs.Tallies.{every-tally}
@@ -151,7 +151,7 @@ MadeOn r e t = Made (r .outcome .state) (callOn r e) t
 
 -- [5.120] each on the table and with the summary of the one before it
 abbrev pub RecordedChain : Recorded → List Event → List Recorded → Type 0
-RecordedChain r es rs = Chained MadeOn recordedAfter r es rs
+RecordedChain r es rs = Chained MadeOn itself r es rs
 
 -- the acts with the answers to them, the last one first
 abbrev pub logOver : List Attempt → List Event → List Recorded → List Attempt
@@ -170,9 +170,9 @@ log-results log r (e ∷ es) = log-results _ (recordNext r e) es
 
 -- [5.120] [5.125] [5.130] whoever makes the calls
 pub every-recorded-chain : (k : Parameters) {o : Outcome} {es : List Event} {rs : List Recorded} → Starts k o → Accepted o
-    → RecordedChain (beside newStatistics o) es rs → Tallied (logOver [] es rs) (lastOf recordedAfter (beside newStatistics o) rs)
+    → RecordedChain (beside newStatistics o) es rs → Tallied (logOver [] es rs) (lastOf itself (beside newStatistics o) rs)
 every-recorded-chain k {o} {es} h accepted ch =
     let given : Accepted (freshOf k) = rw h at accepted in
     let start : beside newStatistics o ≡ startOf (freshOf k .state) = ap (beside newStatistics) h ∙ fresh-starts k given in
-    rw (chain-last recordedAfter next-made ch, chain-results recordedAfter next-made ch, log-results [] (beside newStatistics o) es, start)
+    rw (chain-last itself next-made ch, chain-results itself next-made ch, log-results [] (beside newStatistics o) es, start)
     (every-tally (freshOf k .state) (fresh-is k given) es)

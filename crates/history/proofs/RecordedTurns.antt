@@ -11,13 +11,13 @@ use Rattle.model.specs.declared.Recorded.{Recorded}
 use Rattle.model.specs.Readings.{over}
 use Rattle.model.specs.Answers.{freshOf}
 use Rattle.model.specs.Facts.{Accepted}
-use Rattle.model.specs.Folds.{resultsBy}
+use Rattle.model.specs.Folds.{resultsBy, itself}
 use Rattle.model.specs.Summaries.{newStatistics, beside}
 use Rattle.model.specs.Tallies.{Attempt}
 use Rattle.model.proofs.Lists.{row-at, rows-snoc}
 use Rattle.model.proofs.Folds.{Going, count-going, long-going, moves-on, end-reached, all-written}
 use Rattle.theory.proofs.Soundness.{fresh-is, fresh-answer}
-use Rattle.tallies.specs.Tallies.{recordNext, recordedAfter, recordsOf, logFrom, Tallied, startOf}
+use Rattle.tallies.specs.Tallies.{recordNext, recordsOf, logFrom, Tallied, startOf}
 use Rattle.tallies.proofs.Tallies.{every-tally}
 use Rattle.history.specs.Lists.{Tuple, answerRow}
 use Rattle.history.specs.RecordedRuns.{eventIn, eventsOf, logOnto, logOf, RecordedRun, recordedRunGave, started}
@@ -46,7 +46,7 @@ abbrev pub answered : List Recorded → List Tuple → List Tuple
 answered rs answers = over (map answerRow rs) answers
 
 abbrev pub Recording : Recorded → List Tuple → List Tuple → ℕ → ℕ → Recorded → List Tuple → Type 0
-Recording r acts answers n i t m = Going recordNext recordedAfter eventsOf answered r acts answers n i t m
+Recording r acts answers n i t m = Going recordNext itself eventsOf answered r acts answers n i t m
 
 module _ {r : Recorded} {acts answers : List Tuple} {n i : ℕ} {t : Recorded} {m : List Tuple} (g : Recording r acts answers n i t m) where
   pub records-on : i < n → {u : Recorded} {k : List Tuple} → recordedRunGave u k ≡ recordAt t acts m i

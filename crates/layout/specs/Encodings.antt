@@ -10,9 +10,8 @@ use Rattle.model.specs.declared.Parameters.{Parameters}
 use Rattle.model.specs.declared.State.{State}
 use Rattle.model.specs.declared.Statistics.{Statistics}
 use Rattle.model.specs.Stages.{leaving}
-use Rattle.model.specs.States.{entry, stageOf, sinceOf, soundOf, locationAt}
+use Rattle.model.specs.States.{entry, stageOf, sinceOf, soundOf, locationAt, parametersIn}
 use Rattle.model.specs.Summaries.{countsNumbers, countsIn, statisticsOf}
-use Rattle.model.specs.Readings.{parametersIn}
 
 -- A table, the numbers of a state
 

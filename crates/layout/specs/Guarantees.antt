@@ -16,7 +16,7 @@ use Rattle.model.specs.Readings.{over}
 use Rattle.model.specs.Summaries.{countsOf, statisticsOf, mostActs}
 use Rattle.layout.specs.Encodings.{headerLength, stride, tableLength, clockPlace, wordPlace, stateNumbers}
 use Rattle.layout.specs.Encodings.{countsLength, summaryLength, statisticsNumbers, summaryIn}
-use Rattle.model.specs.Folds.{endBy, resultsBy}
+use Rattle.model.specs.Folds.{endBy, resultsBy, itself}
 use Rattle.model.specs.Calls.{Call}
 use Rattle.model.specs.Texts.{Event}
 use Rattle.lists.specs.Demand3.{Demand3}
@@ -166,17 +166,13 @@ EveryLentList = (k : Parameters) (table : List ℕ) (ds : List LentCall)
 abbrev pub lentNext : LentBoth → Event → LentBoth
 lentNext r e = lentRecord (r .table) (r .summary) (e .action) (e .process) (e .time)
 
--- helper: a step is made on what the one before it left
-abbrev pub bothAfter : LentBoth → LentBoth
-bothAfter r = r
-
 -- helper: the last one
 abbrev pub lentAll : LentBoth → List Event → LentBoth
-lentAll r es = endBy lentNext bothAfter r es
+lentAll r es = endBy lentNext itself r es
 
 -- helper: each one
 abbrev pub lentRecords : LentBoth → List Event → List LentBoth
-lentRecords r es = resultsBy lentNext bothAfter r es
+lentRecords r es = resultsBy lentNext itself r es
 
 -- [9.150] a fresh table and a new summary
 abbrev pub lentStart : Parameters → List ℕ → List ℕ → LentBoth

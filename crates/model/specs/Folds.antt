@@ -11,3 +11,7 @@ endBy gives next s (d ∷ ds) = endBy gives next (next (gives s d)) ds
 unfoldable pub resultsBy : {S D R : Type 0} → (S → D → R) → (R → S) → S → List D → List R
 resultsBy gives next s [] = []
 resultsBy gives next s (d ∷ ds) = gives s d ∷ resultsBy gives next (next (gives s d)) ds
+
+-- helper: where what a call gives back is itself where the next call is made
+abbrev pub itself : {A : Type 0} → A → A
+itself a = a

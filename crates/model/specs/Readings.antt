@@ -4,7 +4,7 @@ use Prim.Native.Nat.{ℕ, zero, suc, _+_, _-_, _*_, min}
 use mathlib.Core.Bool.{Bool, true, false, cond, not, _&&_, _||_}
 use mathlib.Core.List.{List, [], _∷_, _++_, map}
 use lib.Dec.{leb, ltb, eqb}
-use lib.ListN.{length, getD, drop, set, replicate}
+use lib.ListN.{length, drop, set, replicate}
 use denote.Ref.{RefT, now}
 use Rattle.model.specs.declared.Field.{Field}
 use Rattle.model.specs.declared.Field.the-variants.{Value, Bad}
@@ -14,7 +14,7 @@ use Rattle.model.specs.declared.Line.{Line}
 use Rattle.model.specs.declared.Scan.{Scan}
 use Rattle.model.specs.declared.Parameters.{Parameters}
 use Rattle.model.specs.declared.Reading.{Reading}
-use Rattle.model.specs.States.{parametersOf, noParameters, countStands, limitsStand}
+use Rattle.model.specs.States.{parametersIn, noParameters, countStands, limitsStand}
 use Rattle.model.specs.Answers.{answerOf}
 use Rattle.model.specs.Texts.{comma, newline, timeBound, numberBound, words, Event, event, valueNames, eventNames, firstLine, textLimit}
 
@@ -92,10 +92,6 @@ scanOf line k size = record { code = 0; line = line; parameters = k; size = size
 -- [6.145] [7.35] a refusal's code and the line that it is reported at
 abbrev pub scanFails : ℕ → ℕ → Scan
 scanFails code line = record { code = code; line = line; parameters = noParameters; size = 0 }
-
--- [6.30] n, a, b and c
-abbrev pub parametersIn : List ℕ → Parameters
-parametersIn l = parametersOf (getD l 0 0) (getD l 1 0) (getD l 2 0) (getD l 3 0)
 
 -- [6.90] [6.100] [6.15] [6.40] [4.11] [4.12] [4.13] [7.35] the parameters of line 2, 11 and 12, and then line 3, which stands after
 -- the `size` bytes of line 2

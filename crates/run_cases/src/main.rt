@@ -1,5 +1,6 @@
 // Runs the table of cases, each call at the state that the one before it gave back, and prints what came of each row:
 // the answer, then the clock, the word, and place and arrival of windows 1 and 2 of the table given back.
+use cases::FRESH;
 use cases::Row;
 use libc::STDOUT_FILENO;
 use model::Outcome;
@@ -21,7 +22,7 @@ fn print_process(process: Process) {
 
 // A fresh row is announced by the numbers that it asks for.
 fn print_fresh(row: Row) {
-    if row[0] != 0 {
+    if row[0] != FRESH {
         return;
     }
     io::write_all(STDOUT_FILENO, b"fresh");

@@ -8,7 +8,7 @@ use Rattle.model.specs.declared.Recorded.{Recorded}
 use Rattle.model.specs.Texts.{Event}
 use Rattle.model.specs.Answers.{answers}
 use Rattle.model.specs.Facts.{IsFresh}
-use Rattle.model.specs.Folds.{endBy, resultsBy}
+use Rattle.model.specs.Folds.{endBy, resultsBy, itself}
 use Rattle.model.specs.Summaries.{newStatistics, beside, recordedOf}
 use Rattle.model.specs.Tallies.{Attempt, attempt, tallyOf, criticalCount}
 
@@ -16,17 +16,13 @@ use Rattle.model.specs.Tallies.{Attempt, attempt, tallyOf, criticalCount}
 abbrev pub recordNext : Recorded → Event → Recorded
 recordNext r e = recordedOf (r .outcome .state) (r .statistics) (e .action) (e .process) (e .time)
 
--- helper: a recorded step is made where the one before it led
-abbrev pub recordedAfter : Recorded → Recorded
-recordedAfter r = r
-
 -- [5.120] a list of recorded steps after r: what the last one left
 abbrev pub recordAll : Recorded → List Event → Recorded
-recordAll r es = endBy recordNext recordedAfter r es
+recordAll r es = endBy recordNext itself r es
 
 -- helper: what each of them gives back
 abbrev pub recordsOf : Recorded → List Event → List Recorded
-recordsOf r es = resultsBy recordNext recordedAfter r es
+recordsOf r es = resultsBy recordNext itself r es
 
 -- helper: an act with the number of the answer to it
 abbrev pub attemptOf : Event → Recorded → Attempt

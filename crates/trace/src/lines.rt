@@ -15,7 +15,8 @@ use values::no_parameters;
 ghost use mathlib.Core.Path.{_≡_};
 ghost use Prim.Native.Nat.{_≤_};
 ghost use Rattle.model.specs.Texts.{firstLine};
-ghost use Rattle.model.specs.Readings.{eventAt, scanFails, parametersIn, headOf};
+ghost use Rattle.model.specs.States.{parametersIn};
+ghost use Rattle.model.specs.Readings.{eventAt, scanFails, headOf};
 
 // [6.50] [6.80] [21.10] [21.60] The step at the start of s, which has the number `line`.
 pub(crate) fn event_at(s: &[u8], line: u64) -> Row

@@ -1,7 +1,9 @@
 -- `cases::call` meets its contract: each branch is one of `outcomeOf`, by what `fresh` and `step` ensure.
 -- Assumes nothing.
+use mathlib.Core.Path.{ap, _∙_}
 use borrow.Author.Needs.{needs}
 use borrow.Author.Tests.{eq-eqb, ne-eqb}
+use Rattle.model.specs.Answers.{freshOf}
 use Rattle.cases.specs.Cases.{outcomeOf}
 use Rattle.cases.proofs.call.Statement.{statement}
 use Rattle.cases.proofs.call.Tie as tie
@@ -9,24 +11,15 @@ use Rattle.cases.proofs.call.Tie as tie
 array-read-if1 : tie.Need-array-read-if1
 array-read-if1 c = search needs
 
-array-read-fresh : tie.Need-array-read-fresh
-array-read-fresh c = search needs
-
-array-read-fresh-2 : tie.Need-array-read-fresh-2
-array-read-fresh-2 c = search needs
-
-array-read-fresh-3 : tie.Need-array-read-fresh-3
-array-read-fresh-3 c = search needs
-
-array-read-fresh-4 : tie.Need-array-read-fresh-4
-array-read-fresh-4 c = search needs
+asked-requires : tie.Need-asked-requires
+asked-requires c κs = search needs
 
 fresh-requires : tie.Need-fresh-requires
 fresh-requires c κs = search needs
 
 returns : tie.Need-returns
 unfolding outcomeOf
-returns c = simp (eq-eqb _ _ (c .before .if1 .taken)) (c .fresh .ensures)
+returns c = simp (eq-eqb _ _ (c .before .before .if1 .taken)) (c .fresh .ensures ∙ ap freshOf (c .before .asked .ensures))
 
 array-read-step : tie.Need-array-read-step
 array-read-step c = search needs
@@ -49,10 +42,7 @@ call-spec =
     tie.close
     (tie.spec
     array-read-if1
-    array-read-fresh
-    array-read-fresh-2
-    array-read-fresh-3
-    array-read-fresh-4
+    asked-requires
     fresh-requires
     returns
     array-read-step

@@ -4,7 +4,7 @@ use mathlib.Core.Path.{_≡_, sym, ap, _∙_}
 use lib.ListN.{length}
 use lib.Seq.{length-take-le}
 use Rattle.model.specs.declared.Reading.{Reading}
-use Rattle.model.specs.Readings.{Lists, lists, readGave}
+use Rattle.model.specs.Readings.{Lists, lent, readGave}
 use Rattle.model.specs.Writings.{eventsOf, Written, writeGave, writeOf}
 use Rattle.model.proofs.Given.{gave-out}
 use Rattle.grammar.specs.RoundTrips.{eventsRead}
@@ -13,28 +13,23 @@ use Rattle.round_trips.proofs.Trips.{written-held, reread-refused, rere
 use borrow.Author.Needs.{needs}
 use Rattle.round_trips.proofs.reread.Statement.{statement}
 use Rattle.round_trips.proofs.reread.Tie as tie
-use Rattle.round_trips.proofs.reread.Reads as reads
-use Rattle.round_trips.proofs.reread.Lts as lts
-use Rattle.round_trips.proofs.not_read.Reads as not-read-reads
-use Rattle.trace.proofs.read.Reads as read-reads
-use Rattle.trace.proofs.write.Reads as write-reads
 
 -- What was lent, and what is due, where the writing has been answered
 abbrev start : tie.After-write → tie.Start
 start c = c .before .before .before .before .before .before .before .before .before
 
-abbrev lent : tie.After-write → Lists
-lent c = let a = start c .args in lists (a .times .now) (a .processes .now) (a .actions .now)
+abbrev from : tie.After-write → Lists
+from c = let a = start c .args in lent (a .times) (a .processes) (a .actions)
 
-abbrev lent2 : tie.After-write → Lists
-lent2 c = let a = start c .args in lists (a .times2 .now) (a .processes2 .now) (a .actions2 .now)
+abbrev to : tie.After-write → Lists
+to c = let a = start c .args in lent (a .times2) (a .processes2) (a .actions2)
 
 abbrev due : tie.After-write → Written
-due c = let a = start c .args in writeOf (a .n) (a .a) (a .b) (a .c) (eventsOf (lent c)) (a .out .now)
+due c = let a = start c .args in writeOf (a .parameters) (eventsOf (from c)) (a .out .now)
 
 -- what the writing gave
 abbrev given : tie.After-write → Written
-given c = writeGave (c .write .result) (c .write .last .1 .1 .1 .1 .1 .1 .1 .0)
+given c = writeGave (c .write .result) (c .write .last .1 .1 .1 .1 .0)
 
 was-written : (c : tie.After-write) → given c ≡ due c
 was-written c = c .write .ensures
@@ -42,7 +37,7 @@ was-written c = c .write .ensures
 fits : (c : tie.After-write) → given c .answer .code ≡ 0 → given c .answer .time ≤ length (given c .out)
 fits c =
     let a = start c .args in
-    written-held (a .n) (a .a) (a .b) (a .c) (eventsOf (lent c)) (a .out .now) (was-written c)
+    written-held (a .parameters) (eventsOf (from c)) (a .out .now) (was-written c)
 
 write-requires : tie.Need-write-requires
 write-requires c κs = search needs
@@ -58,8 +53,8 @@ returns c =
     let k = c .before .before .before .before .before in
     let e = was-written k in
     let n = c .before .if1 .taken in
-    let gave = ap (λ (r : Reading). readGave r (lent2 k)) (c .not-read .ensures) ∙ sym (reread-refused (given k) (lent2 k) n) in
-    let r = gave ∙ ap (λ (w : Written). rereadOf w (lent2 k)) e in
+    let gave = ap (λ (r : Reading). readGave r (to k)) (c .not-read .ensures) ∙ sym (reread-refused (given k) (to k) n) in
+    let r = gave ∙ ap (λ (w : Written). rereadOf w (to k)) e in
     (gave-out e, (r, λ z _. absurd (n (ap (λ (w : Written). w .answer .code) e ∙ z))))
 
 slice-reshare-prefix-read : tie.Need-slice-reshare-prefix-read
@@ -88,9 +83,9 @@ returns-2 c =
     let k = c .before .before .before .before .before .before .before .before .before .before .before .before .before .before .before in
     let a = start k .args in
     let e = was-written k in
-    let done = sym (reread-done (given k) (lent2 k) (c .before .before .before .before .before .before .before .before .before .before .before .if1 .left)) in
-    let r = c .before .before .before .before .before .before .read .ensures ∙ (done ∙ ap (λ (w : Written). rereadOf w (lent2 k)) e) in
-    (gave-out e, (r, λ z h. ap eventsRead r ∙ reread-same (a .n) (a .a) (a .b) (a .c) (lent k) (a .out .now) (lent2 k) z h))
+    let done = sym (reread-done (given k) (to k) (c .before .before .before .before .before .before .before .before .before .before .before .if1 .left)) in
+    let r = c .before .before .before .before .before .before .read .ensures ∙ (done ∙ ap (λ (w : Written). rereadOf w (to k)) e) in
+    (gave-out e, (r, λ z h. ap eventsRead r ∙ reread-same (a .parameters) (from k) (a .out .now) (to k) z h))
 
 pub reread-spec : {M : Type 1} → statement M
 reread-spec =

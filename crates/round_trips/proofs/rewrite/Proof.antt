@@ -3,17 +3,13 @@ use Prim.Native.Nat.{ℕ}
 use mathlib.Core.Path.{_≡_, sym, ap, _∙_}
 use mathlib.Core.List.{List}
 use lib.Seq.{length-take-le}
-use Rattle.model.specs.Readings.{Lists, lists, Read, readGave, readOf}
+use Rattle.model.specs.Readings.{Lists, lists, lent, Read, readGave, readOf}
 use Rattle.model.proofs.Given.{gave-out}
 use Rattle.round_trips.specs.Trips.{rewriteOf}
 use Rattle.round_trips.proofs.Trips.{Held, held, rewrite-refused, rewrite-done, rewrite-same}
 use borrow.Author.Needs.{needs}
 use Rattle.round_trips.proofs.rewrite.Statement.{statement}
 use Rattle.round_trips.proofs.rewrite.Tie as tie
-use Rattle.round_trips.proofs.rewrite.Reads as reads
-use Rattle.round_trips.proofs.rewrite.Lts as lts
-use Rattle.trace.proofs.read.Reads as read-reads
-use Rattle.trace.proofs.write.Reads as write-reads
 
 -- What was lent, and what the reading gave, where it has been answered
 abbrev start : tie.After-answer → tie.Start
@@ -22,8 +18,8 @@ start c = c .before .before .before .before .before .before .before .before .bef
 abbrev text : tie.After-answer → List ℕ
 text c = start c .args .text .now
 
-abbrev lent : tie.After-answer → Lists
-lent c = let a = start c .args in lists (a .times .now) (a .processes .now) (a .actions .now)
+abbrev to : tie.After-answer → Lists
+to c = let a = start c .args in lent (a .times) (a .processes) (a .actions)
 
 abbrev out : tie.After-answer → List ℕ
 out c = start c .args .out .now
@@ -33,11 +29,11 @@ given c =
     let r = c .before .before .before .before .before .before .before .read in
     readGave (r .result) (lists (r .last .1 .0) (r .last .1 .1 .0) (r .last .1 .1 .1 .0))
 
-was-read : (c : tie.After-answer) → given c ≡ readOf (text c) (lent c)
+was-read : (c : tie.After-answer) → given c ≡ readOf (text c) (to c)
 was-read c = c .before .before .before .before .before .before .before .read .ensures
 
-fits : (c : tie.After-answer) → Held (given c)
-fits c = held (text c) (lent c) (was-read c)
+fits : (c : tie.After-answer) → given c .reading .answer .code ≡ 0 → Held (given c .reading .answer .time) (given c .kept)
+fits c = held (text c) (to c) (was-read c)
 
 read-requires : tie.Need-read-requires
 read-requires c κs = search needs
@@ -59,22 +55,22 @@ returns c =
     (ap (λ (r : Read). r .kept) e, (w, λ z _. absurd (c .if1 .taken (ap (λ (r : Read). r .reading .answer .code) e ∙ z))))
 
 slice-reshare-prefix-write : tie.Need-slice-reshare-prefix-write
-slice-reshare-prefix-write c = fits (c .before .before) (c .if1 .left) .0
+slice-reshare-prefix-write c = fits (c .before .before) (c .if1 .left) .times
 
 slice-aggregate-write : tie.Need-slice-aggregate-write
-slice-aggregate-write c = sym (length-take-le _ _ (fits (c .before .before .before) (c .before .if1 .left) .0))
+slice-aggregate-write c = sym (length-take-le _ _ (fits (c .before .before .before) (c .before .if1 .left) .times))
 
 slice-reshare-prefix-write-2 : tie.Need-slice-reshare-prefix-write-2
-slice-reshare-prefix-write-2 c = fits (c .before .before .before) (c .before .if1 .left) .1 .0
+slice-reshare-prefix-write-2 c = fits (c .before .before .before) (c .before .if1 .left) .processes
 
 slice-aggregate-write-2 : tie.Need-slice-aggregate-write-2
-slice-aggregate-write-2 c = sym (length-take-le _ _ (fits (c .before .before .before .before) (c .before .before .if1 .left) .1 .0))
+slice-aggregate-write-2 c = sym (length-take-le _ _ (fits (c .before .before .before .before) (c .before .before .if1 .left) .processes))
 
 slice-reshare-prefix-write-3 : tie.Need-slice-reshare-prefix-write-3
-slice-reshare-prefix-write-3 c = fits (c .before .before .before .before) (c .before .before .if1 .left) .1 .1
+slice-reshare-prefix-write-3 c = fits (c .before .before .before .before) (c .before .before .if1 .left) .actions
 
 slice-aggregate-write-3 : tie.Need-slice-aggregate-write-3
-slice-aggregate-write-3 c = sym (length-take-le _ _ (fits (c .before .before .before .before .before) (c .before .before .before .if1 .left) .1 .1))
+slice-aggregate-write-3 c = sym (length-take-le _ _ (fits (c .before .before .before .before .before) (c .before .before .before .if1 .left) .actions))
 
 write-requires : tie.Need-write-requires
 write-requires c κs = search needs
@@ -97,7 +93,7 @@ returns-2 c =
     let e = was-read k in
     let done = sym (rewrite-done (given k) (out k) (c .before .before .before .before .before .before .before .if1 .left)) in
     let w = c .before .before .write .ensures ∙ (done ∙ ap (λ (r : Read). rewriteOf r (out k)) e) in
-    (ap (λ (r : Read). r .kept) e, (w, λ z h. gave-out w ∙ rewrite-same (text k) (lent k) (out k) z h))
+    (ap (λ (r : Read). r .kept) e, (w, λ z h. gave-out w ∙ rewrite-same (text k) (to k) (out k) z h))
 
 pub rewrite-spec : {M : Type 1} → statement M
 rewrite-spec =

@@ -17,6 +17,9 @@ print-names-requires c κs = search needs
 table-requires : tie.Need-table-requires Inv-loop μ-loop
 table-requires c κs = search needs
 
+no-parameters-requires : tie.Need-no-parameters-requires Inv-loop μ-loop
+no-parameters-requires c κs = search needs
+
 fresh-requires : tie.Need-fresh-requires Inv-loop μ-loop
 fresh-requires c κs = search needs
 
@@ -61,6 +64,7 @@ main-spec =
     μ-loop
     print-names-requires
     table-requires
+    no-parameters-requires
     fresh-requires
     loop-holds
     mul-row

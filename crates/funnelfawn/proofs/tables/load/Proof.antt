@@ -7,7 +7,7 @@ use native.Mathlib.Omega.{arith}
 use lib.ListN.{drop}
 use borrow.Author.Tests.{not-true, not-false}
 use Rattle.model.specs.declared.Parameters.{Parameters}
-use Rattle.model.specs.Readings.{parametersIn}
+use Rattle.model.specs.States.{parametersIn}
 use Rattle.layout.specs.Encodings.{headerLength, stride}
 use Rattle.rules.specs.Survey.{numbersStand}
 use Rattle.funnelfawn.specs.Loading.{areIdle}
