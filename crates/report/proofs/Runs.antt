@@ -1,70 +1,88 @@
--- Laws of a report: the lines of its steps, and putting it whole into an output. Assumes nothing.
-use Prim.Native.Nat.{ℕ, suc, _+_, _≤_, _<_}
-use mathlib.Core.Path.{_≡_, refl, _∙_, subst}
-use mathlib.Core.List.{List, [], _∷_, _++_}
+-- Laws of the lines of a report: one line more, and the lines of steps that are taken block by block. Assumes nothing.
+use Prim.Native.Nat.{ℕ, _+_, _-_, _<_, min}
+use mathlib.Core.Path.{_≡_, sym, ap, _∙_}
+use mathlib.Core.List.{List, [], _∷_, _++_, map, map-append, append-assoc}
 use native.Mathlib.Omega.{arith}
-use lib.ListN.{length, getD, take, drop, length-append}
-use lib.Seq.{sets, take-at}
-use lib.Dec.{ltb}
-use borrow.Author.Tests.{le-ltb}
+use native.Mathlib.Nat.{add-zero}
+use lib.ListN.{length, getD, take, drop, length-map, length-take, length-drop, take-append-drop}
+use lib.Seq.{length-take-le, take-all, take-take, take-at, drop-drop}
 use Rattle.model.specs.declared.State.{State}
-use Rattle.model.specs.declared.Outcome.{Outcome}
-use Rattle.model.specs.Answers.{answerOf, stepOf}
-use Rattle.model.specs.Writings.{eventsIn, Written, writeGave, fitted}
-use Rattle.model.proofs.Given.{write-gave}
-use Rattle.model.specs.Reports.{answerText, runText}
-use Rattle.model.proofs.Tests.{by-cond}
+use Rattle.model.specs.Answers.{answerNumbers}
+use Rattle.model.specs.Texts.{Event, numbersText}
+use Rattle.model.specs.Readings.{Lists, lists, room}
+use Rattle.model.specs.Writings.{eventsOf}
+use Rattle.model.specs.Executions.{stateFrom, answersFrom, Executed, executedGave, executedAll, executedOf}
+use Rattle.model.specs.Reports.{rowsText}
 use Rattle.model.proofs.Lists.{drop-at}
-use Rattle.text.specs.Puts.{Put}
-use Rattle.text.proofs.Putting.{sets-over, put-first}
+use Rattle.model.proofs.Folds.{results-append, length-results}
+use Rattle.execution.proofs.Steps.{length-steps, steps-from}
+use Rattle.report.specs.Runs.{runText}
 
--- the line of the step at place i, whose outcome is o, and then those from i + 1 on
-pub run-at : (s : State) (o : Outcome) (ts ps qs : List ℕ) (i d e f : ℕ) → i < length ts → length ps ≡ length ts → length qs ≡ length ts
-    → o ≡ stepOf s (getD qs i d) (getD ps i e) (getD ts i f)
-    → runText (i + 4) s (eventsIn (drop i ts) (drop i ps) (drop i qs))
-    ≡ answerText (i + 4) (o .answer) ++ runText (i + 1 + 4) (o .state) (eventsIn (drop (i + 1) ts) (drop (i + 1) ps) (drop (i + 1) qs))
-unfolding runText eventsIn
-run-at s o ts ps qs i d e f h g k r =
-    let m : i < length ps = omega arith in
-    let n : i < length qs = omega arith in
-    let q : i + 1 + 4 ≡ i + 4 + 1 = omega arith in
-    rw (drop-at ts i f h, drop-at ps i e m, drop-at qs i d n, q, r)
+-- Lines
 
--- the lines of a report after its names line
-pub after-names : {old mid new names text : List ℕ} {i j : ℕ}
-    → Put old mid 0 names i → length names ≡ 26 → Put mid new 26 text j → Put old new 0 (names ++ text) (i + j)
-after-names {mid = mid} {new = new} {text = text} {i = i} {j = j} p e q =
-    let at : 26 ≡ i = omega (arith, p .wide) in
-    put-first p (subst (λ (k : ℕ). Put mid new k text j) at q)
+-- the line of row i, where the first has the number `line`, and those after it
+pub rows-next : (line : ℕ) (rows : List (List ℕ)) (i : ℕ) (d : List ℕ) → i < length rows
+    → rowsText (line + i) (drop i rows) ≡ numbersText (line + i) (getD rows i d) ++ rowsText (line + (i + 1)) (drop (i + 1) rows)
+unfolding rowsText
+rows-next line rows i d h = let q : line + i + 1 ≡ line + (i + 1) = omega arith in rw (drop-at rows i d h, q)
 
-sets-nothing : (i : ℕ) (text : List ℕ) → sets [] i text ≡ []
-sets-nothing i [] = refl
-sets-nothing i (x ∷ text) = sets-nothing (suc i) text
+pub rows-append : (line : ℕ) (xs ys : List (List ℕ)) → rowsText line (xs ++ ys) ≡ rowsText line xs ++ rowsText (line + length xs) ys
+unfolding rowsText
+rows-append line [] ys = rw add-zero
+rows-append line (x ∷ xs) ys =
+    let q : line + 1 + length xs ≡ line + length (x ∷ xs) = omega arith in
+    rw (rows-append (line + 1) xs ys, q) (sym (append-assoc (numbersText line x) (rowsText (line + 1) xs) _))
 
--- an output of no bytes stays so
-pub nothing-put : {new text : List ℕ} {at size : ℕ} → Put [] new at text size → new ≡ []
-nothing-put {text = text} {at = at} p = p .stored ∙ sets-nothing at text
+-- Blocks of steps
 
--- a report that has room
-pub put-whole : {old new text : List ℕ} {size : ℕ} → Put old new 0 text size → size ≤ length old
-    → writeGave (answerOf 0 0 size) new ≡ fitted text old
-unfolding fitted
-put-whole {old} {new} {text} {size} p h =
-    let fits : length text ≤ length old = omega (arith, p .wide) in
-    rw (le-ltb (length old) (length text) fits) (write-gave (rw (p .wide)) (p .stored ∙ sets-over text old fits))
+-- the rows of these steps
+abbrev pub rowsFrom : State → List Event → List (List ℕ)
+rowsFrom s events = map answerNumbers (answersFrom s events)
 
--- a report that is answered with 0 is whole
-pub record Whole (text new : List ℕ) (size : ℕ) : Type 0 where
-  pub within : size ≤ length new
-  pub bytes : take size new ≡ text
+pub length-from : (s : State) (events : List Event) → length (rowsFrom s events) ≡ length events
+length-from s events = simp (length-map, length-results)
 
-pub whole : (text out : List ℕ) → fitted text out .answer .code ≡ 0 → Whole text (fitted text out .out) (fitted text out .answer .time)
-unfolding fitted
-whole text out =
-    by-cond (λ (w : Written). w .answer .code ≡ 0 → Whole text (w .out) (w .answer .time)) (ltb (length out) (length text))
-    (λ _ (e : 16 ≡ 0). absurd (omega arith))
-    (λ _ _.
-    record {
-      within = omega (arith, length-append text (drop (length text) out));
-      bytes = take-at text (drop (length text) out) (length text) refl;
-    })
+from-append : (s : State) (xs ys : List Event) → rowsFrom s (xs ++ ys) ≡ rowsFrom s xs ++ rowsFrom (stateFrom s xs) ys
+from-append s xs ys = simp (results-append, map-append)
+
+-- the lines of the first k steps, and then those of the others from where these led
+run-parts : (line : ℕ) (s : State) (events : List Event) (k : ℕ)
+    → runText line s events
+    ≡ rowsText line (rowsFrom s (take k events)) ++ runText (line + length (take k events)) (stateFrom s (take k events)) (drop k events)
+run-parts line s events k =
+    ap (runText line s) (sym (take-append-drop k events))
+    ∙ rw (from-append s (take k events) (drop k events), ← length-from s (take k events))
+    (rows-append line (rowsFrom s (take k events)) (rowsFrom (stateFrom s (take k events)) (drop k events)))
+
+-- of the steps in the lists i have been taken, which led to s; a block is the next k, as many as there are rows for
+module _ (s : State) (l : Lists) (rows : List (List ℕ)) (i k : ℕ) (count : k ≡ min (length rows) (room l - i)) where
+  abbrev block : List Event
+  block = take k (drop i (eventsOf l))
+
+  length-block : length block ≡ k
+  length-block = length-take-le k (drop i (eventsOf l)) (simp (length-drop, length-steps) (omega arith))
+
+  is-block : take (length rows) (drop i (eventsOf l)) ≡ block
+  is-block =
+      sym (take-all k (take (length rows) (drop i (eventsOf l))) (simp (length-take, length-drop, length-steps) (omega arith)))
+      ∙ take-take k (length rows) (drop i (eventsOf l)) (omega arith)
+
+  -- it led to t and left the rows m
+  module _ {t : State} {m : List (List ℕ)}
+      (ran : executedGave t m ≡ executedOf s (eventsOf (lists (drop i (l .times)) (drop i (l .processes)) (drop i (l .actions)))) rows) where
+    block-ran : executedGave t m ≡ executedAll s block rows
+    unfolding executedOf
+    block-ran = ran ∙ rw (steps-from l i, is-block)
+
+    block-rows : take k m ≡ rowsFrom s block
+    block-rows =
+        ap (λ (x : Executed). take k (x .answers)) block-ran
+        ∙ take-at (rowsFrom s block) (drop (length (rowsFrom s block)) rows) k (length-from s block ∙ length-block)
+
+    -- its lines, and then those of the steps that are left
+    pub run-next : (line : ℕ)
+        → runText (line + i) s (drop i (eventsOf l)) ≡ rowsText (line + i) (take k m) ++ runText (line + (i + k)) t (drop (i + k) (eventsOf l))
+    run-next line =
+        let q : line + i + length block ≡ line + (i + k) = omega (arith, length-block) in
+        let led : t ≡ stateFrom s block = ap (λ (x : Executed). x .state) block-ran in
+        rw (block-rows, led, ← drop-drop k i (eventsOf l), ← q) (run-parts (line + i) s (drop i (eventsOf l)) k)

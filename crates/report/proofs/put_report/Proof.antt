@@ -1,86 +1,84 @@
--- `report::put_report` meets its contract: the lists have room for any trace, so a reading is refused exactly where the text is.
--- Assumes nothing.
+-- `report::put_report` meets its contract: the names line, and then the line of a refusal or those of the steps. Assumes nothing.
 use Prim.Native.Nat.{ℕ, _≤_}
 use mathlib.Core.Path.{_≡_, refl, sym, _∙_}
-use mathlib.Core.Logic.{_≢_}
 use mathlib.Core.List.{List}
 use native.Mathlib.Omega.{arith}
 use lib.ListN.{length, length-take}
-use Rattle.model.specs.Readings.{Lists, lists, room, refused, traceOf}
+use Rattle.model.specs.Readings.{Lists, lists, room}
+use Rattle.model.specs.Executions.{startGave}
 use Rattle.model.specs.Reports.{answerNames, reportText}
 use Rattle.text.specs.Puts.{Put}
-use Rattle.report.proofs.Kept.{Kept, kept, refusal}
 use Rattle.text.proofs.Putting.{put-long}
-use Rattle.report.proofs.Runs.{after-names}
+use Rattle.report.proofs.Starts.{Ready, ready, refusal}
+use Rattle.report.proofs.Wholes.{after-names}
 use borrow.Author.Needs.{needs}
 use Rattle.report.proofs.put_report.Statement.{statement}
 use Rattle.report.proofs.put_report.Tie as tie
 
-abbrev text : tie.After-read → List ℕ
-text c = c .before .before .before .before .before .before .before .before .before .before .before .before .before .before .args .text .now
+-- Where the names line has been put
 
--- the lists as they are lent to `read`, and as it leaves them
-abbrev lent : tie.After-read → Lists
-lent c =
-    lists (c .before .before .before .before .before .before .before .before .before .before .before .list .result)
-    (c .before .before .before .before .before .before .before .before .before .before .list2 .result)
-    (c .before .before .before .before .before .before .before .before .before .list3 .result)
-
-abbrev left : tie.After-read → Lists
-left c = lists (c .read .last .1 .0) (c .read .last .1 .1 .0) (c .read .last .1 .1 .1 .0)
-
-lengths : (c : tie.After-read)
-    → (length (lent c .times) ≡ 8187) × (length (lent c .processes) ≡ 8187) × (length (lent c .actions) ≡ 8187)
-lengths c = (
-  sym (c .before .before .before .before .before .before .before .before .before .before .before .list .ensures),
-  sym (c .before .before .before .before .before .before .before .before .before .before .list2 .ensures),
-  sym (c .before .before .before .before .before .before .before .before .before .list3 .ensures),
-)
-
-long : (c : tie.After-read)
-    → (length (left c .times) ≡ 8187) × (length (left c .processes) ≡ 8187) × (length (left c .actions) ≡ 8187)
-long c =
-    let l = lengths c in
-    (c .read .kept .1 .0 ∙ l .0, c .read .kept .1 .1 .0 ∙ l .1, c .read .kept .1 .1 .1 .0 ∙ l .2)
-
-wide : (c : tie.After-read) → room (lent c) ≡ 8187
-wide c = let l = lengths c in omega (arith, l .0, l .1, l .2)
-
--- the names line has been put
-names : (c : tie.After-put-text) → Put (c .before .before .before .before .before .before .before .before .args .out .now) (c .put-text .last .0) 0 answerNames (c .put-text .result)
+names : (c : tie.After-put-text)
+    → Put (c .before .before .before .before .before .before .before .before .args .out .now) (c .put-text .last .0) 0 answerNames (c .put-text .result)
 names c = c .put-text .ensures
 
--- what a refused reading tells
-fault : (c : tie.After-read) → c .read .result .answer .code ≢ 0
-    → traceOf (text c) ≡ refused (c .read .result .answer .code) (c .read .result .answer .time)
-fault c = refusal (text c) (lent c) (wide c) (c .read .ensures)
+-- the lists that `list` gave
+abbrev made : tie.After-put-text → Lists
+made c = let third = c .before .before .before in lists (third .before .before .list .result) (third .before .list2 .result) (third .list3 .result)
 
--- what a reading with answer 0 tells, where the table has been made
-abbrev reading : tie.After-state → tie.After-read
-reading c = c .before .before .before .before .before .before .before .before
+length-made : (c : tie.After-put-text)
+    → (length (made c .times) ≡ 8187) × (length (made c .processes) ≡ 8187) × (length (made c .actions) ≡ 8187)
+length-made c =
+    let third = c .before .before .before in
+    (sym (third .before .before .list .ensures), sym (third .before .list2 .ensures), sym (third .list3 .ensures))
 
-run : (c : tie.After-state) → Kept (text (reading c)) (reading c .read .result) (left (reading c))
-run c =
-    kept (text (reading c)) (lent (reading c)) (wide (reading c)) (reading c .read .ensures) (c .before .before .if1 .left)
+-- Where the text has been started
 
-abbrev count : tie.After-state → ℕ
-count c = reading c .read .result .answer .time
+abbrev named : tie.After-start → tie.After-put-text
+named c = c .before .before .before .before .before .before
 
-parts : (c : tie.After-state)
-    → (count c ≤ length (left (reading c) .times)) × (count c ≤ length (left (reading c) .processes)) × (count c ≤ length (left (reading c) .actions))
+abbrev text : tie.After-start → List ℕ
+text c = named c .before .before .before .before .before .before .before .before .args .text .now
+
+-- the lists as `start` leaves them
+abbrev left : tie.After-start → Lists
+left c = lists (c .start .last .1 .0) (c .start .last .1 .1 .0) (c .start .last .1 .1 .1 .0)
+
+length-left : (c : tie.After-start)
+    → (length (left c .times) ≡ 8187) × (length (left c .processes) ≡ 8187) × (length (left c .actions) ≡ 8187)
+length-left c =
+    let l = length-made (named c) in
+    (c .start .kept .1 .0 ∙ l .0, c .start .kept .1 .1 .0 ∙ l .1, c .start .kept .1 .1 .1 .0 ∙ l .2)
+
+wide : (c : tie.After-start) → room (made (named c)) ≡ 8187
+wide c = let l = length-made (named c) in omega (arith, l .0, l .1, l .2)
+
+-- Where it is not refused
+
+abbrev started : tie.Else1 → tie.After-start
+started c = c .before .before .before .before .before .before
+
+run : (c : tie.Else1) → let r = started c .start .result in
+    Ready (text (started c)) (startGave (r .found) (r .state) (left (started c)))
+run c = ready (text (started c)) (made (named (started c))) (wide (started c)) (started c .start .ensures) (c .if1 .left)
+
+abbrev count : tie.Else1 → ℕ
+count c = started c .start .result .found .size
+
+parts : (c : tie.Else1) → let l = left (started c) in
+    (count c ≤ length (l .times)) × (count c ≤ length (l .processes)) × (count c ≤ length (l .actions))
 parts c =
     let k = run c .few in
-    let l = long (reading c) in
+    let l = length-left (started c) in
     (omega (arith, k, l .0), omega (arith, k, l .1), omega (arith, k, l .2))
 
 list-requires : tie.Need-list-requires
 list-requires c κs = search needs
 
 list-requires-2 : tie.Need-list-requires-2
-list-requires-2 c κs = search needs
+list-requires-2 c = search needs
 
 list-requires-3 : tie.Need-list-requires-3
-list-requires-3 c κs = search needs
+list-requires-3 c = search needs
 
 slice-aggregate-put-text : tie.Need-slice-aggregate-put-text
 slice-aggregate-put-text c = search needs
@@ -88,41 +86,39 @@ slice-aggregate-put-text c = search needs
 put-text-requires : tie.Need-put-text-requires
 put-text-requires c κs = search needs
 
-slice-aggregate-read : tie.Need-slice-aggregate-read
-slice-aggregate-read c = search needs
+slice-aggregate-start : tie.Need-slice-aggregate-start
+slice-aggregate-start c = search needs
 
-slice-aggregate-read-2 : tie.Need-slice-aggregate-read-2
-slice-aggregate-read-2 c = search needs
+slice-aggregate-start-2 : tie.Need-slice-aggregate-start-2
+slice-aggregate-start-2 c = search needs
 
-slice-aggregate-read-3 : tie.Need-slice-aggregate-read-3
-slice-aggregate-read-3 c = search needs
+slice-aggregate-start-3 : tie.Need-slice-aggregate-start-3
+slice-aggregate-start-3 c = search needs
 
-read-requires : tie.Need-read-requires
-read-requires c κs = search needs
-
-fault-line-requires : tie.Need-fault-line-requires
-fault-line-requires c κs = search needs
+start-requires : tie.Need-start-requires
+start-requires c κs = search needs
 
 put-line-requires : tie.Need-put-line-requires
 put-line-requires c κs = search needs
 
 add-result : tie.Need-add-result
-add-result c = search needs
+add-result c =
+    let r = c .before .before .before .before .before .before .before .before .before .before in
+    omega (arith, names (named r) .wide, c .before .before .put-line .ensures .1)
 
 same-length : tie.Need-same-length
-same-length c = search needs
+same-length c =
+    let r = c .before .before .before .before .before .before .before .before .before .before in
+    put-long (c .before .before .put-line .ensures .0) ∙ put-long (names (named r))
 
 returns : tie.Need-returns
 unfolding reportText
 returns c =
-    let r = c .before .before .before .before .before .before .before .before .before .before .before in
-    let n = names (r .before .before .before .before .before .before) in
+    let r = c .before .before .before .before .before .before .before .before .before .before in
+    let n = names (named r) in
     let line = c .before .before .put-line .ensures in
-    let put = after-names n refl (rw (c .before .before .before .before .fault-line .ensures) at (line .0)) in
-    (rw (fault r (c .before .before .before .before .before .if1 .taken)) put, omega (arith, n .wide, line .1))
-
-fresh-requires : tie.Need-fresh-requires
-fresh-requires c κs = search needs
+    let fault = refusal (text r) (made (named r)) (wide r) (r .start .ensures) (c .before .before .before .before .if1 .taken) in
+    (rw fault (after-names n refl (line .0)), omega (arith, n .wide, line .1))
 
 array-share-prefix-times : tie.Need-array-share-prefix-times
 array-share-prefix-times c = parts (c .before) .0
@@ -144,24 +140,27 @@ slice-aggregate-put-run-3 c = simp length-take (omega (arith, parts (c .before .
 
 put-run-requires : tie.Need-put-run-requires
 put-run-requires c κs =
-    let l = parts (c .before .before .before .before) in
-    simp length-take
-    (omega (arith, run (c .before .before .before .before) .few), (omega (arith, l .0, l .1), omega (arith, l .0, l .2)))
+    let r = run (c .before .before .before .before) in
+    let l = length-left (started (c .before .before .before .before)) in
+    simp length-take (omega (arith, r .few, r .low, l .0, l .1, l .2))
 
 add-result-2 : tie.Need-add-result-2
-add-result-2 c = omega (arith, names (reading (c .before .before .before .before .before .before .before) .before .before .before .before .before .before) .wide, c .before .before .put-run .ensures .1)
+add-result-2 c =
+    let r = started (c .before .before .before .before .before .before .before) in
+    omega (arith, names (named r) .wide, c .before .before .put-run .ensures .1)
 
 same-length-2 : tie.Need-same-length-2
-same-length-2 c = put-long (c .before .before .put-run .ensures .0) ∙ put-long (names (reading (c .before .before .before .before .before .before .before) .before .before .before .before .before .before))
+same-length-2 c =
+    let r = started (c .before .before .before .before .before .before .before) in
+    put-long (c .before .before .put-run .ensures .0) ∙ put-long (names (named r))
 
 returns-2 : tie.Need-returns-2
 unfolding reportText
 returns-2 c =
-    let t = c .before .before .before .before .before .before .before in
-    let n = names (reading t .before .before .before .before .before .before) in
+    let d = c .before .before .before .before .before .before .before in
+    let n = names (named (started d)) in
     let lines = c .before .before .put-run .ensures in
-    let put = after-names n refl (rw (t .before .fresh .ensures) at (lines .0)) in
-    (rw (run t .told) put, omega (arith, n .wide, lines .1))
+    (rw (run d .lines) (after-names n refl (lines .0)), omega (arith, n .wide, lines .1))
 
 pub put-report-spec : {M : Type 1} → statement M
 put-report-spec =
@@ -172,16 +171,14 @@ put-report-spec =
     list-requires-3
     slice-aggregate-put-text
     put-text-requires
-    slice-aggregate-read
-    slice-aggregate-read-2
-    slice-aggregate-read-3
-    read-requires
-    fault-line-requires
+    slice-aggregate-start
+    slice-aggregate-start-2
+    slice-aggregate-start-3
+    start-requires
     put-line-requires
     add-result
     same-length
     returns
-    fresh-requires
     array-share-prefix-times
     slice-aggregate-put-run
     array-share-prefix-processes

@@ -12,7 +12,7 @@ use Rattle.model.specs.declared.Answer.{Answer}
 use Rattle.model.specs.Writings.{fitted}
 use Rattle.model.specs.Reports.{reportText}
 use Rattle.text.proofs.Putting.{put-long}
-use Rattle.report.proofs.Runs.{nothing-put, put-whole}
+use Rattle.report.proofs.Wholes.{nothing-put, put-whole}
 use Rattle.report.proofs.report.Statement.{statement}
 use Rattle.report.proofs.report.Tie as tie
 
@@ -38,7 +38,11 @@ returns c =
     let measured = c .before .before .before .before .put-report .ensures .0 in
     let short : length (s .args .out .now) < length (reportText (s .args .text .now)) =
     omega (arith, rw (nothing-put measured) at (c .before .if2 .taken), measured .wide) in
-    rw (lt-ltb _ _ short) (write-gave (c .answer-with .ensures) (rw (nothing-put measured)), λ (h : 687734 ≤ length (s .args .out .now)). absurd (omega (arith, c .before .before .before .before .before .before .if1 .taken)))
+    let less = c .before .before .before .before .before .before .if1 .taken in
+    rw (lt-ltb _ _ short) (
+      write-gave (c .answer-with .ensures) (rw (nothing-put measured)),
+      λ (h : 687734 ≤ length (s .args .out .now)). absurd (omega (arith, less)),
+    )
 
 put-report-requires-2 : tie.Need-put-report-requires-2
 put-report-requires-2 c κs = search needs

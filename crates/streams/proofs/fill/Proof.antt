@@ -15,9 +15,11 @@ abbrev μ-loop : tie.MeasureT-loop
 μ-loop fd text₀ at₀ text at = length text₀ - at
 
 -- what was read fits behind what was read before
-within : (c : tie.After-count Inv-loop μ-loop)
-    → c .before .before .before .before .before .before .before .before .before .loop .at + c .count .result ≤ length (c .before .before .before .before .before .before .read-to .last .1 .0)
-within c = omega (arith, simp (length-take, length-drop) at (c .count .ensures .0 .0), c .before .before .before .before .before .before .read-to .kept .1 .0)
+within : (c : tie.After-count Inv-loop μ-loop) → let read = c .before .before .before .before .before .before in
+    read .before .before .before .loop .at + c .count .result ≤ length (read .read-to .last .1 .0)
+within c =
+    let read = c .before .before .before .before .before .before in
+    omega (arith, simp (length-take, length-drop) at (c .count .ensures .0 .0), read .read-to .kept .1 .0)
 
 loop-holds : tie.Need-loop-holds Inv-loop μ-loop
 loop-holds c = search needs

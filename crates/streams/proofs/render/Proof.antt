@@ -1,12 +1,12 @@
 -- `streams::render` meets its contract: with room for any report the answer is 0, and the report is whole. Assumes nothing.
 use mathlib.Core.Path.{_≡_, sym, ap, _∙_}
 use native.Mathlib.Omega.{arith}
-use lib.ListN.{length, length-take}
+use lib.ListN.{length-take}
 use borrow.Author.Needs.{needs}
 use Rattle.model.specs.declared.Answer.{Answer}
 use Rattle.model.specs.Reports.{reportText}
 use Rattle.model.proofs.Given.{gave-answer, gave-out}
-use Rattle.report.proofs.Runs.{Whole, whole}
+use Rattle.report.proofs.Wholes.{Whole, whole}
 use Rattle.streams.proofs.render.Statement.{statement}
 use Rattle.streams.proofs.render.Tie as tie
 
