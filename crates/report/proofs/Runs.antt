@@ -1,22 +1,21 @@
 -- Laws of the lines of a report: one line more, and the lines of steps that are taken block by block. Assumes nothing.
 use Prim.Native.Nat.{ℕ, _+_, _-_, _<_, min}
 use mathlib.Core.Path.{_≡_, sym, ap, _∙_}
-use mathlib.Core.List.{List, [], _∷_, _++_, map, map-append, append-assoc}
+use mathlib.Core.List.{List, [], _∷_, _++_, map-append, append-assoc}
 use native.Mathlib.Omega.{arith}
 use native.Mathlib.Nat.{add-zero}
 use lib.ListN.{length, getD, take, drop, length-map, length-take, length-drop, take-append-drop}
 use lib.Seq.{length-take-le, take-all, take-take, take-at, drop-drop}
 use Rattle.model.specs.declared.State.{State}
-use Rattle.model.specs.Answers.{answerNumbers}
 use Rattle.model.specs.Texts.{Event, numbersText}
 use Rattle.model.specs.Readings.{Lists, lists, room}
 use Rattle.model.specs.Writings.{eventsOf}
-use Rattle.model.specs.Executions.{stateFrom, answersFrom, Executed, executedGave, executedAll, executedOf}
+use Rattle.model.specs.Executions.{stateFrom, Executed, executedGave, executedAll, executedOf}
 use Rattle.model.specs.Reports.{rowsText}
 use Rattle.model.proofs.Lists.{drop-at}
 use Rattle.model.proofs.Folds.{results-append, length-results}
 use Rattle.execution.proofs.Steps.{length-steps, steps-from}
-use Rattle.report.specs.Runs.{runText}
+use Rattle.report.specs.Runs.{rowsFrom, runText}
 
 -- Lines
 
@@ -26,7 +25,7 @@ pub rows-next : (line : ℕ) (rows : List (List ℕ)) (i : ℕ) (d : List ℕ) �
 unfolding rowsText
 rows-next line rows i d h = let q : line + i + 1 ≡ line + (i + 1) = omega arith in rw (drop-at rows i d h, q)
 
-pub rows-append : (line : ℕ) (xs ys : List (List ℕ)) → rowsText line (xs ++ ys) ≡ rowsText line xs ++ rowsText (line + length xs) ys
+rows-append : (line : ℕ) (xs ys : List (List ℕ)) → rowsText line (xs ++ ys) ≡ rowsText line xs ++ rowsText (line + length xs) ys
 unfolding rowsText
 rows-append line [] ys = rw add-zero
 rows-append line (x ∷ xs) ys =
@@ -35,11 +34,7 @@ rows-append line (x ∷ xs) ys =
 
 -- Blocks of steps
 
--- the rows of these steps
-abbrev pub rowsFrom : State → List Event → List (List ℕ)
-rowsFrom s events = map answerNumbers (answersFrom s events)
-
-pub length-from : (s : State) (events : List Event) → length (rowsFrom s events) ≡ length events
+length-from : (s : State) (events : List Event) → length (rowsFrom s events) ≡ length events
 length-from s events = simp (length-map, length-results)
 
 from-append : (s : State) (xs ys : List Event) → rowsFrom s (xs ++ ys) ≡ rowsFrom s xs ++ rowsFrom (stateFrom s xs) ys

@@ -7,6 +7,10 @@ use Rattle.model.specs.Texts.{Event}
 use Rattle.model.specs.Executions.{answersFrom}
 use Rattle.model.specs.Reports.{rowsText}
 
+-- the rows of their answers
+abbrev pub rowsFrom : State → List Event → List (List ℕ)
+rowsFrom s events = map answerNumbers (answersFrom s events)
+
 -- the first has the number `line`
 abbrev pub runText : ℕ → State → List Event → List ℕ
-runText line s events = rowsText line (map answerNumbers (answersFrom s events))
+runText line s events = rowsText line (rowsFrom s events)
