@@ -10,13 +10,13 @@ use Rattle.model.specs.declared.Outcome.{Outcome}
 use Rattle.model.specs.Answers.{answerNumbers}
 use Rattle.model.specs.Texts.{Event}
 use Rattle.model.specs.Readings.{Lists, room, over}
-use Rattle.model.specs.Writings.{eventsOf}
+use Rattle.model.specs.Writings.{eventsOf, eventIn}
 use Rattle.model.specs.Folds.{resultsBy}
 use Rattle.model.specs.Executions.{stepBy, stateAfter, Executed, executedGave, executedOf}
 use Rattle.model.proofs.Lists.{rows-snoc}
 use Rattle.model.proofs.Folds.{Going, sets-out, count-going, long-going, moves-on, end-reached, all-written}
-use Rattle.execution.specs.Turns.{eventIn, turnOf}
-use Rattle.execution.proofs.Steps.{length-steps, step-at}
+use Rattle.execution.specs.Turns.{turnOf}
+use Rattle.model.proofs.Steps.{length-steps, step-at}
 
 -- The steps that there are rows for
 

@@ -5,3 +5,4 @@ pub mod Soundness
 pub mod Given
 pub mod Folds
 pub mod Rows
+pub mod Steps

@@ -3,7 +3,7 @@ use Prim.Native.Nat.{ℕ, _+_}
 use mathlib.Core.Bool.{cond, not}
 use mathlib.Core.List.{List, [], _∷_}
 use lib.Dec.{ltb, eqb}
-use lib.ListN.{length}
+use lib.ListN.{length, getD}
 use Rattle.model.specs.declared.Parameters.{Parameters}
 use Rattle.model.specs.declared.Answer.{Answer}
 use Rattle.model.specs.States.{countStands, limitsStand}
@@ -21,6 +21,10 @@ eventsIn (t ∷ ts) (p ∷ ps) (q ∷ qs) = event t p q ∷ eventsIn ts ps qs
 -- [6.150]
 abbrev pub eventsOf : Lists → List Event
 eventsOf l = eventsIn (l .times) (l .processes) (l .actions)
+
+-- helper: the step at place i
+abbrev pub eventIn : Lists → ℕ → Event
+eventIn l i = event (getD (l .times) i 0) (getD (l .processes) i 0) (getD (l .actions) i 0)
 
 -- [6.170] [4.14] the line of the first step without a form, where the first has `line`; 0 if there is none
 unfoldable pub formlessFrom : ℕ → List Event → ℕ

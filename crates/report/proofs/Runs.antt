@@ -14,7 +14,7 @@ use Rattle.model.specs.Executions.{stateFrom, Executed, executedGave, executedA
 use Rattle.model.specs.Reports.{rowsText}
 use Rattle.model.proofs.Lists.{drop-at}
 use Rattle.model.proofs.Folds.{results-append, length-results}
-use Rattle.execution.proofs.Steps.{length-steps, steps-from}
+use Rattle.model.proofs.Steps.{length-steps, steps-from}
 use Rattle.report.specs.Runs.{rowsFrom, runText}
 
 -- Lines

@@ -13,7 +13,7 @@ use Rattle.model.specs.Reports.{rowsText}
 use Rattle.model.specs.Folds.{resultsBy}
 use Rattle.model.proofs.Lists.{drop-end, part-is}
 use Rattle.text.proofs.Putting.{Left, left-all, left-next, left-done}
-use Rattle.execution.proofs.Steps.{length-steps}
+use Rattle.model.proofs.Steps.{length-steps}
 use Rattle.report.specs.Runs.{runText}
 use Rattle.report.proofs.Runs.{run-next}
 use Rattle.report.proofs.put_run.Statement.{statement}

@@ -6,7 +6,8 @@ use native.Mathlib.Nat.{add-zero}
 use borrow.Author.Tests.{not-true, not-false}
 use Rattle.model.specs.Readings.{Lists, lists}
 use Rattle.model.specs.Writings.{eventsOf, formlessFrom}
-use Rattle.trace.proofs.Traces.{from, formless-here, formless-next, formless-end}
+use Rattle.model.proofs.Steps.{from}
+use Rattle.trace.proofs.Traces.{formless-here, formless-next, formless-end}
 use borrow.Author.Needs.{needs}
 use Rattle.trace.proofs.texts.formless.Statement.{statement}
 use Rattle.trace.proofs.texts.formless.Tie as tie

@@ -5,7 +5,8 @@ use Rattle.model.specs.Texts.{eventsText}
 use Rattle.model.specs.Readings.{Lists, lists}
 use Rattle.model.specs.Writings.{eventsOf}
 use Rattle.text.proofs.Putting.{Left, left-all, left-next}
-use Rattle.trace.proofs.Traces.{from, text-at, text-end}
+use Rattle.model.proofs.Steps.{from}
+use Rattle.trace.proofs.Traces.{text-at, text-end}
 use Rattle.trace.proofs.Sizes.{left-nothing, left-long}
 use borrow.Author.Needs.{needs}
 use Rattle.trace.proofs.texts.put_events.Statement.{statement}

@@ -1,14 +1,13 @@
 -- The steps that three lists stand for: how many there are, which stands at a place, and those from a place on. Assumes nothing.
-use Prim.Native.Nat.{ℕ, zero, suc, _<_, min}
-use mathlib.Core.Path.{_≡_, refl}
+use Prim.Native.Nat.{ℕ, zero, suc, _+_, _≤_, _<_, min}
+use mathlib.Core.Path.{_≡_, refl, _∙_}
 use mathlib.Core.List.{List, [], _∷_}
 use native.Mathlib.Omega.{arith}
-use lib.ListN.{length, getD, drop}
+use lib.ListN.{length, getD, drop, drop-of-length-le}
 use Rattle.model.specs.Texts.{Event, event}
-use Rattle.model.specs.Readings.{Lists, room}
-use Rattle.model.specs.Writings.{eventsIn, eventsOf}
-use Rattle.trace.proofs.Traces.{from}
-use Rattle.execution.specs.Turns.{eventIn}
+use Rattle.model.specs.Readings.{Lists, lists, room}
+use Rattle.model.specs.Writings.{eventsIn, eventsOf, eventIn}
+use Rattle.model.proofs.Lists.{drop-at}
 
 length-in : (ts ps qs : List ℕ) → length (eventsIn ts ps qs) ≡ min (length ts) (min (length ps) (length qs))
 unfolding eventsIn
@@ -45,6 +44,10 @@ from-in (suc i) (t ∷ ts) [] qs = none-second (drop i ts) (drop (suc i) qs)
 from-in (suc i) (t ∷ ts) (p ∷ ps) [] = none-third (drop i ts) (drop i ps)
 from-in (suc i) (t ∷ ts) (p ∷ ps) (q ∷ qs) = from-in i ts ps qs
 
+-- the lists from place i on
+abbrev pub from : ℕ → Lists → Lists
+from i l = lists (drop i (l .times)) (drop i (l .processes)) (drop i (l .actions))
+
 module _ (l : Lists) where
   pub length-steps : length (eventsOf l) ≡ room l
   length-steps = length-in (l .times) (l .processes) (l .actions)
@@ -52,6 +55,17 @@ module _ (l : Lists) where
   pub step-at : (i : ℕ) (e : Event) → i < room l → getD (eventsOf l) i e ≡ eventIn l i
   step-at i e h = at-in (l .times) (l .processes) (l .actions) i e (omega arith) (omega arith) (omega arith)
 
-  -- the lists from place i on stand for the steps from there on
+  -- they stand for the steps from there on
   pub steps-from : (i : ℕ) → eventsOf (from i l) ≡ drop i (eventsOf l)
   steps-from i = from-in i (l .times) (l .processes) (l .actions)
+
+  pub steps-end : (i : ℕ) → room l ≤ i → eventsOf (from i l) ≡ []
+  steps-end i h =
+      let z : length (eventsOf l) ≤ i = omega (arith, length-steps) in
+      steps-from i ∙ drop-of-length-le (eventsOf l) z
+
+  pub steps-next : (i : ℕ) → i < room l → eventsOf (from i l) ≡ eventIn l i ∷ eventsOf (from (i + 1) l)
+  steps-next i h =
+      let e : Event = eventIn l i in
+      steps-from i ∙ drop-at (eventsOf l) i e (omega (arith, length-steps))
+      ∙ rw (step-at i e h, steps-from (i + 1))
