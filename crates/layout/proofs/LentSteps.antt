@@ -1,5 +1,5 @@
 -- What is given back on lent numbers, and why: a refusal of the numbers, or what is given at the table and the summary that they
--- tell. The definitions of the interface are taken apart here for all theorems. Assumes nothing.
+-- tell. For lists of calls the definitions of the interface are taken apart here. Assumes nothing.
 use Prim.Native.Nat.{ℕ, _≤_, _<_}
 use mathlib.Core.Path.{_≡_, refl, subst}
 use mathlib.Core.Logic.{_≢_}

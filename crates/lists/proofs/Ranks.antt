@@ -47,7 +47,7 @@ rankOf Critical = atCritical
 rankOf (Resetting t) = atResetting
 rankOf (Leaving t) = atLeaving
 
--- What a rank tells. These laws look at the eight locations, so that other proofs need not.
+-- What a rank tells. These laws look at each location, so that other proofs need not.
 
 pub critical-at : (l : Location) → rankOf l ≡ atCritical → l ≡ Critical
 critical-at Remainder e = absurd (omega arith)

@@ -31,7 +31,7 @@ viewOf s = record {
   since = λ j. sinceOf (locationOf s j);
 }
 
--- from a check that finds its own word one act, of at most a, leads to the critical stage
+-- from a check that finds its own word one act, of at most a, leads to the critical place
 abbrev pub lockOf : Parameters → Lock
 lockOf k = record { a = k .a; b = k .b; c = k .c; tail = k .a }
 

@@ -14,7 +14,7 @@ pub record Lock : Type 0 where
   pub a : ℕ
   pub b : ℕ
   pub c : ℕ
-  -- the longest time from a check that finds its own word to the critical stage
+  -- the longest time from a check that finds its own word to the critical place
   pub tail : ℕ
 
 -- process j, from 1, is at the place of rank `rank j` since the time `since j`; 0 is no process, and is always in remainder

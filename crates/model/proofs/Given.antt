@@ -3,14 +3,7 @@ use Prim.Native.Nat.{ℕ}
 use mathlib.Core.Path.{_≡_, ap}
 use mathlib.Core.List.{List}
 use Rattle.model.specs.declared.Answer.{Answer}
-use Rattle.model.specs.declared.Reading.{Reading}
-use Rattle.model.specs.Readings.{lists, readGave}
 use Rattle.model.specs.Writings.{Written, writeGave}
-
--- A reading
-
-pub read-gave : {r s : Reading} {t u p q a b : List ℕ} → r ≡ s → t ≡ u → p ≡ q → a ≡ b → readGave r (lists t p a) ≡ readGave s (lists u q b)
-read-gave r t p a = λ i. readGave (r i) (lists (t i) (p i) (a i))
 
 -- A writing
 

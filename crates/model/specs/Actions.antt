@@ -59,7 +59,7 @@ resetRow s p m = row (leaves resetAct) (Leaving m) 0
 abbrev pub remRow : State → ℕ → ℕ → Transition
 remRow s p m = row (leaves remAct) Remainder (s .word)
 
--- [3.40] the row of an action from 1 to 8
+-- [3.40] the row of an action from `tryAct` on
 unfoldable pub transitionOf : State → ℕ → ℕ → ℕ → Transition
 transitionOf s act p m =
     cond (eqb act tryAct) (tryRow s p m)

@@ -109,13 +109,17 @@ limitIn k i = k .a
 abbrev pub limitOf : State → ℕ → ℕ
 limitOf s i = limitIn (s .parameters) i
 
+-- [2.90] how long a process may stay in a location, with its own bound and with that of a check
+abbrev pub stay : ℕ → ℕ → Location → ℕ
+stay limit c l = cond (eqb (stageOf l) checking) c limit
+
 -- [2.90] whether an entry has a deadline
 abbrev pub bounded : State → Process → Bool
 bounded s q = timed (q .location)
 
 -- [2.90] [2.95] the deadline of an entry that has one
 abbrev pub deadline : State → ℕ → Process → ℕ
-deadline s i q = sinceOf (q .location) + cond (eqb (stageOf (q .location)) checking) (s .parameters .c) (limitOf s i)
+deadline s i q = sinceOf (q .location) + stay (limitOf s i) (s .parameters .c) (q .location)
 
 -- [2.100]
 abbrev pub release : State → Process → ℕ

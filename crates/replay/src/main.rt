@@ -2,10 +2,12 @@
 //
 // What cannot be read or written is told on standard error. A program of this language has no exit status to choose, so
 // a failed run is known by that message; a failed reading prints no report at all, not even the names line.
+mod reports;
+
+use crate::reports::print_report;
 use libc::STDERR_FILENO;
 use libc::STDIN_FILENO;
 use streams::kept;
-use streams::print_report;
 use streams::read_text;
 
 fn main() {

@@ -2,20 +2,20 @@
 -- at no time after the clock and whose deadline is not past. Assumes nothing.
 use Prim.Native.Nat.{ℕ, _+_, _≤_, _<_}
 use mathlib.Core.Path.{_≡_}
-use mathlib.Core.Bool.{true, false, cond, not, _&&_}
+use mathlib.Core.Bool.{true, false, not, _&&_}
 use native.Mathlib.Omega.{arith}
 use lib.Dec.{leb, ltb, eqb}
 use borrow.Author.Tests.{le-leb, lt-leb}
 use Rattle.model.specs.declared.Location.{Location}
 use Rattle.model.specs.declared.Location.the-variants.{Critical}
 use Rattle.model.specs.declared.State.{State}
-use Rattle.model.specs.Stages.{remainder, checking}
-use Rattle.model.specs.States.{entry, idle, stageOf, sinceOf, timed, limitOf, entrySound}
+use Rattle.model.specs.Stages.{remainder}
+use Rattle.model.specs.States.{entry, idle, stageOf, sinceOf, timed, limitOf, entrySound, stay}
 use Rattle.model.proofs.Tests.{by-test}
 
 -- how long process k may stay at a timed location
 abbrev pub stayOf : State → ℕ → Location → ℕ
-stayOf s k l = cond (eqb (stageOf l) checking) (s .parameters .c) (limitOf s k)
+stayOf s k l = stay (limitOf s k) (s .parameters .c) l
 
 module _ (s : State) (k : ℕ) where
   -- in the remainder, whichever process has it

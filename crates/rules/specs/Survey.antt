@@ -1,4 +1,4 @@
--- What a look at each of the entries finds, one after the other. `proofs/` relates these definitions, which are all on numbers, to those
+-- What a look at each of the entries finds, one after the other. `proofs/` relates these definitions, which hand over no state, to those
 -- of the model. Assumes nothing.
 use Prim.Native.Nat.{ℕ, _-_}
 use mathlib.Core.Bool.{Bool, cond, not, _&&_}
@@ -9,8 +9,8 @@ use Rattle.model.specs.declared.Parameters.{Parameters}
 use Rattle.model.specs.declared.State.{State}
 use Rattle.rules.specs.declared.survey.Scene.{Scene}
 use Rattle.rules.specs.declared.survey.Survey.{Survey}
-use Rattle.model.specs.Stages.{remainder, checking, critical}
-use Rattle.model.specs.States.{parametersStand, clockStands, wordStands, stageOf, sinceOf}
+use Rattle.model.specs.Stages.{remainder, critical}
+use Rattle.model.specs.States.{parametersStand, clockStands, wordStands, stageOf, sinceOf, stay}
 
 -- helper: a state with these parameters and this clock that has no entry
 abbrev pub bare : Parameters → ℕ → State
@@ -63,4 +63,4 @@ noted x k l limit f =
     cond (eqb (stageOf l) remainder) f
     (cond (ltb (x .n) k) (faulted f)
     (cond (eqb (stageOf l) critical) (criticalNoted (x .acting) k f)
-    (timedNoted (x .clock) k (sinceOf l) (cond (eqb (stageOf l) checking) (x .c) limit) f)))
+    (timedNoted (x .clock) k (sinceOf l) (stay limit (x .c) l) f)))

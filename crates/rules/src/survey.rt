@@ -62,7 +62,8 @@ fn with_fault(found: Survey) -> Survey
     }
 }
 
-fn note_critical(found: Survey, acting: u64, process: u64) -> Survey
+// A critical process: the lowest of them counts, besides the acting one.
+pub fn note_critical(found: Survey, acting: u64, process: u64) -> Survey
     ensures { λ r. ⌜ r ≡ criticalNoted acting process found ⌝ }
 {
     if process == acting {
@@ -80,7 +81,7 @@ fn note_critical(found: Survey, acting: u64, process: u64) -> Survey
 }
 
 // A process that may stay for `limit`. Only differences are taken, which fit whatever the entry holds.
-fn note_timed(found: Survey, clock: u64, process: u64, since: u64, limit: u64) -> Survey
+pub fn note_timed(found: Survey, clock: u64, process: u64, since: u64, limit: u64) -> Survey
     ensures { λ r. ⌜ r ≡ timedNoted clock process since limit found ⌝ }
 {
     if clock < since {

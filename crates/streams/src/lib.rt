@@ -1,10 +1,9 @@
-// What the programs share: opening a file that an argument names, reading a text to its end, and printing its report.
-use libc::STDOUT_FILENO;
+// What the programs share: opening a file that an argument names, and reading a text to its end.
+// Whether a read fails is told apart from the end of the input.
 ghost use mathlib.Core.Path.{_≡_};
 ghost use Prim.Native.Nat.{_≤_};
-ghost use lib.ListN.{length, take};
+ghost use lib.ListN.{length};
 ghost use Rattle.io.specs.Counts.{Counts};
-ghost use Rattle.model.specs.Reports.{reportText};
 
 // What came: how many bytes were kept, and whether it could be read to its end.
 pub struct Input {
@@ -45,13 +44,6 @@ pub fn kept() -> [u8; 65537]
     ensures { λ r. ⌜ 65537 ≡ length r ⌝ }
 {
     [0; 65537]
-}
-
-// Room for any report. Only the length is told, since a proof that writes the zeros out is dear.
-fn output() -> [u8; 687734]
-    ensures { λ r. ⌜ 687734 ≡ length r ⌝ }
-{
-    [0; 687734]
 }
 
 // One read, to place `at` on. A negative answer is a failed read; one that a signal interrupts before it moves a byte counts
@@ -117,21 +109,4 @@ pub fn read_text(fd: i32, text: &mut [u8]) -> Input
         size: input.size,
         is_whole: drain(fd, &mut scratch),
     }
-}
-
-// [7.10] [7.55] Puts the report of a text into an output with room for any, and answers how many bytes it has.
-fn render(text: &[u8], out: &mut [u8]) -> usize
-    requires { ⌜ length (now out) ≡ 687734 ⌝ }
-    ensures { λ r. ⌜ Counts r (now (out .exit)) ⌝ }
-    ensures { λ r. ⌜ take r (now (out .exit)) ≡ reportText (now (text .entry)) ⌝ }
-{
-    let answer = report::report(text, out);
-    answer.time as usize
-}
-
-// Prints the report of a text; false where it cannot be written.
-pub fn print_report(text: &[u8]) -> bool {
-    let mut out = output();
-    let size = render(text, &mut out);
-    io::write_all(STDOUT_FILENO, &out[..size])
 }

@@ -1,5 +1,5 @@
 -- How a step changes a summary, field by field and by the kinds of acts: it stays sound, and holds what the log holds.
--- `acceptedCounted` is taken apart here and nowhere else. Assumes nothing.
+-- For the tally `acceptedCounted` is taken apart here. Assumes nothing.
 use Prim.Native.Nat.{ℕ, _+_, _-_, _≤_, _<_}
 use mathlib.Core.Path.{_≡_, refl, _∙_}
 use mathlib.Core.Logic.{_≢_}

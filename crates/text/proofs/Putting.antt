@@ -134,6 +134,7 @@ longest-at [] i = omega arith
 longest-at (w ∷ ws) zero = omega arith
 longest-at (w ∷ ws) (suc i) = omega (arith, longest-at ws i)
 
-pub word-width : (action : ℕ) → length (wordText action) ≤ 6
+-- with room for longer words than there are
+pub word-width : (action : ℕ) → length (wordText action) ≤ 22
 unfolding wordText
 word-width action = omega (arith, length-append (getD words action []) (newline ∷ []), longest-at words action)

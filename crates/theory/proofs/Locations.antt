@@ -1,17 +1,16 @@
 -- What a location tells, its arrival and its deadline: the relations of `Facts` against the functions of `States`.
--- These laws look at the eight locations, so that other proofs need not. Assumes nothing.
+-- These laws look at each location, so that other proofs need not. Assumes nothing.
 use Prim.Native.Nat.{ℕ, _+_, _≤_}
 use mathlib.Core.Path.{_≡_, refl, sym, _∙_}
 use mathlib.Core.Logic.{_↔_, _≢_}
-use mathlib.Core.Bool.{true, false, cond, false≢true}
+use mathlib.Core.Bool.{true, false, false≢true}
 use native.Mathlib.Omega.{arith}
-use lib.Dec.{eqb}
 use Rattle.model.specs.declared.Location.{Location}
 use Rattle.model.specs.declared.Location.the-variants.{Remainder, Testing, Setting, Checking, Entering, Critical, Resetting, Leaving}
 use Rattle.model.specs.declared.Process.{Process}
 use Rattle.model.specs.declared.State.{State}
 use Rattle.model.specs.Stages.{remainder, checking, critical}
-use Rattle.model.specs.States.{stageOf, timed, sinceOf, limitOf, bounded, deadline, late}
+use Rattle.model.specs.States.{stageOf, timed, sinceOf, limitOf, bounded, deadline, late, stay}
 use Rattle.model.specs.Facts.{Arrival, Deadline}
 use Rattle.model.proofs.Tests.{tests}
 
@@ -46,7 +45,7 @@ abbrev pub Latest : State → ℕ → Process → ℕ → Type 0
 Latest s i q d = Deadline (limitOf s i) (s .parameters .c) (q .location) d
 
 abbrev deadlineAt : ℕ → ℕ → Location → ℕ
-deadlineAt a c l = sinceOf l + cond (eqb (stageOf l) checking) c a
+deadlineAt a c l = sinceOf l + stay a c l
 
 pub deadline-timed : {a c d : ℕ} {l : Location} → Deadline a c l d → (timed l ≡ true) × (deadlineAt a c l ≡ d)
 deadline-timed Deadline.testing = (refl, refl)
@@ -82,21 +81,6 @@ deadline-bounded Deadline.checking = omega arith
 deadline-bounded Deadline.entering = omega arith
 deadline-bounded Deadline.resetting = omega arith
 deadline-bounded Deadline.leaving = omega arith
-
--- no deadline in l is before the time m, by the stage
-pub record InTime (a c m : ℕ) (l : Location) : Type 0 where
-  pub short : stageOf l ≢ remainder → stageOf l ≢ checking → stageOf l ≢ critical → m ≤ sinceOf l + a
-  pub long : stageOf l ≡ checking → m ≤ sinceOf l + c
-
-pub in-time : {a c m : ℕ} (l : Location) → ((d : ℕ) → Deadline a c l d → m ≤ d) → InTime a c m l
-in-time Remainder h = omega arith
-in-time (Testing t) h = omega (arith, h _ Deadline.testing)
-in-time (Setting t) h = omega (arith, h _ Deadline.setting)
-in-time (Checking t) h = omega (arith, h _ Deadline.checking)
-in-time (Entering t) h = omega (arith, h _ Deadline.entering)
-in-time Critical h = omega arith
-in-time (Resetting t) h = omega (arith, h _ Deadline.resetting)
-in-time (Leaving t) h = omega (arith, h _ Deadline.leaving)
 
 -- an entry that is bounded has the deadline that `deadline` gives
 pub bounded-latest : (s : State) (i : ℕ) (q : Process) → bounded s q ≡ true → Latest s i q (deadline s i q)

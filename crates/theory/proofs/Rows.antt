@@ -1,5 +1,5 @@
 -- The table of section 3 of the specification, `leaves` and `transitionOf` against the relations `From` and `Effect`.
--- These laws look at the eight acts, so that other proofs need not. Assumes nothing.
+-- These laws look at each act, so that other proofs need not. Assumes nothing.
 use Prim.Native.Nat.{ℕ, _+_, _≤_}
 use mathlib.Core.Path.{_≡_, refl, sym, subst}
 use mathlib.Core.Logic.{_≢_}

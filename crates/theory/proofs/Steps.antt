@@ -1,5 +1,5 @@
--- What a step gives, and why: one of the refusals, the answer 8, or acceptance. `stepOf` is taken apart here and nowhere else.
--- Assumes nothing.
+-- What a step gives, and why: one of the refusals, the answer 8, or acceptance. For all of the
+-- theory `stepOf` is taken apart here. Assumes nothing.
 use Prim.Native.Nat.{ℕ, _≤_}
 use mathlib.Core.Path.{_≡_, refl}
 use mathlib.Core.Logic.{_≢_}

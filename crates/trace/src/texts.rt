@@ -66,7 +66,7 @@ fn put_head(out: &mut [u8], parameters: Parameters) -> usize
 // [6.50] The line of a step. The place is a u32 so that no sum of places overflows.
 fn put_event(out: &mut [u8], at: u32, time: u64, process: u64, action: u64) -> usize
     ensures { λ r. ⌜ Put (now (out .entry)) (now (out .exit)) at (eventText (event time process action)) r ⌝ }
-    ensures { λ r. ⌜ r ≤ 48 ⌝ }
+    ensures { λ r. ⌜ r ≤ 64 ⌝ }
 {
     let start = at as usize;
     let i = put_number(out, start, time, b',');

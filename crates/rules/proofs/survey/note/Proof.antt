@@ -6,8 +6,8 @@ use lib.Dec.{eqb}
 use borrow.Author.Needs.{needs}
 use borrow.Author.Tests.{lt-ltb, le-ltb, eq-eqb, ne-eqb}
 use Rattle.model.specs.declared.Location.{Location}
-use Rattle.model.specs.Stages.{checking, critical}
-use Rattle.model.specs.States.{stageOf, sinceOf}
+use Rattle.model.specs.Stages.{critical}
+use Rattle.model.specs.States.{stageOf, sinceOf, stay}
 use Rattle.rules.specs.declared.survey.Survey.{Survey}
 use Rattle.rules.specs.Survey.{timedNoted, criticalNoted, noted}
 use Rattle.rules.proofs.survey.note.Statement.{statement}
@@ -68,7 +68,7 @@ abbrev byLocation : tie.Else2 → Location → Survey
 byLocation c l =
     let a = c .before .before .before .before .args in
     cond (eqb (stageOf l) critical) (criticalNoted (a .scene .acting) (a .process) (a .found))
-    (timedNoted (a .scene .clock) (a .process) (sinceOf l) (cond (eqb (stageOf l) checking) (a .scene .c) (a .limit)) (a .found))
+    (timedNoted (a .scene .clock) (a .process) (sinceOf l) (stay (a .limit) (a .scene .c) l) (a .found))
 
 -- an entry of a process up to n that is not in the remainder
 placed : (c : tie.Else2)

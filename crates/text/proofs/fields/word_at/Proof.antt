@@ -15,10 +15,10 @@ use Rattle.text.proofs.fields.word_at.Statement.{statement}
 use Rattle.text.proofs.fields.word_at.Tie as tie
 
 abbrev Inv-loop : tie.InvT-loop
-Inv-loop s cells widths action₀ action = (action ≤ 9) × (wordFrom action (drop action words) s ≡ wordAt s)
+Inv-loop s cells widths action₀ action = (action ≤ length words) × (wordFrom action (drop action words) s ≡ wordAt s)
 
 abbrev μ-loop : tie.MeasureT-loop
-μ-loop s cells widths action₀ action = 9 - action
+μ-loop s cells widths action₀ action = length words - action
 
 -- what is left at the word that is tried
 turn : (c : tie.After-starts-with Inv-loop μ-loop)
@@ -74,7 +74,7 @@ loop-again c = (omega arith, rw (c .if1 .left) at (turn (c .before)))
 
 returns-2 : tie.Need-returns-2 Inv-loop μ-loop
 unfolding wordFrom
-returns-2 c = let z : c .before .loop .action ≡ 9 = omega arith in rw z at (c .before .loop .inv .1)
+returns-2 c = let z : c .before .loop .action ≡ length words = omega arith in rw z at (c .before .loop .inv .1)
 
 pub word-at-spec : {M : Type 1} → statement M
 word-at-spec =

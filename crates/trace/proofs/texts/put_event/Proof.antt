@@ -1,4 +1,4 @@
--- `texts::put_event` meets its contract: no number is wider than 21 bytes, no word than 6. Assumes nothing.
+-- `texts::put_event` meets its contract: no number is wider than 21 bytes, no word than 22. Assumes nothing.
 use Prim.Native.Nat.{_+_, _≤_}
 use native.Mathlib.Omega.{arith}
 use Rattle.model.specs.Texts.{comma, eventText}
@@ -18,7 +18,7 @@ two c =
 
 three : (c : tie.After-put-word)
     → let second = c .before .before .before .before in
-    second .before .before .before .before .put-number .result + second .put-number2 .result + c .put-word .result ≤ 48
+    second .before .before .before .before .put-number .result + second .put-number2 .result + c .put-word .result ≤ 64
 three c =
     let s = c .before .before .before .before .before .before .before .before .before .before .before in
     omega (arith, two (c .before .before .before .before), c .put-word .ensures .wide, word-width (s .args .action))

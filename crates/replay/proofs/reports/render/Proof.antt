@@ -1,4 +1,4 @@
--- `streams::render` meets its contract: with room for any report the answer is 0, and the report is whole. Assumes nothing.
+-- `reports::render` meets its contract: with room for any report the answer is 0, and the report is whole. Assumes nothing.
 use mathlib.Core.Path.{_≡_, sym, ap, _∙_}
 use native.Mathlib.Omega.{arith}
 use lib.ListN.{length-take}
@@ -7,8 +7,8 @@ use Rattle.model.specs.declared.Answer.{Answer}
 use Rattle.model.specs.Reports.{reportText}
 use Rattle.model.proofs.Given.{gave-answer, gave-out}
 use Rattle.report.proofs.Wholes.{Whole, whole}
-use Rattle.streams.proofs.render.Statement.{statement}
-use Rattle.streams.proofs.render.Tie as tie
+use Rattle.replay.proofs.reports.render.Statement.{statement}
+use Rattle.replay.proofs.reports.render.Tie as tie
 
 -- what `report` answers and leaves
 rendered : (c : tie.After-report)

@@ -1,0 +1,31 @@
+// Printing the report of a text on standard output.
+// That the bytes printed are the report is a contract, that they arrive is the operating system's.
+use libc::STDOUT_FILENO;
+ghost use mathlib.Core.Path.{_≡_};
+ghost use lib.ListN.{length, take};
+ghost use Rattle.io.specs.Counts.{Counts};
+ghost use Rattle.model.specs.Reports.{reportText};
+
+// Room for any report. Only the length is told, since a proof that writes the zeros out is dear.
+fn output() -> [u8; 687734]
+    ensures { λ r. ⌜ 687734 ≡ length r ⌝ }
+{
+    [0; 687734]
+}
+
+// [7.10] [7.55] Puts the report of a text into an output with room for any, and answers how many bytes it has.
+fn render(text: &[u8], out: &mut [u8]) -> usize
+    requires { ⌜ length (now out) ≡ 687734 ⌝ }
+    ensures { λ r. ⌜ Counts r (now (out .exit)) ⌝ }
+    ensures { λ r. ⌜ take r (now (out .exit)) ≡ reportText (now (text .entry)) ⌝ }
+{
+    let answer = report::report(text, out);
+    answer.time as usize
+}
+
+// Prints the report of a text; false where it cannot be written.
+pub(crate) fn print_report(text: &[u8]) -> bool {
+    let mut out = output();
+    let size = render(text, &mut out);
+    io::write_all(STDOUT_FILENO, &out[..size])
+}
