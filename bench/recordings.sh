@@ -33,7 +33,7 @@ replay_rows() {
         cmp "$text.proved" "$text.beside" || fail "the recording $text: $ours and $beside differ"
         count=$(instructions "$text" "$ours")
         count_beside=$(instructions "$text" "$beside")
-        times=$(target/bench/timer 100 "$text" "$ours" -- "$beside")
+        times=$(target/bench/timer "${RUNS:-100}" "$text" "$ours" -- "$beside")
         row replay $name "$name: $(wc -c <"$text") bytes, $(($(wc -l <"$text") - 3)) steps" 1 "$count" "$count_beside" $times
     done
 }

@@ -26,9 +26,9 @@ label_of() {
 }
 
 # How a part is timed: the steps of a run, and the runs. Many short runs, as a busy machine seldom leaves a long one alone; the
-# programs in Rattle make 2,000 steps and no other number.
+# programs in Rattle make 2,000 steps and no other number. RUNS sets another number of runs.
 steps_of() { case $1 in inlined | called) echo 2000 ;; *) echo 5000 ;; esac; }
-runs_of() { case $1 in inlined | called) echo 200 ;; *) echo 100 ;; esac; }
+runs_of() { case $1 in inlined | called) echo "${RUNS:-200}" ;; *) echo "${RUNS:-100}" ;; esac; }
 
 # agree, for `parts`: both programs print the same sums, for as many steps as are timed
 agree() {
