@@ -46,6 +46,12 @@ rows() {
     part=$1 ours=target/$2 beside=target/$3
     echo "$4"
     shift 4
+    for case in 0 "$@"; do
+        # both at once; what they count is noted
+        counted "$ours" "$case" >/dev/null &
+        counted "$beside" "$case" >/dev/null
+        wait
+    done
     for case; do
         count=$(steps_counted "$ours" "$case")
         count_beside=$(steps_counted "$beside" "$case")
