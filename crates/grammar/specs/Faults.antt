@@ -2,7 +2,7 @@
 -- Assumes nothing.
 use Prim.Native.Nat.{ℕ, _+_, _≤_, _<_}
 use mathlib.Core.Path.{_≡_}
-use mathlib.Core.Logic.{_≢_}
+use mathlib.Core.Logic.{_≢_, _↔_}
 use mathlib.Core.Bool.{true, false}
 use mathlib.Core.List.{List, _++_}
 use lib.ListN.{length}
@@ -24,13 +24,15 @@ pub record Short (k : Parameters) : Type 0 where
   pub b : k .b < numberBound
   pub c : k .c < numberBound
 
--- helper: a text that is not too long and starts with these values
+-- helper: a text that is not too long and starts with these values, each with no more digits than it may have
 pub record Starts (text : List ℕ) (k : Parameters) (rest : List ℕ) : Type 0 where
   pub short : length text ≤ textLimit
   pub is : text ≡ valueNames ++ (valuesText k ++ rest)
+  -- [6.120]
+  pub digits : Short k
 
 -- [6.195] [6.90] [7.35] The number of a refusal and the line that it is reported at, each with what it says of the text; what would be
--- refused before it is ruled out, but for nine digits on line 2, which 11 and 12 leave to `ofValues`.
+-- refused before it is ruled out.
 pub data Fault (text : List ℕ) : ℕ → ℕ → Type 0 where
   -- [4.15]
   long : textLimit < length text → Fault text 15 0
@@ -51,9 +53,13 @@ pub data Fault (text : List ℕ) : ℕ → ℕ → Type 0 where
       → formlessFrom (firstLine k) events ≡ 0 → 0 < length rest → ((e : Event) → hasForm e ≡ true → Differs (eventText e) rest)
       → Fault text 14 (firstLine k + length events)
 
--- [6.195] of a text that is refused
-abbrev pub RefusedFor : Type 0
-RefusedFor = (text : List ℕ) (code line : ℕ) → traceOf text ≡ refused code line → Fault text code line
+-- [6.195] a text is refused with a number and a line exactly if it has that fault
+abbrev pub RefusedExactly : Type 0
+RefusedExactly = (text : List ℕ) (code line : ℕ) → (traceOf text ≡ refused code line) ↔ Fault text code line
+
+-- [6.195] and it has one fault at most
+abbrev pub OneFault : Type 0
+OneFault = (text : List ℕ) (code line code′ line′ : ℕ) → Fault text code line → Fault text code′ line′ → (code ≡ code′) × (line ≡ line′)
 
 -- [6.110] [6.195] the answer to a reading of such a text, whatever lists are lent: the code, and the line that a caller is told
 abbrev pub RefusalTold : Type 0

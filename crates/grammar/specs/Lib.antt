@@ -1,4 +1,6 @@
+pub mod Digits
 pub mod Exact
+pub mod Faults
+pub mod Successes
 pub mod RoundTrips
 pub mod Wholes
-pub mod Faults

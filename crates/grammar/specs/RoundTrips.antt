@@ -22,8 +22,8 @@ abbrev pub rewritten : Read → List ℕ → Written
 rewritten r out = writeOf (r .reading .parameters) (eventsRead r) out
 
 -- [6.210] reading what a writing left in its output: as many bytes as its answer counts
-abbrev pub reread : Written → Lists → Read
-reread w l = readOf (take (w .answer .time) (w .out)) l
+abbrev pub rereading : Written → Lists → Read
+rereading w l = readOf (take (w .answer .time) (w .out)) l
 
 -- [6.200] read into any lent lists, and written into any output of the text's length or more, with answer 0, 0 and its length; bytes
 -- after it are unchanged.
@@ -39,7 +39,7 @@ abbrev pub WriteThenRead : Type 0
 WriteThenRead =
     (k : Parameters) (l : Lists) (out : List ℕ) (m : Lists)
     → writeOf k (eventsOf l) out .answer .code ≡ 0 → length (eventsOf l) ≤ room m
-    → reread (writeOf k (eventsOf l) out) m
+    → rereading (writeOf k (eventsOf l) out) m
     ≡ record { reading = readingOf 0 (length (eventsOf l)) k; kept = stored (eventsOf l) m }
 
 -- [6.210] So the steps that were read are the steps that were written.
@@ -47,4 +47,4 @@ abbrev pub SameEvents : Type 0
 SameEvents =
     (k : Parameters) (l : Lists) (out : List ℕ) (m : Lists)
     → writeOf k (eventsOf l) out .answer .code ≡ 0 → length (eventsOf l) ≤ room m
-    → eventsRead (reread (writeOf k (eventsOf l) out) m) ≡ eventsOf l
+    → eventsRead (rereading (writeOf k (eventsOf l) out) m) ≡ eventsOf l

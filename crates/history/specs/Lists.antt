@@ -31,8 +31,8 @@ abbrev pub summaryOf : Tuple → Tuple → Statistics
 summaryOf row tries = statisticsOf (countsIn row) tries
 
 -- [8.150] kind, action, process, time: kind 0 is a step without a summary
-abbrev pub callIn : Tuple → Statistics → Call
-callIn row x = record {
+abbrev pub callInRow : Tuple → Statistics → Call
+callInRow row x = record {
   recorded = not (eqb (getD row 0 0) 0);
   action = getD row 1 0;
   process = getD row 2 0;
@@ -61,7 +61,7 @@ unfoldable pub callsIn : List Tuple → List Tuple → List Tuple → List Call
 callsIn [] cs ts = []
 callsIn (r ∷ rs) [] ts = []
 callsIn (r ∷ rs) (c ∷ cs) [] = []
-callsIn (r ∷ rs) (c ∷ cs) (t ∷ ts) = callIn r (summaryOf c t) ∷ callsIn rs cs ts
+callsIn (r ∷ rs) (c ∷ cs) (t ∷ ts) = callInRow r (summaryOf c t) ∷ callsIn rs cs ts
 
 -- [8.156] the list of answers may be the shortest too
 abbrev pub callsOf : List Tuple → Rows → List Call
@@ -125,15 +125,15 @@ MeetsDemand3 k calls l l′ t =
 
 -- helper: the call as the rows have it
 abbrev pub callAt : List Tuple → Rows → ℕ → Call
-callAt calls l i = callIn (getD calls i []) (summaryOf (getD (l .counts) i []) (getD (l .tries) i []))
+callAt calls l i = callInRow (getD calls i []) (summaryOf (getD (l .counts) i []) (getD (l .tries) i []))
 
 -- helper: what it gives back at the table s
 abbrev pub resultAt : State → List Tuple → Rows → ℕ → Recorded
 resultAt s calls l i = callOf s (callAt calls l i)
 
 -- helper: the rows with its result in their places
-abbrev pub stored : Rows → ℕ → Recorded → Rows
-stored l i r = rows (set (l .counts) i (countsRow r)) (set (l .tries) i (triesRow r)) (set (l .answers) i (answerRow r))
+abbrev pub storedAt : Rows → ℕ → Recorded → Rows
+storedAt l i r = rows (set (l .counts) i (countsRow r)) (set (l .tries) i (triesRow r)) (set (l .answers) i (answerRow r))
 
 -- helper: the table after it, and the rows
 pub record Turn : Type 0 where
@@ -146,4 +146,4 @@ turnGave s l = record { state = s; kept = l }
 
 -- helper: the whole turn
 abbrev pub turnOf : State → List Tuple → Rows → ℕ → Turn
-turnOf s calls l i = turnGave (resultAt s calls l i .outcome .state) (stored l i (resultAt s calls l i))
+turnOf s calls l i = turnGave (resultAt s calls l i .outcome .state) (storedAt l i (resultAt s calls l i))

@@ -1,14 +1,14 @@
 -- Sections 5 and 8 of the specification: recorded steps as rows of numbers, each lent the summary that the one before it left, as
 -- `run_recorded` makes them, and all that it gives back. Assumes nothing.
 use Prim.Native.Nat.{ℕ}
-use mathlib.Core.List.{List, [], _∷_, map}
+use mathlib.Core.List.{List, [], map}
 use lib.ListN.{length, getD, set, take}
 use Rattle.model.specs.declared.Parameters.{Parameters}
 use Rattle.model.specs.declared.Recorded.{Recorded}
 use Rattle.model.specs.Answers.{freshOf}
 use Rattle.model.specs.Summaries.{newStatistics, beside}
 use Rattle.model.specs.Texts.{Event, event}
-use Rattle.model.specs.Tallies.{Attempt, attempt}
+use Rattle.model.specs.Tallies.{Attempt, logOf}
 use Rattle.tallies.specs.Tallies.{recordNext, recordAll, recordsOf}
 use Rattle.model.specs.Readings.{over}
 use Rattle.history.specs.Lists.{Tuple, answerRow, ending}
@@ -21,19 +21,13 @@ eventIn row = event (getD row 2 0) (getD row 1 0) (getD row 0 0)
 abbrev pub eventsOf : List Tuple → List Tuple → List Event
 eventsOf acts answers = take (length answers) (map eventIn acts)
 
--- helper: an act with the answer to it
-abbrev pub attemptIn : Tuple → Tuple → Attempt
-attemptIn act answer = attempt (getD act 0 0) (getD act 1 0) (getD act 2 0) (getD answer 0 0)
+-- [8.162] the code in a row of an answer
+abbrev pub codeIn : Tuple → ℕ
+codeIn row = getD row 0 0
 
--- helper: the row at the front is the next one
-unfoldable pub logOnto : List Attempt → List Tuple → List Tuple → List Attempt
-logOnto log [] rs = log
-logOnto log (e ∷ es) [] = log
-logOnto log (e ∷ es) (r ∷ rs) = logOnto (attemptIn e r ∷ log) es rs
-
--- [5.120] [5.125] the log of acts and of the answers to them, the last one first
-abbrev pub logOf : List Tuple → List Tuple → List Attempt
-logOf acts answers = logOnto [] acts answers
+-- [5.120] [5.125] the log of rows of acts and of the rows that have the answers to them
+abbrev pub logIn : List Tuple → List Tuple → List Attempt
+logIn acts answers = logOf (map eventIn acts) (map codeIn answers)
 
 -- All that `run_recorded` gives back: the answer to the fresh table, the table and the summary after the last step, and the answers
 

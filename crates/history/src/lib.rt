@@ -24,7 +24,7 @@ ghost use Rattle.model.specs.Facts.{Accepted};
 ghost use Rattle.model.specs.Calls.{callOf};
 ghost use Rattle.tallies.specs.Tallies.{Tallied};
 ghost use Rattle.history.specs.Lists.{callIn, lentRows, runGave, ranOf, MeetsDemand3, turnGave, turnOf};
-ghost use Rattle.history.specs.RecordedRuns.{logOf, recordedRunGave, recordedRunOf, recordAt};
+ghost use Rattle.history.specs.RecordedRuns.{logIn, recordedRunGave, recordedRunOf, recordAt};
 
 // [8.20] [8.30] One call: a step without a summary (kind 0), or a recorded step with the one that is lent.
 fn make_call(state: State, row: [u64; 4], lent: Statistics) -> Recorded
@@ -122,7 +122,7 @@ fn record_turn(last: Recorded, acts: &[[u64; 3]], answers: &mut [[u64; 3]], i: u
 // The answer is that of `fresh`, the state and the summary those after the last step; the contract has the tally of the acts and their answers.
 pub fn run_recorded(parameters: Parameters, acts: &[[u64; 3]], answers: &mut [[u64; 3]]) -> Recorded
     ensures equals { λ r. ⌜ recordedRunGave r (now (answers .exit)) ≡ recordedRunOf parameters (now (acts .entry)) (now (answers .entry)) ⌝ }
-    ensures tallied { λ r. ⌜ (Accepted (freshOf parameters) → Tallied (logOf (now (acts .entry)) (now (answers .exit))) r) ⌝ }
+    ensures tallied { λ r. ⌜ (Accepted (freshOf parameters) → Tallied (logIn (now (acts .entry)) (now (answers .exit))) r) ⌝ }
 {
     let start = fresh(parameters);
     let answer = start.answer;

@@ -1,8 +1,8 @@
 -- Section 9 of the specification, from a second side: a refusal leaves the lent numbers, an act writes its own places only, a list of
 -- calls on lent numbers is the list of calls of demand 3, and one summary lent to all tells their tally. Assumes nothing.
-use Prim.Native.Nat.{ℕ, _+_, _*_, _-_, _≤_}
+use Prim.Native.Nat.{ℕ, _+_, _*_, _-_, _≤_, _<_}
 use mathlib.Core.Path.{_≡_}
-use mathlib.Core.Logic.{_≢_}
+use mathlib.Core.Logic.{_≢_, _↔_}
 use mathlib.Core.Bool.{Bool, cond}
 use mathlib.Core.List.{List, [], _∷_, _++_, map}
 use lib.ListN.{length, getD, drop, set}
@@ -11,7 +11,10 @@ use Rattle.model.specs.declared.Parameters.{Parameters}
 use Rattle.model.specs.declared.State.{State}
 use Rattle.model.specs.declared.Statistics.{Statistics}
 use Rattle.model.specs.declared.Recorded.{Recorded}
+use Rattle.model.specs.Acts.{waitAct}
+use Rattle.model.specs.States.{lastTime}
 use Rattle.model.specs.Answers.{freshOf}
+use Rattle.model.specs.Facts.{HasDeadline}
 use Rattle.model.specs.Readings.{over}
 use Rattle.model.specs.Summaries.{countsOf, statisticsOf, mostActs}
 use Rattle.layout.specs.Encodings.{headerLength, stride, tableLength, clockPlace, wordPlace, stateNumbers}
@@ -19,8 +22,9 @@ use Rattle.layout.specs.Encodings.{countsLength, summaryLength, statisti
 use Rattle.model.specs.Folds.{endBy, resultsBy, itself}
 use Rattle.model.specs.Calls.{Call}
 use Rattle.model.specs.Texts.{Event}
+use Rattle.model.specs.Tallies.{logOf}
 use Rattle.lists.specs.Demand3.{Demand3}
-use Rattle.tallies.specs.Tallies.{recordAll, recordsOf, logFrom, Tallied, startOf}
+use Rattle.tallies.specs.Tallies.{recordAll, recordsOf, Tallied, startOf}
 use Rattle.layout.specs.Interface.{LentBoth, recordGave, lentFresh, lentStep, lentSummary, lentRecord}
 
 -- Refusals
@@ -122,8 +126,8 @@ abbrev pub noSummary : Statistics
 noSummary = statisticsOf (countsOf (mostActs + 1) 0 0 0 0) []
 
 -- helper: the call of demand 3 that it is
-abbrev pub callIn : LentCall → Call
-callIn d = record {
+abbrev pub callLent : LentCall → Call
+callLent d = record {
   recorded = d .recorded;
   action = d .action;
   process = d .process;
@@ -146,13 +150,22 @@ allInNumbers rest [] rs = []
 allInNumbers rest (d ∷ ds) [] = []
 allInNumbers rest (d ∷ ds) (r ∷ rs) = inNumbers rest d r ∷ allInNumbers rest ds rs
 
+-- [9.140] [8.110] [8.120] nobody is stuck: of the exported step on these numbers, which tell the table s
+pub record LentNotStuck (s : State) (table : List ℕ) : Type 0 where
+  -- [8.110]
+  pub waits : s .clock < lastTime
+      → (lentStep table waitAct 0 (s .clock + 1) .answer .code ≡ 0) ↔ ((i : ℕ) → HasDeadline s i (s .clock) → ⊥)
+  -- [8.120]
+  pub acts : (i : ℕ) → HasDeadline s i (s .clock) → (act : ℕ) × (lentStep table act i (s .clock) .answer .code ≡ 0)
+
 -- [9.140] from the table s, in numbers before `rest`, the calls gave back the numbers of results that meet demand 3
 pub record LentDemand3 (s : State) (table rest : List ℕ) (ds : List LentCall) : Type 0 where
   pub results : List Recorded
   pub last : State
   pub results-are : lentResults table ds ≡ allInNumbers rest ds results
   pub last-is : lentRun table ds ≡ stateNumbers last ++ rest
-  pub demand3 : Demand3 s (map callIn ds) results last
+  pub demand3 : Demand3 s (map callLent ds) results last
+  pub not-stuck : LentNotStuck last (lentRun table ds)
 
 -- [9.140]
 abbrev pub EveryLentList : Type 0
@@ -184,6 +197,10 @@ abbrev pub bothInNumbers : List ℕ → List ℕ → Recorded → LentBoth
 bothInNumbers rest spare r =
     recordGave (r .outcome .answer) (stateNumbers (r .outcome .state) ++ rest) (statisticsNumbers (r .statistics) ++ spare)
 
+-- helper: the code of the answer that a call on lent numbers gave back
+abbrev pub lentCode : LentBoth → ℕ
+lentCode r = r .answer .code
+
 -- [9.150] the steps gave back the numbers of recorded steps, and what the last one left is tallied
 pub record LentTally (k : Parameters) (table summary : List ℕ) (es : List Event) : Type 0 where
   pub results-are :
@@ -192,7 +209,8 @@ pub record LentTally (k : Parameters) (table summary : List ℕ) (es : List Even
   pub last-is :
       lentAll (lentStart k table summary) es
       ≡ bothInNumbers (drop tableLength table) (drop summaryLength summary) (recordAll (startOf (freshOf k .state)) es)
-  pub tallied : Tallied (logFrom [] (startOf (freshOf k .state)) es) (recordAll (startOf (freshOf k .state)) es)
+  pub tallied :
+      Tallied (logOf es (map lentCode (lentRecords (lentStart k table summary) es))) (recordAll (startOf (freshOf k .state)) es)
 
 -- [9.150]
 abbrev pub EveryLentTally : Type 0

@@ -7,7 +7,7 @@ use Rattle.model.specs.declared.Location.{Location}
 use Rattle.model.specs.declared.Location.the-variants.{Remainder}
 use Rattle.model.specs.declared.Parameters.{Parameters}
 use Rattle.model.specs.declared.State.{State}
-use Rattle.model.specs.States.{sinceOf, limitIn, limitOf, entryOf}
+use Rattle.model.specs.States.{sinceOf, entryOf}
 use Rattle.model.specs.Facts.{IsCritical, IsTrying}
 use Rattle.theory.specs.Soundness.{Sound, Fresh}
 use Rattle.theory.specs.Lateness.{AllInTime}
@@ -61,21 +61,13 @@ pub view-past : {s : State} → Sound s → (j : ℕ) → viewOf s .since j ≤ 
 view-past sound zero = omega arith
 view-past {s} sound (suc j) = past-iff (s .clock) (locationOf s (suc j)) .1 (sound .past (suc j))
 
-limit-most : (k : Parameters) (i : ℕ) → limitIn k i ≤ lockOf k .a
-unfolding limitIn
-limit-most k i = omega arith
-
 module _ {s : State} {m : ℕ} (h : AllInTime s m) where
-  process-in-time : (j : ℕ) → InTime (limitOf s j) (s .parameters .c) m (locationOf s j)
+  process-in-time : (j : ℕ) → InTime (s .parameters .a) (s .parameters .c) m (locationOf s j)
   process-in-time zero = omega arith
   process-in-time (suc j) = in-time (locationOf s (suc j)) (λ d k. h (suc j) d (record { from = omega arith; is = k }))
 
   pub view-timely : Timely (lockOf (s .parameters)) (viewOf s) m
   view-timely = record {
-    short = λ j k. omega (
-      arith,
-      process-in-time j .short (k .not-remainder) (k .not-checking) (k .not-critical),
-      limit-most (s .parameters) j,
-    );
+    short = λ j k. process-in-time j .short (k .not-remainder) (k .not-checking) (k .not-critical);
     long = λ j k. process-in-time j .long (k .at);
   }

@@ -8,7 +8,7 @@ use Rattle.model.specs.declared.Location.the-variants.{Testing, Setting,
 use Rattle.model.specs.declared.Parameters.{Parameters}
 use Rattle.model.specs.declared.State.{State}
 use Rattle.model.specs.declared.Outcome.{Outcome}
-use Rattle.model.specs.States.{limitOf, trying, entryOf}
+use Rattle.model.specs.States.{trying, entryOf}
 use Rattle.model.specs.Answers.{freshOf}
 
 -- [4.0] a call is accepted
@@ -49,7 +49,7 @@ pub data Deadline (a c : ℕ) : Location → ℕ → Type 0 where
   resetting : {t : ℕ} → Deadline a c (Resetting t) (t + a)
   leaving : {t : ℕ} → Deadline a c (Leaving t) (t + a)
 
--- [2.90] process i, from 1, has the deadline d
+-- [2.90] process i, from 1, has the deadline d; the two limits are named here, and not by what the step asks for them
 pub record HasDeadline (s : State) (i d : ℕ) : Type 0 where
   pub from : 1 ≤ i
-  pub is : Deadline (limitOf s i) (s .parameters .c) (entryOf s i .location) d
+  pub is : Deadline (s .parameters .a) (s .parameters .c) (entryOf s i .location) d

@@ -10,6 +10,7 @@ use Rattle.model.specs.Acts.{tryAct, critAct, exitAct}
 use Rattle.model.specs.Stages.{critical}
 use Rattle.model.specs.States.{stageOf}
 use Rattle.model.specs.Summaries.{countsOf}
+use Rattle.model.specs.Texts.{Event}
 
 -- [5.120] an action, and the code of the answer to it
 pub record Attempt : Type 0 where
@@ -21,6 +22,16 @@ pub record Attempt : Type 0 where
 -- helper: of its parts
 abbrev pub attempt : ℕ → ℕ → ℕ → ℕ → Attempt
 attempt act p m code = record { action = act; process = p; time = m; code = code }
+
+-- [5.120] the log of these acts, answered with these codes, before an earlier log: the last act stands first, and it ends with the shorter
+unfoldable pub logOnto : List Attempt → List Event → List ℕ → List Attempt
+logOnto log [] codes = log
+logOnto log (e ∷ es) [] = log
+logOnto log (e ∷ es) (code ∷ codes) = logOnto (attempt (e .action) (e .process) (e .time) code ∷ log) es codes
+
+-- [5.120] the log of a list of acts from its start
+abbrev pub logOf : List Event → List ℕ → List Attempt
+logOf es codes = logOnto [] es codes
 
 -- Kinds of attempts
 

@@ -1,8 +1,8 @@
 -- Section 5 of the specification, its last clauses: lists of recorded steps with one summary for all, and that it holds what the log
 -- of the acts and of the answers to them tells. Assumes nothing.
-use Prim.Native.Nat.{_+_}
+use Prim.Native.Nat.{ℕ, _+_}
 use mathlib.Core.Path.{_≡_}
-use mathlib.Core.List.{List, [], _∷_}
+use mathlib.Core.List.{List, map}
 use Rattle.model.specs.declared.State.{State}
 use Rattle.model.specs.declared.Recorded.{Recorded}
 use Rattle.model.specs.Texts.{Event}
@@ -10,7 +10,7 @@ use Rattle.model.specs.Answers.{answers}
 use Rattle.model.specs.Facts.{IsFresh}
 use Rattle.model.specs.Folds.{endBy, resultsBy, itself}
 use Rattle.model.specs.Summaries.{newStatistics, beside, recordedOf}
-use Rattle.model.specs.Tallies.{Attempt, attempt, tallyOf, criticalCount}
+use Rattle.model.specs.Tallies.{Attempt, logOf, tallyOf, criticalCount}
 
 -- [5.120] a recorded step after another, with the table and the summary that it left
 abbrev pub recordNext : Recorded → Event → Recorded
@@ -24,14 +24,9 @@ recordAll r es = endBy recordNext itself r es
 abbrev pub recordsOf : Recorded → List Event → List Recorded
 recordsOf r es = resultsBy recordNext itself r es
 
--- helper: an act with the number of the answer to it
-abbrev pub attemptOf : Event → Recorded → Attempt
-attemptOf e r = attempt (e .action) (e .process) (e .time) (r .outcome .answer .code)
-
--- [5.120] the log of the list, the last act first
-unfoldable pub logFrom : List Attempt → Recorded → List Event → List Attempt
-logFrom log r [] = log
-logFrom log r (e ∷ es) = logFrom (attemptOf e (recordNext r e) ∷ log) (recordNext r e) es
+-- helper: the code of the answer that a recorded step gave back
+abbrev pub codeOf : Recorded → ℕ
+codeOf r = r .outcome .answer .code
 
 -- [5.120] [5.125] [5.130] what the last step left, beside the log of all
 pub record Tallied (log : List Attempt) (r : Recorded) : Type 0 where
@@ -46,4 +41,5 @@ startOf s = beside newStatistics (answers 0 0 0 s)
 
 -- [5.120] [5.125] [5.130] of every list es from a fresh table
 abbrev pub EveryTally : Type 0
-EveryTally = (s : State) → IsFresh s → (es : List Event) → Tallied (logFrom [] (startOf s) es) (recordAll (startOf s) es)
+EveryTally = (s : State) → IsFresh s → (es : List Event)
+    → Tallied (logOf es (map codeOf (recordsOf (startOf s) es))) (recordAll (startOf s) es)

@@ -17,7 +17,7 @@ use Rattle.theory.specs.Lateness.{IsFirst, FirstTold, FirstMissed, Admis
 use Rattle.theory.specs.Lateness.{LateNamesTheFirst, NoneMissedIffAllInTime, NotLateIffAllInTime, LateIsAdmissible}
 use Rattle.model.proofs.Tests.{by-cond, if-eq, clash, and-true-iff, tests}
 use Rattle.theory.proofs.Entries.{Among, here, there, each-cons, each-entry, among-from, among-entry}
-use Rattle.theory.proofs.Locations.{Latest, deadline-timed, deadline-unique, bounded-latest}
+use Rattle.theory.proofs.Locations.{Latest, latest-deadline, deadline-unique, bounded-latest}
 use Rattle.theory.proofs.Steps.{Stepped, stepped}
 
 -- The search
@@ -62,7 +62,7 @@ picked : (s : State) (i : ℕ) (q : Process) (first : Due)
 picked s i q first = by-cond (Picked s i q first) (sooner s i q first)
     (λ e. let h = and-true-iff (bounded s q) _ .0 e in
     taken (bounded-latest s i q (h .0)) (λ n. ltb-true _ _ (simp (ne-eqb _ 0 n) at (h .1))))
-    (λ e. kept (λ d h. omega (arith, deadline-timed h .1, (simp tests at e) (deadline-timed h .0))))
+    (λ e. kept (λ d h. let k = latest-deadline s i q h in omega (arith, k .1, (simp tests at e) (k .0))))
 
 -- the first of the rest is the first of all where it comes before the entry before the rest
 first-of-rest : {s : State} {i p d : ℕ} {q : Process} {qs : List Process} → ((e : ℕ) → Latest s i q e → d < e)

@@ -10,7 +10,7 @@ use Rattle.model.specs.declared.Location.the-variants.{Remainder, Testing, Sett
 use Rattle.model.specs.declared.Process.{Process}
 use Rattle.model.specs.declared.State.{State}
 use Rattle.model.specs.Stages.{remainder, checking, critical}
-use Rattle.model.specs.States.{stageOf, timed, sinceOf, limitOf, bounded, deadline, late, stay}
+use Rattle.model.specs.States.{stageOf, timed, sinceOf, limitIn, bounded, deadline, late, stay}
 use Rattle.model.specs.Facts.{Arrival, Deadline}
 use Rattle.model.proofs.Tests.{tests}
 
@@ -42,7 +42,7 @@ past-iff k l = (λ h t a. omega (arith, arrival-since a), since-past k l)
 
 -- process i, with the entry q, has the deadline d
 abbrev pub Latest : State → ℕ → Process → ℕ → Type 0
-Latest s i q d = Deadline (limitOf s i) (s .parameters .c) (q .location) d
+Latest s i q d = Deadline (s .parameters .a) (s .parameters .c) (q .location) d
 
 abbrev deadlineAt : ℕ → ℕ → Location → ℕ
 deadlineAt a c l = sinceOf l + stay a c l
@@ -82,13 +82,19 @@ deadline-bounded Deadline.entering = omega arith
 deadline-bounded Deadline.resetting = omega arith
 deadline-bounded Deadline.leaving = omega arith
 
--- an entry that is bounded has the deadline that `deadline` gives
+-- an entry that is bounded has the deadline that `deadline` gives: here the limits of the tests meet those of the facts
 pub bounded-latest : (s : State) (i : ℕ) (q : Process) → bounded s q ≡ true → Latest s i q (deadline s i q)
-bounded-latest s i q = timed-deadline (limitOf s i) (s .parameters .c) (q .location)
+unfolding limitIn
+bounded-latest s i q = timed-deadline (s .parameters .a) (s .parameters .c) (q .location)
+
+-- and no other
+pub latest-deadline : (s : State) (i : ℕ) (q : Process) {d : ℕ} → Latest s i q d → (bounded s q ≡ true) × (deadline s i q ≡ d)
+unfolding limitIn
+latest-deadline s i q h = deadline-timed h
 
 -- a process that is not late keeps its deadline, if it has one
 pub not-late-iff : (s : State) (m i : ℕ) (q : Process) → (late s m i q ≡ false) ↔ ((d : ℕ) → Latest s i q d → m ≤ d)
 not-late-iff s m i q = (
-  λ e d h. omega (arith, deadline-timed h .1, (simp tests at e) (deadline-timed h .0)),
+  λ e d h. let k = latest-deadline s i q h in omega (arith, k .1, (simp tests at e) (k .0)),
   λ h. simp tests (λ t. omega (arith, h _ (bounded-latest s i q t))),
 )

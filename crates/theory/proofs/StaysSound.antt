@@ -10,7 +10,7 @@ use Rattle.model.specs.declared.Process.{Process}
 use Rattle.model.specs.declared.Parameters.{Parameters}
 use Rattle.model.specs.declared.State.{State}
 use Rattle.model.specs.Stages.{remainder, critical}
-use Rattle.model.specs.States.{stageOf, sinceOf, limitIn, entryOf, soundOf}
+use Rattle.model.specs.States.{stageOf, sinceOf, entryOf, soundOf}
 use Rattle.model.specs.Answers.{stepOf}
 use Rattle.model.specs.Facts.{Accepted, Deadline}
 use Rattle.theory.specs.Soundness.{ParametersStand, Sound}
@@ -48,7 +48,7 @@ module _ {s s′ : State} {act p m : ℕ} (sound : Sound s) (allowed : Allowed s
   count-stays = ap (λ (k : Parameters). k .n) (changed .parameters-stay)
 
   latest-stays : (i : ℕ) (q : Process) (d : ℕ) → Latest s′ i q d → Latest s i q d
-  latest-stays i q d = subst (λ (k : Parameters). Deadline (limitIn k i) (k .c) (q .location) d) (changed .parameters-stay)
+  latest-stays i q d = subst (λ (k : Parameters). Deadline (k .a) (k .c) (q .location) d) (changed .parameters-stay)
 
   lands : Acts s act p m → Lands (s .parameters .n) m (entryOf s′ p .location) (s′ .word)
   lands a = effect-lands (changed .effect (from-ready (a .from) .not-wait)) (a .most) (sound .word)

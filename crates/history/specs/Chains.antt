@@ -1,0 +1,137 @@
+-- Section 8 of the specification, and the last clauses of section 5, of the code's own calls: a chain has for each call a result that the
+-- contract of the function called allows, as the checker reads it off the source, each on the table that the result before it holds.
+-- Of every chain demand 3 holds, and of every chain of recorded steps the tally. Assumes nothing.
+use Prim.Native.Nat.{ℕ, _+_, _<_}
+use mathlib.Core.Path.{_≡_, refl}
+use mathlib.Core.Logic.{_↔_}
+use mathlib.Core.Bool.{true, false}
+use mathlib.Core.List.{List, [], _∷_, map}
+use base.Logic.{emp}
+use contract.Lifetimes.{Lfts}
+use denote.Ref.{RefT}
+use borrow.Fn.World.{World, Pr}
+use borrow.Fn.Claims.{AllOf}
+use borrow.Fn.Read.{Read, no-know, all-models, r-last}
+use Rattle.model.specs.declared.Parameters.{Parameters}
+use Rattle.model.specs.declared.State.{State}
+use Rattle.model.specs.declared.Outcome.{Outcome}
+use Rattle.model.specs.declared.Statistics.{Statistics}
+use Rattle.model.specs.declared.Recorded.{Recorded}
+use Rattle.model.specs.Acts.{waitAct}
+use Rattle.model.specs.States.{lastTime}
+use Rattle.model.specs.Facts.{Accepted, HasDeadline}
+use Rattle.model.specs.Texts.{Event}
+use Rattle.model.specs.Summaries.{newStatistics, beside}
+use Rattle.model.specs.Folds.{itself}
+use Rattle.model.specs.Calls.{Call, handedOn}
+use Rattle.model.specs.Tallies.{logOf}
+use Rattle.lists.specs.Demand3.{Demand3}
+use Rattle.tallies.specs.Tallies.{codeOf, Tallied}
+use Rattle.machine.proofs.fresh.Reads as fresh-reads
+use Rattle.machine.proofs.step.Reads as step-reads
+use Rattle.statistics.proofs.record.Reads as record-reads
+use Rattle.statistics.proofs.record_step as record-step
+
+-- What the contracts allow
+
+-- [8.135] o is an outcome that the contract of `fresh` allows
+abbrev pub Starts : Parameters → Outcome → Type 0
+Starts k o = fresh-reads.Post tt (k, tt) o (k, tt)
+
+-- [8.135] one that the contract of `step` allows
+abbrev pub Steps : State → ℕ → ℕ → ℕ → Outcome → Type 0
+Steps s a p t o = step-reads.Post tt (s, (a, (p, (t, tt)))) o (s, (a, (p, (t, tt))))
+
+-- [8.135] a result that the contract of `record` allows
+abbrev pub RecordsByValue : State → Statistics → ℕ → ℕ → ℕ → Recorded → Type 0
+RecordsByValue s x a p t r = record-reads.Post tt (s, (x, (a, (p, (t, tt))))) r (s, (x, (a, (p, (t, tt)))))
+
+-- `record_step` takes a reference to a struct, and of such a function the checker makes no reading: its clause is read here, by the
+-- law that the checker's readings use. `lent` is the reference at entry, and `left` at exit.
+module _ (κs : Lfts 1) (s : State) (lent : RefT Statistics) (a p t : ℕ) (o : Outcome) (left : RefT Statistics) where
+  abbrev clause : (w : World) → Pr w
+  clause w =
+      record-step.clauses (w .𝓤) (w .H) (w .𝓖 .A) (w .𝓜 .mem) (w .𝓡 .run) κs (s, (lent, (a, (p, (t, tt))))) .ensures
+      tt o (s, (left, (a, (p, (t, tt)))))
+
+  abbrev reading : Read (λ w. emp (w .𝓤)) no-know clause
+  reading = all-models clause (λ w. r-last _) (λ w. refl) (λ w. refl) (λ w. refl)
+
+  -- [8.135] the contract of `record_step` allows the outcome o, and the summary that `left` leads to
+  abbrev pub RecordsStep : Type 0
+  RecordsStep = AllOf (reading .owes)
+
+-- [8.135] a call of `record_step` that is lent the summary x, and the result that it leaves
+pub record Records (s : State) (x : Statistics) (a p t : ℕ) (r : Recorded) : Type 0 where
+  pub lifetimes : Lfts 1
+  pub lent : RefT Statistics
+  pub left : RefT Statistics
+  pub entry : lent .now ≡ x
+  pub exit : left .now ≡ r .statistics
+  pub allowed : RecordsStep lifetimes s lent a p t (r .outcome) left
+
+-- Chains
+
+-- [8.40] a result for each call, one of those that `Allows` has for it, where the result before it led
+pub data Chained {S D R : Type 0} (Allows : S → D → R → Type 0) (next : R → S) : S → List D → List R → Type 0 where
+  ended : {s : S} → Chained Allows next s [] []
+  made : {s : S} {d : D} {ds : List D} {r : R} {rs : List R} → Allows s d r → Chained Allows next (next r) ds rs
+      → Chained Allows next s (d ∷ ds) (r ∷ rs)
+
+-- helper: where the last result leads, or the start where there is none
+abbrev pub lastOf : {S R : Type 0} → (R → S) → S → List R → S
+lastOf next s [] = s
+lastOf next s (r ∷ rs) = lastOf next (next r) rs
+
+-- [8.20] [8.30] [8.135] a result of one call, by any of the three functions
+pub data Made (s : State) (d : Call) (r : Recorded) : Type 0 where
+  by-step : d .recorded ≡ false → Steps s (d .action) (d .process) (d .time) (r .outcome) → r .statistics ≡ d .lent → Made s d r
+  by-value : d .recorded ≡ true → RecordsByValue s (d .lent) (d .action) (d .process) (d .time) r → Made s d r
+  by-record : d .recorded ≡ true → Records s (d .lent) (d .action) (d .process) (d .time) r → Made s d r
+
+-- [8.40] [8.135] each result on the table of the one before it
+abbrev pub Chain : State → List Call → List Recorded → Type 0
+Chain s ds rs = Chained Made handedOn s ds rs
+
+-- Demand 3
+
+-- [8.110] [8.120] at the table s, of every outcome that the contract of `step` allows
+pub record NotStuck (s : State) : Type 0 where
+  -- [8.110]
+  pub waits : s .clock < lastTime → (o : Outcome) → Steps s waitAct 0 (s .clock + 1) o
+      → Accepted o ↔ ((i : ℕ) → HasDeadline s i (s .clock) → ⊥)
+  -- [8.120]
+  pub acts : (i : ℕ) → HasDeadline s i (s .clock) → (act : ℕ) × ((o : Outcome) → Steps s act i (s .clock) o → Accepted o)
+
+-- [8.130] [8.135] of the calls ds from the table s, which gave back the results rs
+pub record ChainHolds (s : State) (ds : List Call) (rs : List Recorded) : Type 0 where
+  pub demand3 : Demand3 s ds rs (lastOf handedOn s rs)
+  pub not-stuck : NotStuck (lastOf handedOn s rs)
+
+-- [8.10] [8.130] [8.135] whoever makes the calls, from a table that `fresh` gave back with the answer 0
+abbrev pub EveryChain : Type 0
+EveryChain = (k : Parameters) (o : Outcome) (ds : List Call) (rs : List Recorded) → Starts k o → Accepted o → Chain (o .state) ds rs
+    → ChainHolds (o .state) ds rs
+
+-- [8.20] [8.135] the premise is not an empty one: every list of calls has a chain
+abbrev pub SomeChain : Type 0
+SomeChain = (s : State) (ds : List Call) → (rs : List Recorded) × Chain s ds rs
+
+-- The tally
+
+-- helper: a recorded step that is lent the summary of the result r
+abbrev pub callOn : Recorded → Event → Call
+callOn r e = record { recorded = true; action = e .action; process = e .process; time = e .time; lent = r .statistics }
+
+-- [5.120] a result of a recorded step that is lent the summary which the result r before it left
+abbrev pub MadeOn : Recorded → Event → Recorded → Type 0
+MadeOn r e t = Made (r .outcome .state) (callOn r e) t
+
+-- [5.120] each on the table and with the summary of the one before it
+abbrev pub RecordedChain : Recorded → List Event → List Recorded → Type 0
+RecordedChain r es rs = Chained MadeOn itself r es rs
+
+-- [5.120] [5.125] [5.130] whoever makes the calls
+abbrev pub EveryRecordedChain : Type 0
+EveryRecordedChain = (k : Parameters) (o : Outcome) (es : List Event) (rs : List Recorded) → Starts k o → Accepted o
+    → RecordedChain (beside newStatistics o) es rs → Tallied (logOf es (map codeOf rs)) (lastOf itself (beside newStatistics o) rs)
