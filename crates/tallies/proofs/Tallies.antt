@@ -4,7 +4,7 @@ use Prim.Native.Nat.{ℕ, _+_, _-_, _≤_, _<_}
 use mathlib.Core.Path.{_≡_, refl, sym, ap, subst, _∙_}
 use mathlib.Core.Logic.{_≢_, ⊎-elim}
 use mathlib.Core.Bool.{true, false≢true}
-use mathlib.Core.List.{List, [], _∷_}
+use mathlib.Core.List.{List, [], _∷_, map}
 use native.Mathlib.Omega.{arith}
 use lib.ListN.{length}
 use Rattle.model.specs.declared.Process.{Process}
@@ -18,11 +18,11 @@ use Rattle.model.specs.Acts.{waitAct}
 use Rattle.model.specs.States.{trying, soundOf, entryOf}
 use Rattle.model.specs.Answers.{stepOf, freshOf}
 use Rattle.model.specs.Facts.{Accepted, IsFresh, IsTrying}
-use Rattle.model.specs.Folds.{endBy}
+use Rattle.model.specs.Folds.{endBy, resultsBy}
 use Rattle.model.specs.Summaries.{newStatistics, triedAt, acceptedCounted, refusedCounted, noted}
-use Rattle.model.specs.Tallies.{Attempt, attempt, countOf, lastTry, longestWait, criticalCount}
+use Rattle.model.specs.Tallies.{Attempt, attempt, logOnto, countOf, lastTry, longestWait, criticalCount}
 use Rattle.theory.specs.Acceptance.{Allowed, Changed}
-use Rattle.tallies.specs.Tallies.{recordNext, recordAll, logFrom, Tallied, startOf, EveryTally}
+use Rattle.tallies.specs.Tallies.{recordNext, recordAll, recordsOf, codeOf, Tallied, startOf, EveryTally}
 use Rattle.theory.specs.Summaries.{CountsSound, NotFull}
 use Rattle.model.proofs.Tests.{if-eq, clash}
 use Rattle.theory.proofs.Acceptance.{accepted-iff-allowed, next-is-changed, refused-stays}
@@ -145,8 +145,8 @@ module _ {log : List Attempt} {s : State} {x : Statistics} (along : Along log s 
 -- The list
 
 along-all : (log : List Attempt) (r : Recorded) (es : List Event) → Along log (r .outcome .state) (r .statistics)
-    → Along (logFrom log r es) (recordAll r es .outcome .state) (recordAll r es .statistics)
-unfolding logFrom endBy
+    → Along (logOnto log es (map codeOf (recordsOf r es))) (recordAll r es .outcome .state) (recordAll r es .statistics)
+unfolding logOnto resultsBy endBy
 along-all log r [] h = h
 along-all log r (e ∷ es) h = along-all _ (recordNext r e) es
     (along-judged h (e .action) (e .process) (e .time)
