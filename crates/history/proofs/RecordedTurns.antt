@@ -13,14 +13,14 @@ use Rattle.model.specs.Answers.{freshOf}
 use Rattle.model.specs.Facts.{Accepted}
 use Rattle.model.specs.Folds.{resultsBy, itself}
 use Rattle.model.specs.Summaries.{newStatistics, beside}
-use Rattle.model.specs.Tallies.{Attempt}
+use Rattle.model.specs.Tallies.{Attempt, logOnto}
 use Rattle.model.proofs.Lists.{row-at, rows-snoc}
 use Rattle.model.proofs.Folds.{Going, count-going, long-going, moves-on, end-reached, all-written}
 use Rattle.theory.proofs.Soundness.{fresh-is, fresh-answer}
-use Rattle.tallies.specs.Tallies.{recordNext, recordsOf, logFrom, Tallied, startOf}
+use Rattle.tallies.specs.Tallies.{recordNext, recordsOf, codeOf, Tallied, startOf}
 use Rattle.tallies.proofs.Tallies.{every-tally}
 use Rattle.history.specs.Lists.{Tuple, answerRow}
-use Rattle.history.specs.RecordedRuns.{eventIn, eventsOf, logOnto, logOf, RecordedRun, recordedRunGave, started}
+use Rattle.history.specs.RecordedRuns.{eventIn, eventsOf, codeIn, logIn, RecordedRun, recordedRunGave, started}
 use Rattle.history.specs.RecordedRuns.{recordedRunFrom, recordedRunOf, recordAt}
 
 -- The events that rows stand for
@@ -69,8 +69,9 @@ ends r g h = λ j. recordedRunGave (started r (end-reached g h j)) (all-written 
 
 -- the acts, and the answers that are left in their rows, tell the log of the list
 log-onto : (log : List Attempt) (r : Recorded) (acts answers : List Tuple)
-    → logOnto log acts (answered (recordsOf r (eventsOf acts answers)) answers) ≡ logFrom log r (eventsOf acts answers)
-unfolding resultsBy logOnto logFrom
+    → logOnto log (map eventIn acts) (map codeIn (answered (recordsOf r (eventsOf acts answers)) answers))
+    ≡ logOnto log (eventsOf acts answers) (map codeOf (recordsOf r (eventsOf acts answers)))
+unfolding resultsBy logOnto
 log-onto log r [] [] = refl
 log-onto log r [] (b ∷ bs) = refl
 log-onto log r (e ∷ es) [] = refl
@@ -85,7 +86,7 @@ pub fresh-starts : (k : Parameters) → Accepted (freshOf k) → beside newStati
 fresh-starts k accepted = λ j. beside newStatistics (record { answer = fresh-answer k accepted j; state = freshOf k .state })
 
 pub recorded-run-tallied : (k : Parameters) (acts answers : List Tuple) {t : RecordedRun} → t ≡ recordedRunOf k acts answers
-    → Accepted (freshOf k) → Tallied (logOf acts (t .answers)) (t .recorded)
+    → Accepted (freshOf k) → Tallied (logIn acts (t .answers)) (t .recorded)
 unfolding recordedRunOf
 recorded-run-tallied k acts answers e accepted =
     rw (e, fresh-starts k accepted, log-onto [] (startOf (freshOf k .state)) acts answers)

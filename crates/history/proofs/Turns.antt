@@ -17,9 +17,9 @@ use Rattle.model.proofs.Lists.{row-at, rows-next, rows-snoc}
 use Rattle.model.proofs.Folds.{Going, count-going, long-going, moves-on, end-reached, all-written}
 use Rattle.theory.proofs.Soundness.{fresh-is}
 use Rattle.lists.proofs.Demand3.{every-list}
-use Rattle.history.specs.Lists.{Tuple, summaryOf, callIn, Rows, rows, callsIn, callsOf}
+use Rattle.history.specs.Lists.{Tuple, summaryOf, callInRow, Rows, rows, callsIn, callsOf}
 use Rattle.history.specs.Lists.{countsRow, triesRow, answerRow, overwritten, Run, runGave, ending, ranFrom, ranOf, MeetsDemand3}
-use Rattle.history.specs.Lists.{callAt, resultAt, stored, Turn, turnGave, turnOf}
+use Rattle.history.specs.Lists.{callAt, resultAt, storedAt, Turn, turnGave, turnOf}
 
 -- The calls that rows stand for
 
@@ -42,7 +42,7 @@ pub length-calls : (calls : List Tuple) (l : Rows)
 length-calls calls l = simp (length-take, length-calls-in) (omega arith)
 
 call-in-at : (rs cs ts : List Tuple) (i : ℕ) (d : Call) → i < length rs → i < length cs → i < length ts
-    → getD (callsIn rs cs ts) i d ≡ callIn (getD rs i []) (summaryOf (getD cs i []) (getD ts i []))
+    → getD (callsIn rs cs ts) i d ≡ callInRow (getD rs i []) (summaryOf (getD cs i []) (getD ts i []))
 unfolding callsIn
 call-in-at [] cs ts i d p q r = absurd (omega arith)
 call-in-at (a ∷ rs) [] ts i d p q r = absurd (omega arith)
@@ -58,21 +58,21 @@ call-at calls l i d h =
 -- One turn
 
 pub result-at : (s : State) (calls : List Tuple) (l : Rows) (i : ℕ) (x y z : Tuple) → Inside i calls l → {lent : Statistics} {r : Recorded}
-    → lent ≡ summaryOf (getD (l .counts) i y) (getD (l .tries) i z) → r ≡ callOf s (callIn (getD calls i x) lent)
+    → lent ≡ summaryOf (getD (l .counts) i y) (getD (l .tries) i z) → r ≡ callOf s (callInRow (getD calls i x) lent)
     → r ≡ resultAt s calls l i
 result-at s calls l i x y z h e made = made ∙ rw e
-    (λ j. callOf s (callIn (row-at calls i x [] (h .in-calls) j)
+    (λ j. callOf s (callInRow (row-at calls i x [] (h .in-calls) j)
     (summaryOf (row-at (l .counts) i y [] (h .in-counts) j) (row-at (l .tries) i z [] (h .in-tries) j))))
 
 -- the results of the calls before row i have been written
 module _ (rs : List Recorded) (calls : List Tuple) (l : Rows) (i : ℕ) (made : length rs ≡ i) (inside : Inside i calls l) where
   -- the next call is lent the summary that stood in its row at first
   call-next : callAt calls (overwritten rs l) i ≡ callAt calls l i
-  call-next = λ j. callIn (getD calls i []) (summaryOf
+  call-next = λ j. callInRow (getD calls i []) (summaryOf
       (rows-next countsRow rs (l .counts) i made (inside .in-counts) [] j)
       (rows-next triesRow rs (l .tries) i made (inside .in-tries) [] j))
 
-  rows-stored : (r : Recorded) → stored (overwritten rs l) i r ≡ overwritten (rs ++ (r ∷ [])) l
+  rows-stored : (r : Recorded) → storedAt (overwritten rs l) i r ≡ overwritten (rs ++ (r ∷ [])) l
   rows-stored r = λ j. rows
       (rows-snoc countsRow rs (l .counts) i made (inside .in-counts) r j)
       (rows-snoc triesRow rs (l .tries) i made (inside .in-tries) r j)
@@ -81,7 +81,7 @@ module _ (rs : List Recorded) (calls : List Tuple) (l : Rows) (i : ℕ) (made : 
   after-turn : (t : State) → let r = resultAt t calls l i in
       turnOf t calls (overwritten rs l) i ≡ turnGave (r .outcome .state) (overwritten (rs ++ (r ∷ [])) l)
   after-turn t =
-      ap (λ (d : Call). turnGave (tableOf t d) (stored (overwritten rs l) i (callOf t d))) call-next
+      ap (λ (d : Call). turnGave (tableOf t d) (storedAt (overwritten rs l) i (callOf t d))) call-next
       ∙ ap (turnGave (resultAt t calls l i .outcome .state)) (rows-stored (resultAt t calls l i))
 
 -- The loop of `run`: of n calls i have been made, the table is t, and the rows have become m

@@ -23,12 +23,12 @@ ghost use Rattle.model.specs.Answers.{freshOf};
 ghost use Rattle.model.specs.Facts.{Accepted};
 ghost use Rattle.model.specs.Calls.{callOf};
 ghost use Rattle.tallies.specs.Tallies.{Tallied};
-ghost use Rattle.history.specs.Lists.{callIn, lentRows, runGave, ranOf, MeetsDemand3, turnGave, turnOf};
+ghost use Rattle.history.specs.Lists.{callInRow, lentRows, runGave, ranOf, MeetsDemand3, turnGave, turnOf};
 ghost use Rattle.history.specs.RecordedRuns.{logIn, recordedRunGave, recordedRunOf, recordAt};
 
 // [8.20] [8.30] One call: a step without a summary (kind 0), or a recorded step with the one that is lent.
 fn make_call(state: State, row: [u64; 4], lent: Statistics) -> Recorded
-    ensures { λ r. ⌜ r ≡ callOf state (callIn row lent) ⌝ }
+    ensures { λ r. ⌜ r ≡ callOf state (callInRow row lent) ⌝ }
 {
     let kind = row[0];
     if kind == 0 {

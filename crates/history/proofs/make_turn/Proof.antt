@@ -2,7 +2,7 @@
 use mathlib.Core.Path.{_≡_, ap}
 use native.Mathlib.Omega.{arith}
 use Rattle.model.specs.declared.Recorded.{Recorded}
-use Rattle.history.specs.Lists.{Rows, rows, resultAt, stored, turnGave}
+use Rattle.history.specs.Lists.{Rows, rows, resultAt, storedAt, turnGave}
 use Rattle.history.proofs.Turns.{result-at}
 use borrow.Author.Needs.{needs}
 use Rattle.history.proofs.make_turn.Statement.{statement}
@@ -83,7 +83,7 @@ returns c =
     let m = c .before .before .before .before .before .before .before in
     let s = m .before .before .before .before .before in
     rw (c .before .before .tuple-of .ensures, c .before .answer-row .ensures)
-    (ap (λ (r : Recorded). turnGave (r .outcome .state) (stored (lent s) (s .args .i) r)) (made m))
+    (ap (λ (r : Recorded). turnGave (r .outcome .state) (storedAt (lent s) (s .args .i) r)) (made m))
 
 pub make-turn-spec : {M : Type 1} → statement M
 make-turn-spec =
