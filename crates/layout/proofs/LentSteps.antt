@@ -24,7 +24,7 @@ use Rattle.theory.proofs.RecordedSteps.{summary-refused}
 use Rattle.layout.proofs.Encodings.{numbers-come-back, sound-is-table, table-is-sound, summary-numbers-come-back}
 use Rattle.layout.specs.Interface.{Lent, lentGave, outcomeLent, lentFresh, lentStep}
 use Rattle.layout.specs.Interface.{LentSummary, summaryGave, lentSummary, LentBoth, recordGave, recordedLent, lentRecord}
-use Rattle.layout.specs.Guarantees.{LentCall, lentCall, noSummary, callIn, summaryAfter}
+use Rattle.layout.specs.Guarantees.{LentCall, lentCall, noSummary, callLent, summaryAfter}
 
 -- A fresh table
 
@@ -96,7 +96,7 @@ either-given true e f = e
 either-given false e f = f
 
 -- the summary that a list tells leaves the list, which may be too short to tell one
-pub summary-kept : (d : LentCall) → summaryAfter (d .summary) (callIn d .lent) ≡ d .summary
+pub summary-kept : (d : LentCall) → summaryAfter (d .summary) (callLent d .lent) ≡ d .summary
 summary-kept d =
     by-test (ltb (length (d .summary)) summaryLength) (λ e. rw e)
     (λ e. rw e (summary-numbers-come-back (d .summary) (ltb-false _ _ e)))
@@ -109,23 +109,23 @@ module _ (table : List ℕ) (d : LentCall) where
   Gives = CallGiven table (d .summary)
 
   abbrev pub Given : LentBoth → Type 0
-  Given = Gives (callOf s (callIn d))
+  Given = Gives (callOf s (callLent d))
 
   abbrev stepGave : Lent → LentBoth
   stepGave g = recordGave (g .answer) (g .table) (d .summary)
 
-  step-gives : Gives (beside (callIn d .lent) (stepOf s (d .action) (d .process) (d .time)))
+  step-gives : Gives (beside (callLent d .lent) (stepOf s (d .action) (d .process) (d .time)))
       (stepGave (lentStep table (d .action) (d .process) (d .time)))
   unfolding lentStep
   step-gives =
       let o = stepOf s (d .action) (d .process) (d .time) in
-      let r = beside (callIn d .lent) o in
+      let r = beside (callLent d .lent) o in
       by-cond (λ (g : Lent). Gives r (stepGave g)) (not (isSoundTable table)) (λ e. CallGiven.no-table (not-true _ e))
       (λ e. taken-as table (d .summary) r (not-false _ e)
       (λ i. recordGave (o .answer) (over (stateNumbers (o .state)) table) (summary-kept d i)))
 
   record-gives : {g : LentBoth} → RecordGiven table (d .summary) (d .action) (d .process) (d .time) g
-      → Gives (recordedOf s (callIn d .lent) (d .action) (d .process) (d .time)) g
+      → Gives (recordedOf s (callLent d .lent) (d .action) (d .process) (d .time)) g
   unfolding statisticsSound
   record-gives (RecordGiven.no-table e) = CallGiven.no-table e
   record-gives (RecordGiven.no-summary e h) =

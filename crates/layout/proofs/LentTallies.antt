@@ -3,7 +3,7 @@
 use Prim.Native.Nat.{ℕ}
 use mathlib.Core.Path.{_≡_, refl, sym, ap, _∙_}
 use mathlib.Core.Bool.{false}
-use mathlib.Core.List.{List, [], _∷_, _++_, map}
+use mathlib.Core.List.{List, [], _∷_, _++_, map, map-map}
 use native.Mathlib.Omega.{arith}
 use lib.Dec.{ltb}
 use lib.ListN.{length, drop, length-append}
@@ -24,7 +24,8 @@ use Rattle.lists.proofs.Sizes.{Whole, call-whole, tries-as-long}
 use Rattle.tallies.proofs.Tallies.{every-tally}
 use Rattle.layout.proofs.Encodings.{table-length, summary-length, summary-comes-back}
 use Rattle.layout.specs.Interface.{Lent, LentSummary, LentBoth, recordGave}
-use Rattle.layout.specs.Guarantees.{LentCall, lentCall, callIn, inNumbers, lentAll, lentRecords, bothInNumbers, EveryLentTally}
+use Rattle.layout.specs.Guarantees.{LentCall, lentCall, callLent, inNumbers, lentAll, lentRecords}
+use Rattle.layout.specs.Guarantees.{bothInNumbers, lentCode, EveryLentTally}
 use Rattle.layout.proofs.LentSteps.{FreshGiven, fresh-given, NewGiven, new-given, recordCall}
 use Rattle.layout.proofs.LentLists.{call-in-numbers}
 
@@ -49,14 +50,14 @@ module _ (rest spare : List ℕ) (r : Recorded) (whole : BothWhole r) (e : Event
       (omega (arith, length-append (statisticsNumbers (r .statistics)) spare, summary-length (r .statistics) (whole .summary)))
 
   -- the call of demand 3 that it is
-  same-call : callOf (r .outcome .state) (callIn call) ≡ recordNext r e
+  same-call : callOf (r .outcome .state) (callLent call) ≡ recordNext r e
   unfolding callOf
   same-call = rw (enough, summary-comes-back (r .statistics) (whole .summary) spare)
 
   -- it leaves them as many
   next-whole : BothWhole (recordNext r e)
   next-whole = record {
-    table = rw (← same-call) (call-whole (r .outcome .state) (whole .table) (callIn call));
+    table = rw (← same-call) (call-whole (r .outcome .state) (whole .table) (callLent call));
     summary = tries-as-long (r .outcome .state) (r .statistics) (e .action) (e .process) (e .time) ∙ whole .summary;
   }
 
@@ -115,8 +116,10 @@ every-lent-tally k table summary es e f =
     let accepted = fresh-accepted k table summary (fresh-given k table) e in
     let start = fresh-in-numbers k table summary (fresh-given k table) (new-given summary) e f in
     let whole : BothWhole (startOf s) = record { table = fresh-is-plain k .fresh accepted .size; summary = refl } in
+    let results-are = ap (λ (g : LentBoth). lentRecords g es) start ∙ records-in-numbers rest spare (startOf s) whole es in
     record {
-      results-are = ap (λ (g : LentBoth). lentRecords g es) start ∙ records-in-numbers rest spare (startOf s) whole es;
+      results-are = results-are;
       last-is = ap (λ (g : LentBoth). lentAll g es) start ∙ all-in-numbers rest spare (startOf s) whole es;
-      tallied = every-tally s (fresh-is k accepted) es;
+      tallied = rw (results-are, map-map lentCode (bothInNumbers rest spare) (recordsOf (startOf s) es))
+          (every-tally s (fresh-is k accepted) es);
     }

@@ -21,7 +21,7 @@ use Rattle.theory.proofs.Summaries.{recorded-is-plain}
 use Rattle.layout.proofs.Encodings.{sound-is-table, numbers-come-back, summary-numbers-come-back}
 use Rattle.layout.specs.Interface.{Lent, LentSummary, LentBoth}
 use Rattle.layout.specs.Guarantees.{RefusedFreshStays, RefusedStepStays, RefusedSummaryStays, RefusedRecordStays}
-use Rattle.layout.specs.Guarantees.{SummaryStays, RefusedIsCounted, LentCall, lentCall, callIn}
+use Rattle.layout.specs.Guarantees.{SummaryStays, RefusedIsCounted, LentCall, lentCall, callLent}
 use Rattle.layout.proofs.LentSteps.{FreshGiven, fresh-given, NewGiven, new-given, RecordGiven, record-given}
 use Rattle.layout.proofs.LentSteps.{stepCall, recordCall, CallGiven, Given, given}
 
@@ -51,7 +51,7 @@ module _ (table : List ℕ) (d : LentCall) where
   given-stays : {g : LentBoth} → Given table d g → g .answer .code ≢ 0 → g .table ≡ table
   given-stays (CallGiven.no-table _) n = refl
   given-stays (CallGiven.taken e) n =
-      rw (same-table (called (tableIn table) (callIn d)) n) (numbers-come-back table (sound-is-table table e))
+      rw (same-table (called (tableIn table) (callLent d)) n) (numbers-come-back table (sound-is-table table e))
 
   call-stays : lentCall table d .answer .code ≢ 0 → lentCall table d .table ≡ table
   call-stays = given-stays (given table d)

@@ -32,7 +32,7 @@ use Rattle.layout.proofs.Encodings.{table-length, table-fits, table-is-
 use Rattle.layout.proofs.Encodings.{summary-length, summary-is-whole, summary-numbers-come-back}
 use Rattle.layout.specs.Interface.{Lent, LentSummary, LentBoth}
 use Rattle.layout.specs.Guarantees.{Elsewhere, StepWritesItsOwn, RecordWritesItsOwn, SummaryWritesItsOwn, LengthsStay}
-use Rattle.layout.specs.Guarantees.{LentCall, lentCall, callIn}
+use Rattle.layout.specs.Guarantees.{LentCall, lentCall, callLent}
 use Rattle.layout.proofs.LentSteps.{FreshGiven, fresh-given, NewGiven, new-given, RecordGiven, record-given}
 use Rattle.layout.proofs.LentSteps.{stepCall, recordCall, CallGiven, Given, given}
 
@@ -131,21 +131,21 @@ module _ (table : List ℕ) (d : LentCall) where
     whole : Whole (tableIn table)
     whole = table-is-whole table (sound-is-table table sound)
 
-    after-length : length (stateNumbers (tableOf (tableIn table) (callIn d))) ≡ tableLength
-    after-length = table-length (tableOf (tableIn table) (callIn d)) (call-whole (tableIn table) whole (callIn d))
+    after-length : length (stateNumbers (tableOf (tableIn table) (callLent d))) ≡ tableLength
+    after-length = table-length (tableOf (tableIn table) (callLent d)) (call-whole (tableIn table) whole (callLent d))
 
   given-writes : {g : LentBoth} → Given table d g
       → (k : ℕ) → Elsewhere (d .process) k → getD (g .table) k 0 ≡ getD table k 0
   given-writes (CallGiven.no-table _) k e = refl
   given-writes (CallGiven.taken sound) k e =
       let s = tableIn table in
-      over-same (stateNumbers (tableOf s (callIn d))) (stateNumbers s) table (numbers-come-back table (sound-is-table table sound))
-      (after-length sound ∙ sym (table-length s (whole sound))) k (numbers-stay (whole sound) (called s (callIn d)) k e)
+      over-same (stateNumbers (tableOf s (callLent d))) (stateNumbers s) table (numbers-come-back table (sound-is-table table sound))
+      (after-length sound ∙ sym (table-length s (whole sound))) k (numbers-stay (whole sound) (called s (callLent d)) k e)
 
   given-as-long : {g : LentBoth} → Given table d g → length (g .table) ≡ length table
   given-as-long (CallGiven.no-table _) = refl
   given-as-long (CallGiven.taken sound) =
-      over-as-long (stateNumbers (tableOf (tableIn table) (callIn d))) table (after-length sound)
+      over-as-long (stateNumbers (tableOf (tableIn table) (callLent d))) table (after-length sound)
       (table-fits table (sound-is-table table sound))
 
   call-writes : (k : ℕ) → Elsewhere (d .process) k → getD (lentCall table d .table) k 0 ≡ getD table k 0

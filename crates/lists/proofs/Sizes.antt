@@ -12,12 +12,12 @@ use Rattle.model.specs.declared.Recorded.{Recorded}
 use Rattle.model.specs.Answers.{stepOf}
 use Rattle.model.specs.Facts.{Accepted}
 use Rattle.model.specs.Summaries.{acceptedCounted, recordedOf}
-use Rattle.model.specs.Calls.{Call, tableOf}
+use Rattle.model.specs.Calls.{Call, tableOf, runOf}
 use Rattle.theory.specs.Acceptance.{Waits, Acts}
 use Rattle.model.proofs.Tests.{if-eq}
 use Rattle.theory.proofs.Acceptance.{accepted-iff-allowed, next-is-changed}
 use Rattle.theory.proofs.RecordedSteps.{Judged, judged, noted-accepted, noted-refused}
-use Rattle.lists.proofs.Calls.{call-keeps}
+use Rattle.lists.proofs.Calls.{call-keeps, run-keeps}
 
 -- Tables
 
@@ -29,6 +29,9 @@ step-whole s act p m a whole = next-is-changed s whole act p m a .size-stays ∙
 
 pub call-whole : (s : State) → Whole s → (d : Call) → Whole (tableOf s d)
 call-whole s whole d = call-keeps Whole step-whole d whole
+
+pub run-whole : (s : State) → Whole s → (ds : List Call) → Whole (runOf s ds)
+run-whole s whole ds = run-keeps Whole step-whole ds whole
 
 -- Summaries
 
