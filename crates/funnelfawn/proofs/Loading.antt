@@ -229,7 +229,7 @@ module _ (l : List ℕ) (processes : List Process) (done : EntriesRead l process
   sound-is-idle = sym (done .sound) ∙ above-are-idle (stateIn l) (96 - n) (n + 1) (left l n) left-long (omega arith)
 
   -- the entries up to n are read, and the others are idle
-  pub all-loads : areIdle (left l n) ≡ true → Loads l (record { faults = 0; state = stateWith l processes })
+  pub all-loads : areIdle (left l n) ≡ true → Loads l (record { faulty = 0; state = stateWith l processes })
   unfolding stateIn
   all-loads e = record {
     whole = λ _. ap (stateWith l)
@@ -243,5 +243,5 @@ module _ (l : List ℕ) (processes : List Process) (done : EntriesRead l process
   above-fault e = sound-is-idle ∙ e
 
 -- the table is not sound
-pub fault-loads : (l : List ℕ) (s : State) → tellSound l ≡ false → Loads l (record { faults = 1; state = s })
+pub fault-loads : (l : List ℕ) (s : State) → tellSound l ≡ false → Loads l (record { faulty = 1; state = s })
 fault-loads l s e = record { whole = λ h. absurd (omega arith); sound = λ h. absurd (omega arith); unsound = λ _. e }

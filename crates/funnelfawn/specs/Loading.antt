@@ -25,9 +25,9 @@ areIdle (x ∷ xs) = eqb x 0 && areIdle xs
 
 -- there is no fault exactly where the numbers tell a sound table, and then it is read
 pub record Loads (numbers : List ℕ) (r : Loaded) : Type 0 where
-  pub whole : r .faults ≡ 0 → r .state ≡ stateIn numbers
-  pub sound : r .faults ≡ 0 → (areEntries (drop headerLength numbers) && soundOf (stateIn numbers)) ≡ true
-  pub unsound : r .faults ≢ 0 → (areEntries (drop headerLength numbers) && soundOf (stateIn numbers)) ≡ false
+  pub whole : r .faulty ≡ 0 → r .state ≡ stateIn numbers
+  pub sound : r .faulty ≡ 0 → (areEntries (drop headerLength numbers) && soundOf (stateIn numbers)) ≡ true
+  pub unsound : r .faulty ≢ 0 → (areEntries (drop headerLength numbers) && soundOf (stateIn numbers)) ≡ false
 
 -- Writing what an act of process p may have changed
 

@@ -58,7 +58,7 @@ pub extern "C" fn funnelfawn_step(table: &mut [u64], action: u64, process: u64, 
         return answer_with(1, 0, 0);
     }
     let loaded = tables::load(&table[..TABLE]);
-    if loaded.faults != 0 {
+    if loaded.faulty != 0 {
         return answer_with(1, 0, 0);
     }
     let outcome = step(loaded.state, action, process, time);
@@ -97,7 +97,7 @@ pub extern "C" fn funnelfawn_record(
         return answer_with(1, 0, 0);
     }
     let loaded = tables::load(&table[..TABLE]);
-    if loaded.faults != 0 {
+    if loaded.faulty != 0 {
         return answer_with(1, 0, 0);
     }
     if summary.len() < SUMMARY {

@@ -103,7 +103,7 @@ fn parameters_in(table: &[u64]) -> Parameters
 
 // What was read: 0 where the numbers tell a sound table, else 1; and the table, as far as it was read.
 pub(crate) struct Loaded {
-    pub faults: u64,
+    pub faulty: u64,
     pub state: State,
 }
 
@@ -119,7 +119,7 @@ pub(crate) fn load(table: &[u64]) -> Loaded
     let mut processes = [Process {
         location: Location::Remainder,
     }; 96];
-    let mut faults: u64 = 1;
+    let mut faulty: u64 = 1;
     if numbers_stand(parameters, clock, word) {
         let n = parameters.n as usize;
         let mut i: usize = 0;
@@ -135,12 +135,12 @@ pub(crate) fn load(table: &[u64]) -> Loaded
         }
         if i == n {
             if are_idle(table, n) {
-                faults = 0;
+                faulty = 0;
             }
         }
     }
     Loaded {
-        faults: faults,
+        faulty: faulty,
         state: State {
             parameters: parameters,
             clock: clock,

@@ -140,7 +140,7 @@ module _ (s : State) (act p m : ℕ) (f : Survey) (found : Whole s p f) (size : 
     sound-goes : Goes s act p m (stepOf s act p m) (judged f scene (stageOf own) (checkFrom own (s .parameters .b)) t act m)
     unfolding stepOf judged
     sound-goes =
-        by-both (not (soundOf s)) (not (eqb (f .faults) 0)) (ap not (found .sound ∙ sym (eq-eqb _ 0 (found .faultless))))
+        by-both (not (soundOf s)) (not (eqb (f .faulty) 0)) (ap not (found .sound ∙ sym (eq-eqb _ 0 (found .faultless))))
         (λ _. refusal (λ z. omega arith))
         (λ _. by-both (backward s m) _ refl (λ _. refusal (λ z. omega arith))
         (λ _. by-both (beyond m) _ refl (λ _. refusal (λ z. omega arith))
@@ -152,10 +152,10 @@ module _ (s : State) (act p m : ℕ) (f : Survey) (found : Whole s p f) (size : 
 
 -- Any state
 
-unsound-goes : (s : State) (act p m : ℕ) (f : Survey) (own : Location) (t : Transition) → soundOf s ≡ false → f .faults ≢ 0
+unsound-goes : (s : State) (act p m : ℕ) (f : Survey) (own : Location) (t : Transition) → soundOf s ≡ false → f .faulty ≢ 0
     → Goes s act p m (stepOf s act p m) (judged f (sceneOf (s .parameters) (s .clock) p) (stageOf own) (checkFrom own (s .parameters .b)) t act m)
 unfolding stepOf judged
-unsound-goes s act p m f own t e n = rw (e, ne-eqb (f .faults) 0 n) (refusal (λ z. omega arith))
+unsound-goes s act p m f own t e n = rw (e, ne-eqb (f .faulty) 0 n) (refusal (λ z. omega arith))
 
 -- an unsound state is answered with 1
 pub exit-unsound : (s : State) (act p m : ℕ) → soundOf s ≡ false → answers 1 0 0 s ≡ stepOf s act p m

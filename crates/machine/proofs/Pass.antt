@@ -43,7 +43,7 @@ numbers-end s e k = omega (arith, simp tests at e)
 pub record Passed (s : State) (acting i : ℕ) (f : Survey) : Type 0 where
   pub most : i ≤ 96
   pub size : length (s .processes) ≡ 96
-  pub faultless : f .faults ≡ 0
+  pub faultless : f .faulty ≡ 0
   pub stand : standing s ≡ true
   pub sound : entriesSound s (i + 1) (drop i (s .processes)) ≡ entriesSound s 1 (s .processes)
   pub due-yet : Due
@@ -53,13 +53,13 @@ pub record Passed (s : State) (acting i : ℕ) (f : Survey) : Type 0 where
 
 -- what the pass tells: a fault, or what the model's searches give
 pub record Whole (s : State) (acting : ℕ) (f : Survey) : Type 0 where
-  pub faultless : f .faults ≡ 0
+  pub faultless : f .faulty ≡ 0
   pub sound : soundOf s ≡ true
   pub finds : Finds (s .clock) (f .process) (f .left) (firstDeadline s)
   pub critical : othersFrom acting 1 (s .processes) ≡ f .critical
 
 pub data Surveyed (s : State) (acting : ℕ) (f : Survey) : Type 0 where
-  faulty : soundOf s ≡ false → f .faults ≢ 0 → Surveyed s acting f
+  faulty : soundOf s ≡ false → f .faulty ≢ 0 → Surveyed s acting f
   whole : Whole s acting f → Surveyed s acting f
 
 pub nothing-passed : (s : State) (acting : ℕ) → standing s ≡ true → length (s .processes) ≡ 96
@@ -106,14 +106,14 @@ module _ (s : State) (acting i : ℕ) (f : Survey) (passed : Passed s acting i f
   unfolding othersFrom
   critical-left = rw next-entry at (passed .critical)
 
-  pub turn-fault : g .faults ≢ 0 → soundOf s ≡ false
+  pub turn-fault : g .faulty ≢ 0 → soundOf s ≡ false
   turn-fault n = go is-noted
     where
       go : Noted s acting (i + 1) q f g → soundOf s ≡ false
       go (fault t z) = sound-parts s ∙ rw (passed .stand) (sym sound-left ∙ rw t)
       go (fine t) = absurd (n (t .faultless))
 
-  pub turn-passed : g .faults ≡ 0 → Passed s acting (i + 1) g
+  pub turn-passed : g .faulty ≡ 0 → Passed s acting (i + 1) g
   turn-passed n = go is-noted
     where
       go : Noted s acting (i + 1) q f g → Passed s acting (i + 1) g

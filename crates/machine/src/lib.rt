@@ -127,7 +127,7 @@ pub fn step(mut state: State, action: u64, process: u64, time: u64) -> Outcome
         let location = entry.location;
         let number = (i as u64) + 1;
         found = note(found, scene, number, location, limit_of(parameters, number));
-        if found.faults != 0 {
+        if found.faulty != 0 {
             break;
         }
         i += 1;

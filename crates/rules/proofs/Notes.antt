@@ -37,17 +37,17 @@ first x y = cond (eqb x 0) y x
 
 -- entry q of process k is sound, and g is what is found with it where f was found without it
 pub record Turn (s : State) (acting k : ℕ) (q : Process) (f g : Survey) : Type 0 where
-  pub faultless : g .faults ≡ 0
+  pub faultless : g .faulty ≡ 0
   pub sound : entrySound s k q ≡ true
   pub due-next : 1 ≤ k → Ends s k → {d : Due} → Finds (s .clock) (f .process) (f .left) d
       → Finds (s .clock) (g .process) (g .left) (cond (sooner s k q d) (due k (deadline s k q)) d)
   pub critical-next : 1 ≤ k → (rest : ℕ) → first (f .critical) (cond (otherCritical acting k q) k rest) ≡ first (g .critical) rest
 
 pub data Noted (s : State) (acting k : ℕ) (q : Process) (f g : Survey) : Type 0 where
-  fault : entrySound s k q ≡ false → g .faults ≢ 0 → Noted s acting k q f g
+  fault : entrySound s k q ≡ false → g .faulty ≢ 0 → Noted s acting k q f g
   fine : Turn s acting k q f g → Noted s acting k q f g
 
-module _ (s : State) (acting k : ℕ) (f : Survey) (so-far : f .faults ≡ 0) where
+module _ (s : State) (acting k : ℕ) (f : Survey) (so-far : f .faulty ≡ 0) where
   abbrev NotedAs : Location → Survey → Type 0
   NotedAs l g = Noted s acting k (entry l) f g
 
@@ -82,7 +82,7 @@ module _ (s : State) (acting k : ℕ) (f : Survey) (so-far : f .faults ≡ 0) wh
 
       timed-turn : k ≤ s .parameters .n → NotedAs l (cond (leb (f .left) left) f (firstAt k left f))
       timed-turn h = fine (record {
-        faultless = by-cond (λ (g : Survey). g .faults ≡ 0) (leb (f .left) left) (λ _. so-far) (λ _. so-far);
+        faultless = by-cond (λ (g : Survey). g .faulty ≡ 0) (leb (f .left) left) (λ _. so-far) (λ _. so-far);
         sound = timed-sound s k h l t
             ∙ simp (le-leb (sinceOf l) (s .clock) came, le-ltb (deadline s k (entry l)) (s .clock) (omega arith));
         due-next = timed-next;
@@ -142,10 +142,10 @@ module _ (s : State) (acting k : ℕ) (f : Survey) (so-far : f .faults ≡ 0) wh
 
 -- An entry by itself: a note of it finds a fault exactly where it is not sound
 
-pub entry-faults : (k : Parameters) (clock i : ℕ) (l : Location)
-    → eqb (noted (sceneOf k clock 0) i l (limitIn k i) nothing .faults) 0 ≡ entrySound (bare k clock) i (entry l)
-entry-faults k clock i l = told (note-at (bare k clock) 0 i nothing refl l)
+pub entry-faulty : (k : Parameters) (clock i : ℕ) (l : Location)
+    → eqb (noted (sceneOf k clock 0) i l (limitIn k i) nothing .faulty) 0 ≡ entrySound (bare k clock) i (entry l)
+entry-faulty k clock i l = told (note-at (bare k clock) 0 i nothing refl l)
   where
-    told : {g : Survey} → Noted (bare k clock) 0 i (entry l) nothing g → eqb (g .faults) 0 ≡ entrySound (bare k clock) i (entry l)
+    told : {g : Survey} → Noted (bare k clock) 0 i (entry l) nothing g → eqb (g .faulty) 0 ≡ entrySound (bare k clock) i (entry l)
     told (fault e n) = ne-eqb _ 0 n ∙ sym e
     told (fine t) = eq-eqb _ 0 (t .faultless) ∙ sym (t .sound)

@@ -32,7 +32,7 @@ turnJudged others p place release t act m =
 -- helper: any action, from what the pass found
 unfoldable pub judged : Survey → Scene → ℕ → ℕ → Transition → ℕ → ℕ → Answer
 judged f x place release t act m =
-    cond (not (eqb (f .faults) 0)) (answerOf 1 0 0)
+    cond (not (eqb (f .faulty) 0)) (answerOf 1 0 0)
     (cond (ltb m (x .clock)) (answerOf 4 0 (x .clock))
     (cond (beyond m) (answerOf 5 0 0)
     (cond (unknown act) (answerOf 6 0 0)

@@ -30,21 +30,21 @@ endless = 18446744073709551615
 
 -- helper: before the first entry
 abbrev pub nothing : Survey
-nothing = record { faults = 0; process = 0; left = endless; critical = 0 }
+nothing = record { faulty = 0; process = 0; left = endless; critical = 0 }
 
 -- One entry more, that of process k
 
 -- helper: it is not sound
 abbrev pub faulted : Survey → Survey
-faulted f = record { faults = 1; process = f .process; left = f .left; critical = f .critical }
+faulted f = record { faulty = 1; process = f .process; left = f .left; critical = f .critical }
 
 -- helper: it is critical, and the lowest so far
 abbrev pub criticalAt : ℕ → Survey → Survey
-criticalAt k f = record { faults = f .faults; process = f .process; left = f .left; critical = k }
+criticalAt k f = record { faulty = f .faulty; process = f .process; left = f .left; critical = k }
 
 -- helper: its deadline comes first so far
 abbrev pub firstAt : ℕ → ℕ → Survey → Survey
-firstAt k left f = record { faults = f .faults; process = k; left = left; critical = f .critical }
+firstAt k left f = record { faulty = f .faulty; process = k; left = left; critical = f .critical }
 
 -- helper: it is critical; the acting process is left out
 abbrev pub criticalNoted : ℕ → ℕ → Survey → Survey

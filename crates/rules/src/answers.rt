@@ -91,7 +91,7 @@ pub fn judge(
 ) -> Answer
     ensures { λ r. ⌜ r ≡ judged found scene place release transition action time ⌝ }
 {
-    if found.faults != 0 {
+    if found.faulty != 0 {
         return answer_with(1, 0, 0);
     }
     if time < scene.clock {

@@ -31,7 +31,7 @@ pub fn scene_of(parameters: Parameters, clock: u64, acting: u64) -> Scene
 // The fields are numbers only: a bool leaves padding, which each turn of the pass would copy.
 pub struct Survey {
     // 0 where the entries up to here are sound, else 1
-    pub faults: u64,
+    pub faulty: u64,
     // the process whose deadline comes first, the lowest of equals, and the time left to it from the clock
     pub process: u64,
     pub left: u64,
@@ -44,7 +44,7 @@ pub fn empty() -> Survey
     ensures { λ r. ⌜ r ≡ nothing ⌝ }
 {
     Survey {
-        faults: 0,
+        faulty: 0,
         process: 0,
         left: 18446744073709551615,
         critical: 0,
@@ -55,7 +55,7 @@ fn with_fault(found: Survey) -> Survey
     ensures { λ r. ⌜ r ≡ faulted found ⌝ }
 {
     Survey {
-        faults: 1,
+        faulty: 1,
         process: found.process,
         left: found.left,
         critical: found.critical,
@@ -73,7 +73,7 @@ pub fn note_critical(found: Survey, acting: u64, process: u64) -> Survey
         return found;
     }
     Survey {
-        faults: found.faults,
+        faulty: found.faulty,
         process: found.process,
         left: found.left,
         critical: process,
@@ -96,7 +96,7 @@ pub fn note_timed(found: Survey, clock: u64, process: u64, since: u64, limit: u6
         return found;
     }
     Survey {
-        faults: found.faults,
+        faulty: found.faulty,
         process: process,
         left: left,
         critical: found.critical,
@@ -132,5 +132,5 @@ pub fn entry_stands(parameters: Parameters, clock: u64, process: u64, location: 
     let scene = scene_of(parameters, clock, 0);
     let limit = limit_of(parameters, process);
     let found = note(empty(), scene, process, location, limit);
-    found.faults == 0
+    found.faulty == 0
 }

@@ -17,10 +17,10 @@ use Rattle.funnelfawn.proofs.tables.load.Statement.{statement}
 use Rattle.funnelfawn.proofs.tables.load.Tie as tie
 
 abbrev Inv-loop : tie.InvT-loop
-Inv-loop table parameters clock word processes₀ faults n i₀ processes i = EntriesRead table processes i × (i ≤ n) × (n ≤ 96)
+Inv-loop table parameters clock word processes₀ faulty n i₀ processes i = EntriesRead table processes i × (i ≤ n) × (n ≤ 96)
 
 abbrev μ-loop : tie.MeasureT-loop
-μ-loop table parameters clock word processes₀ faults n i₀ processes i = n - i
+μ-loop table parameters clock word processes₀ faulty n i₀ processes i = n - i
 
 parameters-in-requires : tie.Need-parameters-in-requires Inv-loop μ-loop
 parameters-in-requires c κs = search needs

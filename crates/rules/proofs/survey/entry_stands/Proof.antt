@@ -1,6 +1,6 @@
 -- `rules::survey::entry_stands` meets its contract: one note of a pass that has found nothing yet. Assumes nothing.
 use borrow.Author.Needs.{needs}
-use Rattle.rules.proofs.Notes.{entry-faults}
+use Rattle.rules.proofs.Notes.{entry-faulty}
 use Rattle.rules.proofs.survey.entry_stands.Statement.{statement}
 use Rattle.rules.proofs.survey.entry_stands.Tie as tie
 
@@ -23,7 +23,7 @@ returns c =
       c .before .before .empty .ensures,
       c .before .before .before .limit-of .ensures,
       c .before .before .before .before .scene-of .ensures,
-    ) (entry-faults _ _ _ _)
+    ) (entry-faulty _ _ _ _)
 
 pub entry-stands-spec : {M : Type 1} → statement M
 entry-stands-spec = tie.close (tie.spec scene-of-requires limit-of-requires empty-requires note-requires returns)
