@@ -1,13 +1,15 @@
 -- Laws of decimal digits. Assumes nothing.
 use Prim.Native.Nat.{ℕ, zero, suc, _+_, _*_, _/_, _%_, _^_, _≤_, _<_}
-use mathlib.Core.Path.{_≡_, sym, _∙_}
+use mathlib.Core.Path.{_≡_, sym, ap, _∙_}
+use mathlib.Core.Logic.{_↔_}
 use mathlib.Core.List.{[], _∷_, _++_}
 use native.Mathlib.Omega.{arith}
 use native.Mathlib.Nat.{pow-suc}
 use lib.ListN.{length, length-append}
 use borrow.Author.Tests.{lt-ltb, le-ltb}
 use Rattle.model.specs.Texts.{decimalIn, decimal}
-use Rattle.model.proofs.Tests.{if-lt}
+use Rattle.model.proofs.Tests.{if-lt, tests}
+use Rattle.grammar.specs.Digits.{digitsOf, DigitsIffBelow, BoundsAreDigits, FormIffDigits}
 
 in-small : (k v : ℕ) → v < 10 → decimalIn (suc k) v ≡ (48 + v) ∷ []
 unfolding decimalIn
@@ -42,23 +44,53 @@ decimal-next v d h g =
     let r : (v * 10 + d) % 10 ≡ d = omega arith in
     decimal-more (v * 10 + d) (omega arith) ∙ rw (q, r)
 
-pub some-digit : (v : ℕ) → 0 < length (decimal v)
-some-digit v =
-    if-lt v 10
-    (λ h. rw (decimal-small v h) (omega arith))
-    (λ m. rw (decimal-more v m) (omega (arith, length-append (decimal (v / 10)) ((48 + v % 10) ∷ []))))
+digits-more : (v : ℕ) → 10 ≤ v → digitsOf v ≡ digitsOf (v / 10) + 1
+digits-more v h = rw (decimal-more v h) (length-append (decimal (v / 10)) ((48 + v % 10) ∷ []))
+
+pub some-digit : (v : ℕ) → 0 < digitsOf v
+some-digit v = if-lt v 10 (λ h. rw (decimal-small v h) (omega arith)) (λ m. omega (arith, digits-more v m))
 
 -- a number has no more digits than it may
-pub digits-below : (d v : ℕ) → v < 10 ^ suc d → length (decimal v) ≤ suc d
-digits-below zero v h = rw (decimal-small v h) (omega arith)
-digits-below (suc d) v h =
+below-few : (d v : ℕ) → v < 10 ^ suc d → digitsOf v ≤ suc d
+below-few zero v h = rw (decimal-small v h) (omega arith)
+below-few (suc d) v h =
     if-lt v 10
     (λ h. rw (decimal-small v h) (omega arith))
     (λ m.
     let q : 10 ^ suc (suc d) ≡ 10 ^ suc d * 10 = pow-suc 10 (suc d) in
     let g : v / 10 < 10 ^ suc d = omega arith in
-    rw (decimal-more v m) (omega (arith, length-append (decimal (v / 10)) ((48 + v % 10) ∷ []), digits-below d (v / 10) g)))
+    omega (arith, digits-more v m, below-few d (v / 10) g))
+
+-- and one with so few is so small
+few-below : (d v : ℕ) → digitsOf v ≤ suc d → v < 10 ^ suc d
+few-below zero v h = if-lt v 10 (λ l. l) (λ m. absurd (omega (arith, digits-more v m, some-digit (v / 10))))
+few-below (suc d) v h =
+    let q : 10 ^ suc (suc d) ≡ 10 ^ suc d * 10 = pow-suc 10 (suc d) in
+    if-lt v 10
+    (λ l. omega (arith, few-below d 0 (omega (arith, ap length (decimal-small 0 (omega arith))))))
+    (λ m. omega (arith, few-below d (v / 10) (omega (arith, digits-more v m))))
+
+pub digits-iff-below : DigitsIffBelow
+digits-iff-below zero v h = absurd (omega arith)
+digits-iff-below (suc d) v h = (few-below d v, below-few d v)
 
 -- a u64 has at most 20 digits
-pub digits-word : (v : ℕ) → v < 2 ^ 64 → length (decimal v) ≤ 20
-digits-word v h = digits-below 19 v (omega arith)
+pub digits-word : (v : ℕ) → v < 2 ^ 64 → digitsOf v ≤ 20
+digits-word v h = digits-iff-below 20 v (omega arith) .1 (omega arith)
+
+-- The two bounds
+
+-- a bound that is such a power
+exactly : (d v : ℕ) → 1 ≤ d → (v < 10 ^ d) ↔ (digitsOf v ≤ d)
+exactly d v h = let i = digits-iff-below d v h in (i .1, i .0)
+
+pub bounds-are-digits : BoundsAreDigits
+bounds-are-digits = record { time = λ v. exactly _ v (omega arith); number = λ v. exactly _ v (omega arith) }
+
+pub form-iff-digits : FormIffDigits
+form-iff-digits e =
+    let t = bounds-are-digits .time (e .time) in
+    let p = bounds-are-digits .number (e .process) in (
+      λ h. let f = simp tests at h in record { time = t .0 (f .0 .0); process = p .0 (f .0 .1); action = omega arith },
+      λ f. simp tests ((t .1 (f .time), p .1 (f .process)), omega arith),
+    )

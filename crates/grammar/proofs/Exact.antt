@@ -14,16 +14,18 @@ use Rattle.model.specs.declared.Row.{Row}
 use Rattle.model.specs.declared.Row.the-variants.{Step, Unread}
 use Rattle.model.specs.declared.Parameters.{Parameters}
 use Rattle.model.specs.declared.Scan.{Scan}
-use Rattle.model.specs.Texts.{Event, event, eventText, headText, firstLine, eventsText, traceText, hasForm}
-use Rattle.model.specs.Readings.{eventAt, scanOf, headOf, Body, bodyIn, bodyOf, Trace, refused, trace, ofBody, ofHead, traceOf, scannedOf, readOf}
+use Rattle.model.specs.States.{parametersStand}
+use Rattle.model.specs.Texts.{Event, event, eventText, headText, firstLine, eventsText, traceText, hasForm, textLimit}
+use Rattle.model.specs.Readings.{eventAt, scanOf, scanFails, headOf, Body, bodyIn, bodyOf, Trace, refused, trace, ofBody, ofHead, traceOf, scannedOf, readOf}
 use Rattle.model.specs.Writings.{formlessFrom}
 use Rattle.grammar.specs.Exact.{Formed, Says, ReadExactly, WordForEachAct}
-use Rattle.grammar.specs.Faults.{Differs, Fault, step, RefusedFor, RefusalTold}
+use Rattle.grammar.specs.Faults.{Differs, Fault, long, names, values, count, limits, steps, step, RefusedExactly, OneFault, RefusalTold}
 use Rattle.model.proofs.Tests.{by-test, by-cond}
 use Rattle.grammar.proofs.Faults.{fault-some}
 use Rattle.grammar.proofs.Lines.{event-some, event-was, event-reads}
-use Rattle.grammar.proofs.Bodies.{body-step, body-end}
-use Rattle.grammar.proofs.Heads.{first-line, HeadTook, head-line, HeadTells, head-tells, head-reads, trace-events}
+use Rattle.grammar.proofs.Bodies.{body-step, body-fault, body-end}
+use Rattle.grammar.proofs.Heads.{first-line, HeadTook, head-line, HeadTells, head-tells, head-reads, trace-refused, trace-events, trace-fault}
+use Rattle.grammar.proofs.Heads.{fails-long, fails-names, fails-values, fails-count, fails-limits, fails-steps}
 
 -- The steps
 
@@ -89,20 +91,26 @@ unfolding formlessFrom
 first-formed line e es h f =
     by-test (hasForm e) (λ t. (t, simp t at f)) (λ t. let z : line ≡ 0 = simp t at f in absurd (omega arith))
 
--- steps that have a form are read from what is written for them
-body-reads : (line : ℕ) (events : List Event) → 0 < line → formlessFrom line events ≡ 0
-    → bodyOf line (eventsText events) ≡ record { events = events; fault = 0 }
+-- steps that have a form are read from what is written for them, and then what follows is
+abbrev after : List Event → Body → Body
+after es b = record { events = es ++ b .events; fault = b .fault }
+
+body-reads : (line : ℕ) (events : List Event) (rest : List ℕ) → 0 < line → formlessFrom line events ≡ 0
+    → bodyOf line (eventsText events ++ rest) ≡ after events (bodyOf (line + length events) rest)
 unfolding eventsText
-body-reads line [] h f = body-end line
-body-reads line (e ∷ es) h f =
+body-reads line [] rest h f = let z : line + 0 ≡ line = omega arith in rw z
+body-reads line (e ∷ es) rest h f =
     let g = first-formed line e es h f in
-    let s : List ℕ = eventText e ++ eventsText es in
-    let some : 0 < length s = omega (arith, length-append (eventText e) (eventsText es), event-some e) in
-    let q = event-reads line e (eventsText es) (g .0) in
+    let s : List ℕ = eventText e ++ (eventsText es ++ rest) in
+    let some : 0 < length s = omega (arith, length-append (eventText e) (eventsText es ++ rest), event-some e) in
+    let q = event-reads line e (eventsText es ++ rest) (g .0) in
+    let n : line + 1 + length es ≡ line + suc (length es) = omega arith in
     rw (
+      append-assoc,
       body-step line s some (e .time) (e .process) (e .action) (length (eventText e)) q,
       drop-append-seam,
-      body-reads (line + 1) es (omega arith) (g .1),
+      body-reads (line + 1) es rest (omega arith) (g .1),
+      n,
     )
 
 -- Whole traces
@@ -112,8 +120,20 @@ trace-reads k events f =
     let text : List ℕ = traceText k events in
     let h = head-reads k (eventsText events) (f .stand) (f .short) in
     let body : bodyOf (firstLine k) (drop (length (headText k)) text) ≡ record { events = events; fault = 0 } =
-    rw drop-append-seam (body-reads (firstLine k) events (first-line k .0) (f .forms)) in
+    rw (drop-append-seam, ← append-nil (eventsText events))
+    (body-reads (firstLine k) events [] (first-line k .0) (f .forms) ∙ rw (body-end (firstLine k + length events), append-nil)) in
     trace-events text (scanOf (firstLine k) k (length (headText k))) h refl (ap (λ (b : Body). b .fault) body) ∙ rw body
+
+-- a line that is no step ends the steps
+body-stops : (line : ℕ) (rest : List ℕ) → 0 < length rest → ((e : Event) → hasForm e ≡ true → Differs (eventText e) rest)
+    → bodyOf line rest ≡ record { events = []; fault = line }
+body-stops line rest some none = go (eventAt line rest) refl
+  where
+    go : (r : Row) → eventAt line rest ≡ r → bodyOf line rest ≡ record { events = []; fault = line }
+    go (Unread code at) q = body-fault line rest some code at q
+    go (Step t p a i) q =
+        let w = event-was line rest t p a i q in
+        absurd (none (event t p a) (w .formed) (drop i rest) (w .took .split))
 
 -- what a text tells: the trace that it says, or a fault
 abbrev pub TraceTells : List ℕ → Trace → Type 0
@@ -162,13 +182,41 @@ pub read-exactly : ReadExactly
 read-exactly text line k events =
     (λ e. rw e at (trace-tells text), λ h. rw (h .text-is, h .line-is) (trace-reads k events (h .formed)))
 
-pub refused-for : RefusedFor
-refused-for text code line e = rw e at (trace-tells text)
+-- A text with a fault is refused for it
+
+fails-first : {text : List ℕ} {code line : ℕ} → Fault text code line → headOf text ≡ scanFails code line → traceOf text ≡ refused code line
+fails-first {text} {code} {line} f e = trace-refused text (scanFails code line) e (λ z. omega (arith, fault-some f))
+
+fails-step : {text : List ℕ} (k : Parameters) (events : List Event) (rest : List ℕ) → length text ≤ textLimit
+    → text ≡ headText k ++ (eventsText events ++ rest) → parametersStand k ≡ true
+    → formlessFrom (firstLine k) events ≡ 0 → 0 < length rest → ((e : Event) → hasForm e ≡ true → Differs (eventText e) rest)
+    → traceOf text ≡ refused 14 (firstLine k + length events)
+fails-step {text} k events rest short is stand forms some none =
+    let h : headOf text ≡ scanOf (firstLine k) k (length (headText k)) =
+    rw is (head-reads k (eventsText events ++ rest) stand (rw is at short)) in
+    let fault : bodyOf (firstLine k) (drop (length (headText k)) text) .fault ≡ firstLine k + length events =
+    rw (is, drop-append-seam, body-reads (firstLine k) events rest (first-line k .0) forms, body-stops (firstLine k + length events) rest some none) in
+    trace-fault text (scanOf (firstLine k) k (length (headText k))) h refl (λ z. omega (arith, fault, first-line k)) ∙ rw fault
+
+refused-when : {text : List ℕ} {code line : ℕ} → Fault text code line → traceOf text ≡ refused code line
+refused-when {text} (long h) = fails-first (long h) (fails-long text h)
+refused-when {text} (names h d) = fails-first (names h d) (fails-names text h d)
+refused-when {text} (values rest h e d) = fails-first (values rest h e d) (fails-values text rest h e d)
+refused-when (count k rest s c) = fails-first (count k rest s c) (fails-count s c)
+refused-when (limits k rest s c l) = fails-first (limits k rest s c l) (fails-limits s c l)
+refused-when (steps k rest s e d) = fails-first (steps k rest s e d) (fails-steps s e d)
+refused-when (step k events rest h e st f some none) = fails-step k events rest h e st f some none
+
+pub refused-exactly : RefusedExactly
+refused-exactly text code line = (λ e. rw e at (trace-tells text), refused-when)
+
+pub one-fault : OneFault
+one-fault text code line code′ line′ f g = let p = refused-when f in let q = refused-when g in (cc, cc)
 
 pub refusal-told : RefusalTold
 unfolding scannedOf readOf
 refusal-told text l code line e =
-    let some : code ≢ 0 = λ z. omega (arith, fault-some (refused-for text code line e)) in
+    let some : code ≢ 0 = λ z. omega (arith, fault-some (refused-exactly text code line .0 e)) in
     rw e (simp (ne-eqb code 0 some))
 
 pub word-for-each-act : WordForEachAct

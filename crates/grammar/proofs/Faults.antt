@@ -4,10 +4,11 @@ use mathlib.Core.Path.{_≡_}
 use mathlib.Core.Bool.{false}
 use mathlib.Core.List.{List}
 use native.Mathlib.Omega.{arith}
+use lib.ListN.{length, drop}
 use Rattle.model.specs.Readings.{startsWith}
-use Rattle.model.proofs.Tests.{clash}
+use Rattle.model.proofs.Tests.{by-test, clash}
 use Rattle.grammar.specs.Faults.{Differs, Fault, long, names, values, count, limits, steps, step}
-use Rattle.grammar.proofs.Fields.{starts-here}
+use Rattle.grammar.proofs.Fields.{starts-here, starts-took}
 
 -- a refusal has a number that is not 0
 pub fault-some : {text : List ℕ} {code line : ℕ} → Fault text code line → 0 < code
@@ -21,3 +22,6 @@ fault-some (step k events rest h e st f some none) = omega arith
 
 pub differs : (w s : List ℕ) → startsWith w s ≡ false → Differs w s
 differs w s e more q = clash (starts-here w more) (rw q at e)
+
+pub starts-not : (w s : List ℕ) → Differs w s → startsWith w s ≡ false
+starts-not w s d = by-test (startsWith w s) (λ t. absurd (d (drop (length w) s) (starts-took w s t .split))) (λ t. t)

@@ -3,25 +3,25 @@
 use Prim.Native.Nat.{ℕ, _+_, _≤_, _<_}
 use mathlib.Core.Path.{_≡_, refl, sym, ap, _∙_}
 use mathlib.Core.Logic.{_≢_}
-use mathlib.Core.Bool.{true, not}
+use mathlib.Core.Bool.{true, false, not}
 use mathlib.Core.List.{List, [], _∷_, _++_, append-assoc}
 use native.Mathlib.Omega.{arith}
 use native.Mathlib.Nat.{add-assoc}
 use lib.Dec.{ltb, eqb}
 use lib.ListN.{length, drop, length-append}
 use lib.Seq.{drop-append-seam, drop-drop}
-use borrow.Author.Tests.{ltb-true, ltb-false, le-ltb, eq-eqb, ne-eqb, not-true, not-false}
+use borrow.Author.Tests.{ltb-true, ltb-false, lt-ltb, le-ltb, eq-eqb, ne-eqb, not-true, not-false}
 use Rattle.model.specs.declared.Line.{Line}
 use Rattle.model.specs.declared.Parameters.{Parameters}
 use Rattle.model.specs.declared.Scan.{Scan}
 use Rattle.model.specs.States.{countStands, limitsStand, parametersStand, parametersIn}
 use Rattle.model.specs.Texts.{valueNames, valuesText, eventNames, headText, firstLine, textLimit}
-use Rattle.model.specs.Readings.{startsWith, lineOf, numbersAt, scanOf, scanFails, afterValues, ofValues, headOf, bodyOf, refused, trace, traceOf}
+use Rattle.model.specs.Readings.{startsWith, numbersAt, scanOf, scanFails, afterValues, ofValues, headOf, bodyOf, refused, trace, traceOf}
 use Rattle.model.proofs.Tests.{by-cond, and-true-iff, tests}
-use Rattle.grammar.specs.Faults.{Short, Starts, Fault, long, names, values, count, limits, steps}
+use Rattle.grammar.specs.Faults.{Differs, Short, Starts, Fault, long, names, values, count, limits, steps}
 use Rattle.grammar.proofs.Fields.{Took, starts-took}
-use Rattle.grammar.proofs.Lines.{took-both, numbers-long, numbers-fail, values-was, values-reads}
-use Rattle.grammar.proofs.Faults.{fault-some, differs}
+use Rattle.grammar.proofs.Lines.{took-both, numbers-long, numbers-fail, values-was, values-short, values-reads}
+use Rattle.grammar.proofs.Faults.{fault-some, differs, starts-not}
 
 -- two lines of names, and four numbers each with a digit and the byte that ends it
 pub head-long : (k : Parameters) → 38 ≤ length (headText k)
@@ -56,12 +56,13 @@ fails : {text : List ℕ} {code line : ℕ} → Fault text code line → HeadTel
 fails {code = code} f = record { read = λ (z : code ≡ 0). absurd (omega (arith, fault-some f)); faulty = λ _. f }
 
 module _ (text : List ℕ) (short : length text ≤ textLimit) (named : startsWith valueNames text ≡ true) where
-  after-tells : (size : ℕ) (k : Parameters) → Took (drop (length valueNames) text) (valuesText k) size → HeadTells text (afterValues text size k)
+  after-tells : (size : ℕ) (k : Parameters) → Took (drop (length valueNames) text) (valuesText k) size → Short k
+      → HeadTells text (afterValues text size k)
   unfolding headText
-  after-tells size k t =
+  after-tells size k t digits =
       let rest = drop (length valueNames + size) text in
       let split = took-both (starts-took valueNames text named) t .split ∙ append-assoc valueNames (valuesText k) rest in
-      let starts : Starts text k rest = record { short = short; is = split } in
+      let starts : Starts text k rest = record { short = short; is = split; digits = digits } in
       by-cond (HeadTells text) (not (countStands k)) (λ u. fails (count k rest starts (not-true _ u))) (λ u.
       by-cond (HeadTells text) (not (limitsStand k)) (λ v. fails (limits k rest starts (not-false _ u) (not-true _ v))) (λ v.
       let stand = and-true-iff (countStands k) (limitsStand k) .1 (not-false _ u, not-false _ v) in
@@ -83,12 +84,14 @@ module _ (text : List ℕ) (short : length text ≤ textLimit) (named : startsWi
       rw (numbers-fail 2 3 s l e n)
       (fails (values s short (starts-took valueNames text named .split)
       (λ k h more q. n (ap (λ (x : Line). x .code) (sym e ∙ (ap (numbersAt 2 3) q ∙ values-reads 2 k more h)))))))
-      (λ t. after-tells (l .size) (parametersIn (l .numbers)) (values-was 2 s l e (simp tests at t)))
+      (λ t.
+      let z : l .code ≡ 0 = simp tests at t in
+      after-tells (l .size) (parametersIn (l .numbers)) (values-was 2 s l e z) (values-short 2 s l e z))
 
 pub head-tells : (text : List ℕ) → HeadTells text (headOf text)
 unfolding headOf
 head-tells text =
-    by-cond (HeadTells text) (ltb textLimit (length text)) (λ t. fails (long (ltb-true _ _ t))) (λ t.
+    by-cond (HeadTells text) (ltb textLimit (length text)) (λ t. fails (long (omega (arith, ltb-true textLimit (length text) t)))) (λ t.
     by-cond (HeadTells text) (not (startsWith valueNames text)) (λ u. fails (names (ltb-false _ _ t) (differs valueNames text (not-true _ u)))) (λ u.
     values-tell text (ltb-false _ _ t) (not-false _ u) (numbersAt 2 3 (drop (length valueNames) text)) refl))
 
@@ -97,20 +100,59 @@ head-tells text =
 pub stand-short : (k : Parameters) → parametersStand k ≡ true → Short k
 stand-short k e = let m = simp tests at e in record { n = omega arith; a = omega arith; b = omega arith; c = omega arith }
 
+-- what follows values that are read: a refusal of them or of line 3, or the head as a whole
+module _ {text : List ℕ} {k : Parameters} {rest : List ℕ} (s : Starts text k rest) where
+  values-read : headOf text ≡ afterValues text (length (valuesText k)) k
+  unfolding headOf startsWith
+  values-read = rw (le-ltb textLimit (length text) (s .short), s .is, values-reads 2 k rest (s .digits))
+
+  values-left : drop (length valueNames + length (valuesText k)) text ≡ rest
+  values-left = rw (← drop-drop (length (valuesText k)) (length valueNames) text, s .is, drop-append-seam)
+
+  pub fails-count : countStands k ≡ false → headOf text ≡ scanFails 11 2
+  fails-count c = values-read ∙ rw c
+
+  pub fails-limits : countStands k ≡ true → limitsStand k ≡ false → headOf text ≡ scanFails 12 2
+  fails-limits c l = values-read ∙ rw (c, l)
+
+  module _ (e : parametersStand k ≡ true) where
+    pub fails-steps : Differs eventNames rest → headOf text ≡ scanFails 13 3
+    fails-steps d =
+        let f = and-true-iff (countStands k) (limitsStand k) .0 e in
+        values-read ∙ rw (f .0, f .1, values-left, starts-not eventNames rest d)
+
+    head-read : startsWith eventNames rest ≡ true → headOf text ≡ scanOf (firstLine k) k (length (headText k))
+    unfolding headText
+    head-read w =
+        let f = and-true-iff (countStands k) (limitsStand k) .0 e in
+        let size : length valueNames + length (valuesText k) + length eventNames ≡ length (valueNames ++ (valuesText k ++ eventNames)) =
+        omega (arith, length-append (valuesText k) eventNames) in
+        values-read ∙ rw (f .0, f .1, values-left, w, size)
+
 pub head-reads : (k : Parameters) (s : List ℕ) → parametersStand k ≡ true → length (headText k ++ s) ≤ textLimit
     → headOf (headText k ++ s) ≡ scanOf (firstLine k) k (length (headText k))
-unfolding headOf headText startsWith
+unfolding headText startsWith
 head-reads k s e l =
-    let v = valuesText k in
-    let f = and-true-iff (countStands k) (limitsStand k) .0 e in
-    let text : List ℕ = (valueNames ++ (v ++ eventNames)) ++ s in
-    let values : numbersAt 2 3 ((v ++ eventNames) ++ s) ≡ lineOf 2 (k .n ∷ k .a ∷ k .b ∷ k .c ∷ []) (length v) =
-    rw append-assoc (values-reads 2 k (eventNames ++ s) (stand-short k e)) in
-    let rest : drop (length valueNames + length v) text ≡ eventNames ++ s =
-    sym (drop-drop (length v) (length valueNames) text) ∙ simp (append-assoc, drop-append-seam) in
-    let size : length valueNames + length v + length eventNames ≡ length (valueNames ++ (v ++ eventNames)) =
-    omega (arith, length-append v eventNames) in
-    rw (le-ltb textLimit (length text) l, values, f .0, f .1, rest, size)
+    let starts : Starts (headText k ++ s) k (eventNames ++ s) = record { short = l; is = simp append-assoc; digits = stand-short k e } in
+    head-read starts e refl
+
+-- A text that fails before its values
+
+pub fails-long : (text : List ℕ) → textLimit < length text → headOf text ≡ scanFails 15 0
+unfolding headOf
+fails-long text h = rw (lt-ltb textLimit (length text) h)
+
+pub fails-names : (text : List ℕ) → length text ≤ textLimit → Differs valueNames text → headOf text ≡ scanFails 13 1
+unfolding headOf
+fails-names text h d = rw (le-ltb textLimit (length text) h, starts-not valueNames text d)
+
+pub fails-values : (text rest : List ℕ) → length text ≤ textLimit → text ≡ valueNames ++ rest
+    → ((k : Parameters) → Short k → Differs (valuesText k) rest) → headOf text ≡ scanFails 14 2
+unfolding headOf startsWith
+fails-values text rest h e d =
+    let l = numbersAt 2 3 rest in
+    let n : l .code ≢ 0 = λ z. d (parametersIn (l .numbers)) (values-short 2 rest l refl z) (drop (l .size) rest) (values-was 2 rest l refl z .split) in
+    rw (le-ltb textLimit (length text) h, e, numbers-fail 2 3 rest l refl n)
 
 -- What a text says, by its head and its body
 

@@ -172,14 +172,18 @@ numbers-reads line v ws s h = rw zero-add at (from-reads line v ws 0 0 (replicat
 
 -- The parameters: line 2 is such a line
 
-pub values-was : (line : ℕ) (s : List ℕ) (l : Line) → numbersAt line 3 s ≡ l → l .code ≡ 0 → Took s (valuesText (parametersIn (l .numbers))) (l .size)
-unfolding valuesText
-values-was line s l e z = numbers-was line 3 s l (omega arith) e z .took
+module _ (line : ℕ) (s : List ℕ) (l : Line) (e : numbersAt line 3 s ≡ l) (z : l .code ≡ 0) where
+  pub values-was : Took s (valuesText (parametersIn (l .numbers))) (l .size)
+  unfolding valuesText
+  values-was = numbers-was line 3 s l (omega arith) e z .took
+
+  pub values-short : Short (parametersIn (l .numbers))
+  values-short = let h = numbers-was line 3 s l (omega arith) e z .small in omega arith
 
 pub values-reads : (line : ℕ) (k : Parameters) (s : List ℕ) → Short k
     → numbersAt line 3 (valuesText k ++ s) ≡ lineOf line (k .n ∷ k .a ∷ k .b ∷ k .c ∷ []) (length (valuesText k))
 unfolding valuesText
-values-reads line k s h = numbers-reads line (k .n) (k .a ∷ k .b ∷ k .c ∷ []) s (h .n, (h .a, (h .b, (h .c, tt))))
+values-reads line k s h = numbers-reads line (k .n) (k .a ∷ k .b ∷ k .c ∷ []) s (omega arith)
 
 -- A step
 

@@ -17,10 +17,17 @@ abbrev pub ReadTells : Type 0
 ReadTells = (text : List ℕ) (line : ℕ) (k : Parameters) (events : List Event) (l : Lists) → Says text line k events
     → length events ≤ room l → readOf text l ≡ readGave (readingOf 0 (length events) k) (stored events l)
 
+-- [6.133] [6.190] a text says a trace, and the lent lists have room for its steps
+pub record Readable (text : List ℕ) (l : Lists) : Type 0 where
+  pub line : ℕ
+  pub k : Parameters
+  pub events : List Event
+  pub says : Says text line k events
+  pub fits : length events ≤ room l
+
 -- [6.133] [6.190] a reading is accepted exactly then
 abbrev pub ReadIff : Type 0
-ReadIff = (text : List ℕ) (l : Lists) → (readOf text l .reading .answer .code ≡ 0)
-    ↔ ((line : ℕ) × (k : Parameters) × (events : List Event) × Says text line k events × (length events ≤ room l))
+ReadIff = (text : List ℕ) (l : Lists) → (readOf text l .reading .answer .code ≡ 0) ↔ Readable text l
 
 -- [4.70] [6.153] [6.156] a trace that has a form, lent bytes with room for its text: 0, 0 and how many bytes it has
 abbrev pub WriteTells : Type 0

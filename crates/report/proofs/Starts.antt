@@ -17,7 +17,7 @@ use Rattle.model.specs.Executions.{Started, startGave, firstState, startedOf}
 use Rattle.model.specs.Reports.{reportLines}
 use Rattle.grammar.specs.RoundTrips.{firstOf}
 use Rattle.grammar.proofs.Heads.{first-line}
-use Rattle.grammar.proofs.Exact.{read-exactly, refused-for}
+use Rattle.grammar.proofs.Exact.{read-exactly, refused-exactly}
 use Rattle.grammar.proofs.Faults.{fault-some}
 use Rattle.grammar.proofs.Fits.{events-fit}
 use Rattle.grammar.proofs.RoundTrips.{events-back}
@@ -47,7 +47,7 @@ module _ (text : List ℕ) (l : Lists) (wide : room l ≡ 8187) where
   roomy line k events q = le-ltb (room l) (length events) (omega (arith, events-fit text line k events q))
 
   ready-of : (t : Trace) → traceOf text ≡ t → into l t .scan .code ≡ 0 → Ready text (startFrom (into l t))
-  ready-of (refused code line) q = λ (e : code ≡ 0). absurd (omega (arith, fault-some (refused-for text code line q)))
+  ready-of (refused code line) q = λ (e : code ≡ 0). absurd (omega (arith, fault-some (refused-exactly text code line .0 q)))
   ready-of (trace line k events) q =
       rw (roomy line k events q)
       (λ _. record {

@@ -1,22 +1,19 @@
 -- What the calls of a round trip give back, by what each call ensures. Assumes nothing.
 use Prim.Native.Nat.{ℕ, _≤_}
-use mathlib.Core.Path.{_≡_, refl, sym, ap, subst}
+use mathlib.Core.Path.{_≡_, sym, ap, subst}
 use mathlib.Core.Logic.{_≢_}
 use mathlib.Core.List.{List, map}
 use native.Mathlib.Omega.{arith}
-use lib.Dec.{ltb}
 use lib.ListN.{length, drop, length-append, length-map}
 use borrow.Author.Tests.{eq-eqb, ne-eqb}
 use Rattle.model.specs.declared.Parameters.{Parameters}
-use Rattle.model.specs.declared.Answer.{Answer}
 use Rattle.model.specs.Texts.{Event, traceText}
-use Rattle.model.specs.Readings.{Lists, room, over, Trace, refused, trace, traceOf, Scanned, scannedOf, Read, readGave, readingFrom, readOf}
+use Rattle.model.specs.Readings.{Lists, over, Read, readGave, readOf}
 use Rattle.model.specs.Writings.{eventsOf, Written, writeGave, writeOf}
-use Rattle.model.proofs.Tests.{by-cond}
-use Rattle.grammar.specs.RoundTrips.{rewritten, reread}
-use Rattle.grammar.proofs.Faults.{fault-some}
-use Rattle.grammar.proofs.Exact.{refused-for, refusal-told}
-use Rattle.grammar.proofs.RoundTrips.{write-done, write-was, read-then-write, same-events}
+use Rattle.grammar.specs.RoundTrips.{rewritten, rereading}
+use Rattle.grammar.specs.Successes.{Readable}
+use Rattle.grammar.proofs.Successes.{read-tells, read-iff, write-tells, write-iff}
+use Rattle.grammar.proofs.RoundTrips.{read-then-write, same-events}
 use Rattle.round_trips.specs.Trips.{rewriteOf, notRead, rereadOf, ComesBack, StepsComeBack}
 
 -- Reading, then writing
@@ -34,22 +31,17 @@ ReadHeld r = r .reading .answer .code ≡ 0 → Held (r .reading .answer .time) 
 over-long : (f : Event → ℕ) (events : List Event) (l : List ℕ) → length events ≤ length (over (map f events) l)
 over-long f events l = omega (arith, length-append (map f events) (drop (length (map f events)) l), length-map events f)
 
-held-of : (text : List ℕ) (l : Lists) (t : Trace) → traceOf text ≡ t → ReadHeld (readOf text l)
-unfolding readOf scannedOf
-held-of text l (refused code line) e = λ z.
-    absurd (omega (arith, z, ap (λ (r : Answer). r .code) (refusal-told text l code line e), fault-some (refused-for text code line e)))
-held-of text l (trace line k events) e =
-    rw e
-    (by-cond (λ (r : Scanned). ReadHeld (readGave (readingFrom (r .scan)) (r .kept))) (ltb (room l) (length events))
-    (λ _ z. absurd (omega (arith, z)))
-    (λ _ _. record {
-      times = over-long (λ (e : Event). e .time) events (l .times);
-      processes = over-long (λ (e : Event). e .process) events (l .processes);
-      actions = over-long (λ (e : Event). e .action) events (l .actions);
-    }))
+held-of : (text : List ℕ) (l : Lists) → Readable text l → ReadHeld (readOf text l)
+held-of text l r =
+    rw (read-tells text (r .line) (r .k) (r .events) l (r .says) (r .fits))
+    (λ _. record {
+      times = over-long (λ (e : Event). e .time) (r .events) (l .times);
+      processes = over-long (λ (e : Event). e .process) (r .events) (l .processes);
+      actions = over-long (λ (e : Event). e .action) (r .events) (l .actions);
+    })
 
 pub held : (text : List ℕ) (l : Lists) {r : Read} → r ≡ readOf text l → r .reading .answer .code ≡ 0 → Held (r .reading .answer .time) (r .kept)
-held text l e = subst ReadHeld (sym e) (held-of text l (traceOf text) refl)
+held text l e = subst ReadHeld (sym e) (λ z. held-of text l (read-iff text l .0 z) z)
 
 module _ (r : Read) (out : List ℕ) where
   pub rewrite-refused : r .reading .answer .code ≢ 0 → rewriteOf r out ≡ writeGave (r .reading .answer) out
@@ -73,9 +65,9 @@ WriteHeld w = w .answer .code ≡ 0 → w .answer .time ≤ length (w .out)
 
 write-held : (k : Parameters) (events : List Event) (out : List ℕ) → WriteHeld (writeOf k events out)
 write-held k events out e =
-    let f = write-was k events out e in
+    let f = write-iff k events out .0 e in
     let text = traceText k events in
-    rw (write-done k events out (f .0) (f .1)) (omega (arith, length-append text (drop (length text) out)))
+    rw (write-tells k events out (f .0) (f .1)) (omega (arith, length-append text (drop (length text) out)))
 
 pub written-held : (k : Parameters) (events : List Event) (out : List ℕ) {w : Written} → w ≡ writeOf k events out
     → w .answer .code ≡ 0 → w .answer .time ≤ length (w .out)
@@ -86,7 +78,7 @@ module _ (w : Written) (l : Lists) where
   unfolding rereadOf
   reread-refused z = rw (ne-eqb _ _ z)
 
-  pub reread-done : w .answer .code ≡ 0 → rereadOf w l ≡ reread w l
+  pub reread-done : w .answer .code ≡ 0 → rereadOf w l ≡ rereading w l
   unfolding rereadOf
   reread-done z = rw (eq-eqb _ _ z)
 

@@ -12,7 +12,7 @@ use Rattle.model.specs.States.{noParameters}
 use Rattle.model.specs.Texts.{Event}
 use Rattle.model.specs.Readings.{Lists, room, over, Read, readGave, readOf}
 use Rattle.model.specs.Writings.{Written, writeGave, writeOf}
-use Rattle.grammar.specs.RoundTrips.{eventsRead, rewritten, reread}
+use Rattle.grammar.specs.RoundTrips.{eventsRead, rewritten, rereading}
 
 -- [6.205] a reading, and the writing of what was read, or the reading's refusal
 unfoldable pub rewriteOf : Read → List ℕ → Written
@@ -24,7 +24,7 @@ notRead answer = record { answer = answer; parameters = noParameters }
 
 -- [6.215] a writing, and the reading of what was written, or the writing's refusal
 unfoldable pub rereadOf : Written → Lists → Read
-rereadOf w l = cond (eqb (w .answer .code) 0) (reread w l) (readGave (notRead (w .answer)) l)
+rereadOf w l = cond (eqb (w .answer .code) 0) (rereading w l) (readGave (notRead (w .answer)) l)
 
 -- [6.200] the text stands in an output that has room for it, where it is read
 abbrev pub ComesBack : List ℕ → Lists → List ℕ → List ℕ → Type 0
