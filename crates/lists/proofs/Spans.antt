@@ -44,7 +44,7 @@ module _ (k : Parameters) (w W : ℕ) where
   span-clock s (d ∷ ds) g h (inl e) = rw e (call-clock (called s d) g h)
   span-clock s (d ∷ ds) g h (inr span) =
       span-clock (tableOf s d) ds (call-guarded d g)
-      (call-phase (called s d) g (λ e a. span .0 (record { crit = e; accepted = a })) h) (span .1)
+      (call-phase (called s d) g (λ e a. span .0 (omega arith)) h) (span .1)
 
 -- a span stays within any bound B that leaves room at its start
 pub wait-within : {k : Parameters} {s : State} {w : ℕ} {ds : List Call} (B : ℕ) → Guarded k s → Span s w ds
