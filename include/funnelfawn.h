@@ -131,7 +131,10 @@ enum funnelfawn_number {
 };
 
 /* [9.50] A fresh table of n windows with the limits a, b, c: all in remainder, clock 0, word 0.
- *   0, 0, 0 with the table's numbers in `table`; or 11, 12, or, last, 16. */
+ *   0, 0, 0 with the table's numbers in `table`; or 11, 12, or, last, 16.
+ *   Look at the answer before stepping on the list. Refused, it is as it was: one that held an older table holds that table still, sound
+ *   if it was sound, and steps go on from there. (Within Rattle it is otherwise: a `fresh` that is refused gives back a table that is not
+ *   sound, on which every step is refused.) */
 struct funnelfawn_answer funnelfawn_fresh(uint64_t n, uint64_t a, uint64_t b, uint64_t c, uint64_t *table, size_t table_length);
 
 /* [9.60] One act of a window at a moment, the clock from then on.

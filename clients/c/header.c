@@ -95,8 +95,11 @@ static void refusals(void)
     CHECK(record(FUNNELFAWN_ACT_WAIT, 0, 21) == FUNNELFAWN_REFUSED_SUMMARY_FULL);
     summary[FUNNELFAWN_AT_TRIES] = 22;
     CHECK(record(FUNNELFAWN_ACT_WAIT, 0, 21) == FUNNELFAWN_REFUSED_NO_SUMMARY);
+    /* a fresh table that is refused leaves the older one */
+    CHECK(funnelfawn_fresh(97, 5, 8, 12, table, FUNNELFAWN_TABLE_LENGTH).number == FUNNELFAWN_REFUSED_WINDOW_COUNT);
+    CHECK(step(FUNNELFAWN_ACT_CHECK, 3, 29) == FUNNELFAWN_OK);
     table[FUNNELFAWN_AT_WORD] = 97;
-    CHECK(step(FUNNELFAWN_ACT_WAIT, 0, 21) == FUNNELFAWN_REFUSED_NO_TABLE);
+    CHECK(step(FUNNELFAWN_ACT_WAIT, 0, 29) == FUNNELFAWN_REFUSED_NO_TABLE);
 }
 
 /* Lengths: the least that do, and one less; nothing is read through a null pointer with a count of 0. */

@@ -44,6 +44,8 @@ pub struct Reading {
     pub c: u64,
 }
 
+/// Look at the answer before stepping on the list: refused, it is as it was, and one that held an older table holds that table still,
+/// sound if it was sound. [`Table::fresh`](crate::Table::fresh) gives no table then.
 pub fn fresh(n: u64, a: u64, b: u64, c: u64, table: &mut [u64]) -> Answer {
     unsafe { funnelfawn_fresh(n, a, b, c, table.as_mut_ptr(), table.len()) }
 }

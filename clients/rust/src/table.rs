@@ -58,7 +58,7 @@ pub struct Table {
 }
 
 impl Table {
-    /// A table of n windows with the limits a, b, c: all in remainder, at clock 0, with word 0.
+    /// A table of n windows with the limits a, b, c: all in remainder, at clock 0, with word 0. If they are refused there is no table.
     pub fn fresh(n: u64, a: u64, b: u64, c: u64) -> Result<Table, Refusal> {
         let mut table = Table { numbers: [0; raw::TABLE] };
         raw::fresh(n, a, b, c, &mut table.numbers).result()?;
