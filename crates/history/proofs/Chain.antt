@@ -8,16 +8,16 @@ use Rattle.model.specs.declared.Recorded.{Recorded}
 use Rattle.model.specs.Answers.{freshOf}
 use Rattle.model.specs.Facts.{Accepted}
 use Rattle.model.specs.Texts.{Event}
-use Rattle.model.specs.Summaries.{newStatistics, beside}
+use Rattle.model.specs.Summaries.{beside}
 use Rattle.model.specs.Folds.{endBy, resultsBy, itself}
 use Rattle.model.specs.Calls.{Call, callOf, tableOf, handedOn, resultsOf}
 use Rattle.lists.specs.Demand3.{Demand3}
 use Rattle.tallies.specs.Tallies.{recordNext, startOf}
 use Rattle.model.proofs.Tests.{by-test}
-use Rattle.theory.proofs.Soundness.{fresh-is}
+use Rattle.theory.proofs.Soundness.{fresh-is-plain, fresh-is}
 use Rattle.lists.proofs.Demand3.{every-list}
 use Rattle.tallies.proofs.Tallies.{every-tally}
-use Rattle.history.specs.Chains.{Chained, lastOf, Made, Chain, NotStuck, EveryChain, SomeChain, callOn, MadeOn, EveryRecordedChain}
+use Rattle.history.specs.Chains.{Chained, lastOf, Made, Chain, NotStuck, EveryChain, SomeStart, SomeChain, callOn, MadeOn, EveryRecordedChain}
 use Rattle.history.proofs.RecordedTurns.{fresh-starts}
 
 -- Where one result alone is allowed, a chain is the list of calls
@@ -51,10 +51,12 @@ not-stuck d = record {
 
 pub every-chain : EveryChain
 every-chain k o ds rs h accepted ch =
-    let holds : Demand3 (o .state) ds rs (lastOf handedOn (o .state) rs) =
-    rw (chain-last handedOn call-made ch, chain-results handedOn call-made ch)
-    (every-list (o .state) (record { parameters = k; accepted = rw h at accepted; is = ap (λ (q : Outcome). q .state) h }) ds) in
+    let holds : Demand3 (freshOf k .state) ds rs (lastOf handedOn (o .state) rs) =
+    rw (chain-last handedOn call-made ch, chain-results handedOn call-made ch, h) (every-list (freshOf k .state) (fresh-is k (rw h at accepted)) ds) in
     record { demand3 = holds; not-stuck = not-stuck holds }
+
+pub some-start : SomeStart
+some-start k stand = (freshOf k, refl, fresh-is-plain k .accepted .1 stand)
 
 -- Every list has a chain
 
@@ -86,7 +88,7 @@ unfolding callOf
 next-made r e t m = call-made (r .outcome .state) (callOn r e) t m
 
 pub every-recorded-chain : EveryRecordedChain
-every-recorded-chain k o es rs h accepted ch =
+every-recorded-chain k o x es rs h accepted new ch =
     let given : Accepted (freshOf k) = rw h at accepted in
-    let start : beside newStatistics o ≡ startOf (freshOf k .state) = ap (beside newStatistics) h ∙ fresh-starts k given in
+    let start : beside x o ≡ startOf (freshOf k .state) = (λ i. beside (new i) (h i)) ∙ fresh-starts k given in
     rw (chain-last itself next-made ch, chain-results itself next-made ch, start) (every-tally (freshOf k .state) (fresh-is k given) es)

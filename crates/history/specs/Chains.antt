@@ -1,6 +1,6 @@
 -- Section 8 of the specification, and the last clauses of section 5, of the code's own calls: a chain has for each call a result that the
--- contract of the function called allows, as the checker reads it off the source, each on the table that the result before it holds.
--- Of every chain demand 3 holds, and of every chain of recorded steps the tally. Assumes nothing.
+-- contract of the function called allows, as the checker reads it off the source (of `record_step`, as it is read below), each on the table
+-- that the result before it holds. Of every chain demand 3 holds, and of every chain of recorded steps the tally. Assumes nothing.
 use Prim.Native.Nat.{ℕ, _+_, _<_}
 use mathlib.Core.Path.{_≡_, refl}
 use mathlib.Core.Logic.{_↔_}
@@ -18,17 +18,20 @@ use Rattle.model.specs.declared.Outcome.{Outcome}
 use Rattle.model.specs.declared.Statistics.{Statistics}
 use Rattle.model.specs.declared.Recorded.{Recorded}
 use Rattle.model.specs.Acts.{waitAct}
+use Rattle.model.specs.Answers.{freshOf}
 use Rattle.model.specs.States.{lastTime}
 use Rattle.model.specs.Facts.{Accepted, HasDeadline}
 use Rattle.model.specs.Texts.{Event}
-use Rattle.model.specs.Summaries.{newStatistics, beside}
+use Rattle.model.specs.Summaries.{beside}
 use Rattle.model.specs.Folds.{itself}
 use Rattle.model.specs.Calls.{Call, handedOn}
 use Rattle.model.specs.Tallies.{logOf}
+use Rattle.theory.specs.Soundness.{ParametersStand}
 use Rattle.lists.specs.Demand3.{Demand3}
 use Rattle.tallies.specs.Tallies.{codeOf, Tallied}
 use Rattle.machine.proofs.fresh.Reads as fresh-reads
 use Rattle.machine.proofs.step.Reads as step-reads
+use Rattle.statistics.proofs.new_statistics.Reads as new-reads
 use Rattle.statistics.proofs.record.Reads as record-reads
 use Rattle.statistics.proofs.record_step as record-step
 
@@ -38,7 +41,11 @@ use Rattle.statistics.proofs.record_step as record-step
 abbrev pub Starts : Parameters → Outcome → Type 0
 Starts k o = fresh-reads.Post tt (k, tt) o (k, tt)
 
--- [8.135] one that the contract of `step` allows
+-- [5.20] [8.135] x is a summary that the contract of `new_statistics` allows
+abbrev pub StartsSummary : Statistics → Type 0
+StartsSummary x = new-reads.Post tt tt x tt
+
+-- [8.135] an outcome that the contract of `step` allows
 abbrev pub Steps : State → ℕ → ℕ → ℕ → Outcome → Type 0
 Steps s a p t o = step-reads.Post tt (s, (a, (p, (t, tt)))) o (s, (a, (p, (t, tt))))
 
@@ -103,17 +110,24 @@ pub record NotStuck (s : State) : Type 0 where
   -- [8.120]
   pub acts : (i : ℕ) → HasDeadline s i (s .clock) → (act : ℕ) × ((o : Outcome) → Steps s act i (s .clock) o → Accepted o)
 
--- [8.130] [8.135] of the calls ds from the table s, which gave back the results rs
-pub record ChainHolds (s : State) (ds : List Call) (rs : List Recorded) : Type 0 where
-  pub demand3 : Demand3 s ds rs (lastOf handedOn s rs)
-  pub not-stuck : NotStuck (lastOf handedOn s rs)
+-- [8.50] [8.130] [8.135] of the calls ds, which gave back the results rs and left the table t: the plain table beside them is fresh with the
+-- parameters k
+pub record ChainHolds (k : Parameters) (ds : List Call) (rs : List Recorded) (t : State) : Type 0 where
+  pub demand3 : Demand3 (freshOf k .state) ds rs t
+  pub not-stuck : NotStuck t
 
--- [8.10] [8.130] [8.135] whoever makes the calls, from a table that `fresh` gave back with the answer 0
+-- [8.10] [8.130] [8.135] whoever makes the calls, from a table that `fresh` gave back for k with the answer 0
 abbrev pub EveryChain : Type 0
 EveryChain = (k : Parameters) (o : Outcome) (ds : List Call) (rs : List Recorded) → Starts k o → Accepted o → Chain (o .state) ds rs
-    → ChainHolds (o .state) ds rs
+    → ChainHolds k ds rs (lastOf handedOn (o .state) rs)
 
--- [8.20] [8.135] the premise is not an empty one: every list of calls has a chain
+-- The premises are not empty ones
+
+-- [8.10] `fresh` may answer 0 for whatever parameters stand
+abbrev pub SomeStart : Type 0
+SomeStart = (k : Parameters) → ParametersStand k → (o : Outcome) × Starts k o × Accepted o
+
+-- [8.20] [8.135] and every list of calls has a chain, whatever table it starts from
 abbrev pub SomeChain : Type 0
 SomeChain = (s : State) (ds : List Call) → (rs : List Recorded) × Chain s ds rs
 
@@ -131,7 +145,8 @@ MadeOn r e t = Made (r .outcome .state) (callOn r e) t
 abbrev pub RecordedChain : Recorded → List Event → List Recorded → Type 0
 RecordedChain r es rs = Chained MadeOn itself r es rs
 
--- [5.120] [5.125] [5.130] whoever makes the calls
+-- [5.120] [5.125] [5.130] whoever makes the calls, from a table that `fresh` gave back with the answer 0, and a summary of `new_statistics`
 abbrev pub EveryRecordedChain : Type 0
-EveryRecordedChain = (k : Parameters) (o : Outcome) (es : List Event) (rs : List Recorded) → Starts k o → Accepted o
-    → RecordedChain (beside newStatistics o) es rs → Tallied (logOf es (map codeOf rs)) (lastOf itself (beside newStatistics o) rs)
+EveryRecordedChain = (k : Parameters) (o : Outcome) (x : Statistics) (es : List Event) (rs : List Recorded)
+    → Starts k o → Accepted o → StartsSummary x → RecordedChain (beside x o) es rs
+    → Tallied (logOf es (map codeOf rs)) (lastOf itself (beside x o) rs)

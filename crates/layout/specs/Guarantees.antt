@@ -13,7 +13,7 @@ use Rattle.model.specs.declared.Statistics.{Statistics}
 use Rattle.model.specs.declared.Recorded.{Recorded}
 use Rattle.model.specs.Acts.{waitAct}
 use Rattle.model.specs.States.{lastTime}
-use Rattle.model.specs.Answers.{freshOf}
+use Rattle.model.specs.Answers.{answerOf, freshOf}
 use Rattle.model.specs.Facts.{HasDeadline}
 use Rattle.model.specs.Readings.{over}
 use Rattle.model.specs.Summaries.{countsOf, statisticsOf, mostActs}
@@ -59,6 +59,13 @@ abbrev pub RefusedIsCounted : Type 0
 RefusedIsCounted = (table summary : List ℕ) (act p m : ℕ)
     → 4 ≤ lentRecord table summary act p m .answer .code
     → lentRecord table summary act p m .summary ≡ set summary 1 (getD summary 1 0 + 1)
+
+-- Successes
+
+-- [4.70] [9.50] [9.70] what the two calls that are lent only an output answer; what they write is `FreshIsPlain` in numbers, and zeros
+pub record LentSuccesses : Type 0 where
+  pub fresh : (k : Parameters) (table : List ℕ) → lentFresh k table .answer .code ≡ 0 → lentFresh k table .answer ≡ answerOf 0 0 0
+  pub new-summary : (summary : List ℕ) → lentSummary summary .answer .code ≡ 0 → lentSummary summary .answer ≡ answerOf 0 0 0
 
 -- An act writes the clock, the word and the entry of its process; and of a summary the counts and the try moment of its process
 
@@ -150,7 +157,7 @@ allInNumbers rest [] rs = []
 allInNumbers rest (d ∷ ds) [] = []
 allInNumbers rest (d ∷ ds) (r ∷ rs) = inNumbers rest d r ∷ allInNumbers rest ds rs
 
--- [9.140] [8.110] [8.120] nobody is stuck: of the exported step on these numbers, which tell the table s
+-- [9.140] [8.110] [8.120] nobody is stuck: of the exported step on the numbers `table`, where they tell the table s
 pub record LentNotStuck (s : State) (table : List ℕ) : Type 0 where
   -- [8.110]
   pub waits : s .clock < lastTime
