@@ -1,24 +1,21 @@
--- The first deadline of a state: the smallest, then that of the lowest process, and none exactly where no process has one; and the
--- answer 8, which names it where it is missed. Assumes nothing.
+-- The first deadline of a state: the smallest, then that of the lowest process, and none exactly where no process has one.
+-- Assumes nothing.
 use Prim.Native.Nat.{ℕ, _+_, _≤_, _<_}
 use mathlib.Core.Path.{_≡_, refl}
-use mathlib.Core.Logic.{_≢_, _↔_}
-use mathlib.Core.Bool.{true, false, cond}
+use mathlib.Core.Logic.{_≢_}
+use mathlib.Core.Bool.{true, cond}
 use mathlib.Core.List.{List, [], _∷_}
 use native.Mathlib.Omega.{arith}
 use borrow.Author.Tests.{ltb-true, ne-eqb}
 use Rattle.model.specs.declared.Process.{Process}
 use Rattle.model.specs.declared.State.{State}
-use Rattle.model.specs.declared.Outcome.{Outcome}
 use Rattle.model.specs.States.{bounded, deadline}
 use Rattle.model.specs.Answers.{Due, due, noneDue, sooner, firstFrom, firstDeadline, missed}
 use Rattle.model.specs.Facts.{HasDeadline}
-use Rattle.theory.specs.Lateness.{IsFirst, FirstTold, FirstMissed, Admissible, FirstIsFirst}
-use Rattle.theory.specs.Lateness.{LateNamesTheFirst, NoneMissedIffAllInTime, NotLateIffAllInTime, LateIsAdmissible}
-use Rattle.model.proofs.Tests.{by-cond, if-eq, clash, and-true-iff, tests}
+use Rattle.theory.specs.Lateness.{IsFirst, FirstTold, FirstMissed, FirstIsFirst, NoneMissedIffAllInTime}
+use Rattle.model.proofs.Tests.{by-cond, if-eq, and-true-iff, tests}
 use Rattle.theory.proofs.Entries.{Among, here, there, each-cons, each-entry, among-from, among-entry}
 use Rattle.theory.proofs.Locations.{Latest, latest-deadline, deadline-unique, bounded-latest}
-use Rattle.theory.proofs.Steps.{Stepped, stepped}
 
 -- The search
 
@@ -135,39 +132,22 @@ none-missed-iff-all-in-time s m =
       λ h. simp tests (λ n. omega (arith, h _ _ (told .some n .has))),
     )
 
--- The answer of a step
+-- A first deadline that is missed
 
-missed-first : {s : State} {m : ℕ} → missed (firstDeadline s) m ≡ true
+pub missed-first : (s : State) (m : ℕ) → missed (firstDeadline s) m ≡ true
     → FirstMissed s m (firstDeadline s .process) (firstDeadline s .time)
-missed-first {s} {m} e =
+missed-first s m e =
     let h = simp tests at e in
     record { first = first-is-first s .some (h .0); missed = h .1 }
 
-late-first : {s : State} {act p m : ℕ} {o : Outcome} → Stepped s act p m o → o .answer .code ≡ 8
-    → FirstMissed s m (o .answer .process) (o .answer .time)
-late-first (Stepped.refused r) e = absurd (r .numbered .not-late e)
-late-first (Stepped.late a l) e = missed-first l
-late-first (Stepped.accepted g) e = absurd (omega arith)
+-- it is the only one
+first-unique : {s : State} {p d i e : ℕ} → IsFirst s p d → IsFirst s i e → due p d ≡ due i e
+first-unique {s} {p} {d} {i} {e} f g =
+    let time : d ≡ e = omega (arith, f .smallest i e (g .has), g .smallest p d (f .has)) in
+    let process : p ≡ i = omega (arith, f .lowest i (rw time (g .has)), g .lowest p (rw (← time) (f .has))) in
+    λ j. due (process j) (time j)
 
-pub late-names-the-first : LateNamesTheFirst
-late-names-the-first s act p m = late-first (stepped s act p m)
-
-not-late-none-missed : {s : State} {act p m : ℕ} {o : Outcome} → Stepped s act p m o → Admissible s act p m
-    → (o .answer .code ≢ 8) ↔ (missed (firstDeadline s) m ≡ false)
-not-late-none-missed (Stepped.refused r) d = (λ _. r .none-missed d, λ _. r .numbered .not-late)
-not-late-none-missed (Stepped.late a l) d = (λ n. absurd (n refl), λ e. clash l e)
-not-late-none-missed (Stepped.accepted g) d = (λ _. g .in-time, λ _. omega arith)
-
-pub not-late-iff-all-in-time : NotLateIffAllInTime
-not-late-iff-all-in-time s act p m d =
-    let h = not-late-none-missed (stepped s act p m) d in
-    let k = none-missed-iff-all-in-time s m in
-    (λ n. k .0 (h .0 n), λ a. h .1 (k .1 a))
-
-late-admissible : {s : State} {act p m : ℕ} {o : Outcome} → Stepped s act p m o → o .answer .code ≡ 8 → Admissible s act p m
-late-admissible (Stepped.refused r) e = absurd (r .numbered .not-late e)
-late-admissible (Stepped.late a l) e = a
-late-admissible (Stepped.accepted g) e = g .admissible
-
-pub late-is-admissible : LateIsAdmissible
-late-is-admissible s act p m = late-admissible (stepped s act p m)
+pub first-is-due : {s : State} {p d : ℕ} → IsFirst s p d → firstDeadline s ≡ due p d
+first-is-due {s} {p} {d} f =
+    let told = first-is-first s in
+    first-unique (told .some (λ z. told .none .0 z p d (f .has))) f

@@ -2,9 +2,11 @@
 pub mod Entries
 pub mod Locations
 pub mod Rows
-pub mod Steps
 pub mod Soundness
 pub mod Lateness
+pub mod Conditions
+pub mod Steps
+pub mod Refusals
 pub mod Acceptance
 pub mod Lowest
 pub mod StaysSound

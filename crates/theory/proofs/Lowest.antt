@@ -91,4 +91,4 @@ module _ (s : State) where
 -- The answer of a step
 
 pub accepted-tells : AcceptedTells
-accepted-tells s act p m a = rw (accepted-is (stepped s act p m) a .1) (accepts-tells (effect s act p m))
+accepted-tells s act p m a = rw (accepted-is (stepped s act p m) a .is) (accepts-tells (effect s act p m))

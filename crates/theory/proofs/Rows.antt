@@ -1,7 +1,7 @@
 -- The table of section 3 of the specification, `leaves` and `transitionOf` against the relations `From` and `Effect`.
 -- These laws look at each act, so that other proofs need not. Assumes nothing.
 use Prim.Native.Nat.{ℕ, _+_, _≤_}
-use mathlib.Core.Path.{_≡_, refl, sym, subst}
+use mathlib.Core.Path.{_≡_, refl, sym, ap, _∙_, subst}
 use mathlib.Core.Logic.{_≢_}
 use mathlib.Core.Bool.{cond}
 use native.Mathlib.Omega.{arith}
@@ -12,10 +12,12 @@ use Rattle.model.specs.declared.Location.the-variants.{Remainder, Testing, Sett
 use Rattle.model.specs.declared.State.{State}
 use Rattle.model.specs.Stages.{remainder, testing, setting, checking, entering, critical, resetting, leaving}
 use Rattle.model.specs.Acts.{waitAct, tryAct, testAct, setAct, checkAct, critAct, exitAct, resetAct, remAct, lastAct, leaves}
-use Rattle.model.specs.States.{stageOf, sinceOf}
+use Rattle.model.specs.States.{stageOf, sinceOf, release, entryOf}
 use Rattle.model.specs.Actions.{transitionOf}
 use Rattle.theory.specs.Acceptance.{From, Effect}
+use Rattle.theory.specs.Refusals.{InPlace}
 use Rattle.model.proofs.Tests.{by-cond}
+use Rattle.model.proofs.Locations.{stage-location}
 
 -- What an act leaves
 
@@ -84,6 +86,28 @@ from-leaves (Leaving t) h Leaves.rem = From.rem
 pub ready-from : {b m act : ℕ} (l : Location) → Ready b m act l → From b m act l
 ready-from {act = act} l h =
     from-leaves l (h .released) (subst (Leaves act) (sym (h .placed)) (act-leaves act (h .not-wait) (h .known)))
+
+-- Where an act may be taken at some time
+
+module _ (s : State) (p : ℕ) {act : ℕ} where
+  pub placed-stage : InPlace s act p → stageOf (entryOf s p .location) ≡ leaves act
+  placed-stage h = from-ready (h .1) .placed
+
+  pub stage-placed : act ≢ waitAct → act ≤ lastAct → stageOf (entryOf s p .location) ≡ leaves act → InPlace s act p
+  stage-placed n k e =
+      (release s (entryOf s p), ready-from _ (record { not-wait = n; known = k; placed = e; released = λ _. omega arith }))
+
+  -- it is taken then, unless it is a check that comes too early
+  pub placed-from : {m : ℕ} → InPlace s act p → (act ≡ checkAct → release s (entryOf s p) ≤ m)
+      → From (s .parameters .b) m act (entryOf s p .location)
+  placed-from h k =
+      let r = from-ready (h .1) in
+      ready-from _ (record { not-wait = r .not-wait; known = r .known; placed = r .placed; released = k })
+
+  -- who is in the place of a check is in checking
+  pub placed-checks : act ≡ checkAct → InPlace s act p → entryOf s p .location ≡ Checking (sinceOf (entryOf s p .location))
+  unfolding leaves
+  placed-checks e h = stage-location (entryOf s p .location) {k = checking} (placed-stage h ∙ ap leaves e)
 
 -- Where it leads
 

@@ -2,22 +2,25 @@
 -- Assumes nothing.
 use Prim.Native.Nat.{ℕ, zero, suc, _+_, _-_, _≤_, _<_}
 use mathlib.Core.Path.{_≡_, refl, ap, subst}
-use mathlib.Core.Logic.{_≢_}
+use mathlib.Core.Logic.{_≢_, _↔_}
 use mathlib.Core.Bool.{true, false, not}
 use mathlib.Core.List.{List, [], _∷_}
 use native.Mathlib.Omega.{arith}
 use lib.Dec.{leb}
+use lib.ListN.{replicate}
 use borrow.Author.Tests.{leb-true, leb-false, lt-leb}
-use Rattle.model.specs.declared.Location.the-variants.{Remainder}
+use Rattle.model.specs.declared.Location.the-variants.{Remainder, Critical}
 use Rattle.model.specs.declared.Process.{Process}
 use Rattle.model.specs.declared.Parameters.{Parameters}
 use Rattle.model.specs.declared.State.{State}
+use Rattle.model.specs.declared.Answer.{Answer}
 use Rattle.model.specs.declared.Outcome.{Outcome}
-use Rattle.model.specs.States.{noParameters, countStands, limitsStand, lastTime, idle, initial, stageOf}
+use Rattle.model.specs.States.{parametersOf, noParameters, countStands, limitsStand, lastTime, entry, idle, initial, stageOf}
 use Rattle.model.specs.States.{entrySound, entriesSound, soundOf, entryOf}
 use Rattle.model.specs.Answers.{answerOf, answers, blank, freshOf}
 use Rattle.model.specs.Facts.{Accepted, IsFresh, Arrival}
-use Rattle.theory.specs.Soundness.{ParametersStand, Sound, SoundIffPlain, Fresh, FreshIsPlain}
+use Rattle.theory.specs.Soundness.{CountStands, LimitsStand, ParametersStand, Sound, SoundIffPlain, TwoCriticalMayBeSound}
+use Rattle.theory.specs.Soundness.{Fresh, FreshTable, FreshIsPlain}
 use Rattle.model.proofs.Tests.{by-test, by-cond, clash, and-true-iff, tests}
 use Rattle.theory.proofs.Entries.{same-at, Among, here, there, each-entry, among-entry, among-from}
 use Rattle.model.proofs.Locations.{stage-location}
@@ -107,6 +110,10 @@ sound-iff-plain s = (sound-plain s, plain-sound s)
 
 -- A fresh table
 
+-- answers with different codes differ
+other : {code process time code′ process′ time′ : ℕ} → answerOf code process time ≡ answerOf code′ process′ time′ → code ≢ code′ → ⊥
+other e n = n (ap (λ (r : Answer). r .code) e)
+
 initial-fresh : (k : Parameters) → Fresh k (initial k)
 unfolding entryOf
 initial-fresh k = record {
@@ -137,54 +144,71 @@ blank-unsound = refl
 -- what `freshOf` gives, and why
 data Made (k : Parameters) : Outcome → Type 0 where
   given : ParametersStand k → Made k (answers 0 0 0 (initial k))
-  refused : {code : ℕ} → code ≢ 0 → (ParametersStand k → ⊥) → Made k (answers code 0 0 blank)
+  no-count : (CountStands k → ⊥) → Made k (answers 11 0 0 blank)
+  no-limits : CountStands k → (LimitsStand k → ⊥) → Made k (answers 12 0 0 blank)
 
 made : (k : Parameters) → Made k (freshOf k)
 unfolding freshOf
 made k =
-    by-cond (Made k) (not (countStands k))
-    (λ e. refused (omega arith) (λ h. omega (arith, (simp tests at e) (h .count .some))))
-    (λ f. by-cond (Made k) (not (limitsStand k))
-    (λ e. refused (omega arith) (λ h. omega (arith, (simp tests at e) (omega arith))))
-    (λ g. given (omega (arith, simp tests at f, simp tests at g))))
+    by-cond (Made k) (not (countStands k)) (λ e. no-count (λ h. omega (arith, (simp tests at e) (h .some))))
+    (λ f. let count : CountStands k = omega (arith, simp tests at f) in
+    by-cond (Made k) (not (limitsStand k)) (λ e. no-limits count (λ h. omega (arith, (simp tests at e) (omega arith))))
+    (λ g. given (omega (arith, simp tests at g))))
 
 module _ {k : Parameters} where
-  given-stands : {o : Outcome} → Made k o → Accepted o → ParametersStand k
-  given-stands (given h) e = h
-  given-stands (refused n _) e = absurd (n e)
+  -- a refusal, whichever: nothing is given
+  refused-table : {code : ℕ} → code ≢ 0 → (ParametersStand k → ⊥) → ((answerOf code 0 0 ≡ answerOf 11 0 0) ↔ (CountStands k → ⊥))
+      → ((answerOf code 0 0 ≡ answerOf 12 0 0) ↔ (CountStands k × (LimitsStand k → ⊥))) → FreshTable k (answers code 0 0 blank)
+  refused-table n stands count limits = record {
+    accepted = (λ e. absurd (n e), λ h. absurd (stands h));
+    answer = λ e. absurd (n e);
+    count = count;
+    limits = limits;
+    fresh = λ e. absurd (n e);
+    sound = λ e. absurd (n e);
+    refused = λ _. initial-fresh noParameters;
+    unsound = λ _. blank-unsound;
+  }
 
-  stands-given : {o : Outcome} → Made k o → ParametersStand k → Accepted o
-  stands-given (given _) h = refl
-  stands-given (refused _ n) h = absurd (n h)
-
-  given-state : {o : Outcome} → Made k o → Accepted o → o .state ≡ initial k
-  given-state (given _) e = refl
-  given-state (refused n _) e = absurd (n e)
-
-  given-answer : {o : Outcome} → Made k o → Accepted o → o .answer ≡ answerOf 0 0 0
-  given-answer (given _) e = refl
-  given-answer (refused n _) e = absurd (n e)
-
-  refused-state : {o : Outcome} → Made k o → o .answer .code ≢ 0 → o .state ≡ blank
-  refused-state (given _) n = absurd (n refl)
-  refused-state (refused _ _) n = refl
+  made-table : {o : Outcome} → Made k o → FreshTable k o
+  made-table (given h) = record {
+    accepted = (λ _. h, λ _. refl);
+    answer = λ _. refl;
+    count = (λ e. absurd (other e (omega arith)), λ n. absurd (n (h .count)));
+    limits = (λ e. absurd (other e (omega arith)), λ n. absurd (n .1 (h .limits)));
+    fresh = λ _. initial-fresh k;
+    sound = λ _. initial-sound k h;
+    refused = λ n. absurd (n refl);
+    unsound = λ n. absurd (n refl);
+  }
+  made-table (no-count n) = refused-table (omega arith) (λ h. n (h .count))
+      (λ _. n, λ _. refl)
+      (λ e. absurd (other e (omega arith)), λ h. absurd (n (h .0)))
+  made-table (no-limits c n) = refused-table (omega arith) (λ h. n (h .limits))
+      (λ e. absurd (other e (omega arith)), λ h. absurd (h c))
+      (λ _. (c, n), λ _. refl)
 
 pub fresh-is-plain : FreshIsPlain
-fresh-is-plain k =
-    let m = made k in
-    record {
-      accepted = (given-stands m, stands-given m);
-      fresh = λ e. rw (given-state m e) (initial-fresh k);
-      sound = λ e. rw (given-state m e) (initial-sound k (given-stands m e));
-      refused = λ n. rw (refused-state m n) (initial-fresh noParameters);
-      unsound = λ n. rw (refused-state m n) blank-unsound;
-    }
+fresh-is-plain k = made-table (made k)
 
-module _ (k : Parameters) (e : Accepted (freshOf k)) where
-  -- an accepted call gives a fresh table
-  pub fresh-is : IsFresh (freshOf k .state)
-  fresh-is = record { parameters = k; accepted = e; is = refl }
+-- an accepted call gives a fresh table
+pub fresh-is : (k : Parameters) → Accepted (freshOf k) → IsFresh (freshOf k .state)
+fresh-is k e = record { parameters = k; accepted = e; is = refl }
 
-  -- and an answer with nothing in it
-  pub fresh-answer : freshOf k .answer ≡ answerOf 0 0 0
-  fresh-answer = given-answer (made k) e
+-- A sound state with two critical processes
+
+pub two-critical-may-be-sound : TwoCriticalMayBeSound
+unfolding soundOf entriesSound entryOf
+two-critical-may-be-sound = (
+  record {
+    parameters = parametersOf 2 5 8 12;
+    clock = 0;
+    word = 0;
+    processes = entry Critical ∷ entry Critical ∷ replicate 94 idle;
+  },
+  record {
+    sound = refl;
+    first = record { from = omega arith; at = refl };
+    second = record { from = omega arith; at = refl };
+  },
+)

@@ -1,5 +1,6 @@
 pub mod Soundness
 pub mod Acceptance
 pub mod Lateness
+pub mod Refusals
 pub mod Lowest
 pub mod Summaries

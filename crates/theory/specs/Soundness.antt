@@ -8,9 +8,10 @@ use lib.ListN.{length}
 use Rattle.model.specs.declared.Location.the-variants.{Remainder}
 use Rattle.model.specs.declared.Parameters.{Parameters}
 use Rattle.model.specs.declared.State.{State}
+use Rattle.model.specs.declared.Outcome.{Outcome}
 use Rattle.model.specs.States.{noParameters, lastTime, entryOf, soundOf}
-use Rattle.model.specs.Answers.{stepOf, freshOf}
-use Rattle.model.specs.Facts.{Accepted, Arrival, HasDeadline}
+use Rattle.model.specs.Answers.{answerOf, stepOf, freshOf}
+use Rattle.model.specs.Facts.{Accepted, Arrival, HasDeadline, IsCritical}
 
 -- [2.20]
 pub record CountStands (k : Parameters) : Type 0 where
@@ -44,6 +45,16 @@ pub record Sound (s : State) : Type 0 where
 abbrev pub SoundIffPlain : Type 0
 SoundIffPlain = (s : State) → (soundOf s ≡ true) ↔ Sound s
 
+-- [2.135] a sound state in which two processes are critical
+pub record SoundWithTwo (s : State) : Type 0 where
+  pub sound : soundOf s ≡ true
+  pub first : IsCritical s 1
+  pub second : IsCritical s 2
+
+-- [2.135] there is one
+abbrev pub TwoCriticalMayBeSound : Type 0
+TwoCriticalMayBeSound = (s : State) × SoundWithTwo s
+
 -- [4.1] [3.85] an act is answered 1 exactly if the state is not sound
 abbrev pub UnsoundIffOne : Type 0
 UnsoundIffOne = (s : State) (act p m : ℕ) → (stepOf s act p m .answer .code ≡ 1) ↔ (soundOf s ≡ false)
@@ -59,16 +70,22 @@ pub record Fresh (k : Parameters) (s : State) : Type 0 where
   pub all : (i : ℕ) → entryOf s i .location ≡ Remainder
 
 -- [2.65] it is given exactly for the parameters that stand, and it is sound
-pub record FreshTable (k : Parameters) : Type 0 where
+pub record FreshTable (k : Parameters) (o : Outcome) : Type 0 where
   -- [4.11] [4.12] it is refused exactly where one of them holds
-  pub accepted : Accepted (freshOf k) ↔ ParametersStand k
-  pub fresh : Accepted (freshOf k) → Fresh k (freshOf k .state)
-  pub sound : Accepted (freshOf k) → soundOf (freshOf k .state) ≡ true
+  pub accepted : Accepted o ↔ ParametersStand k
+  -- [4.70]
+  pub answer : Accepted o → o .answer ≡ answerOf 0 0 0
+  -- [4.11]
+  pub count : (o .answer ≡ answerOf 11 0 0) ↔ (CountStands k → ⊥)
+  -- [4.12] [4.90]
+  pub limits : (o .answer ≡ answerOf 12 0 0) ↔ (CountStands k × (LimitsStand k → ⊥))
+  pub fresh : Accepted o → Fresh k (o .state)
+  pub sound : Accepted o → soundOf (o .state) ≡ true
   -- [4.100]
-  pub refused : freshOf k .answer .code ≢ 0 → Fresh noParameters (freshOf k .state)
+  pub refused : o .answer .code ≢ 0 → Fresh noParameters (o .state)
   -- [4.100]
-  pub unsound : freshOf k .answer .code ≢ 0 → soundOf (freshOf k .state) ≡ false
+  pub unsound : o .answer .code ≢ 0 → soundOf (o .state) ≡ false
 
 -- [2.65] [4.11] [4.12] [4.100] for any parameters
 abbrev pub FreshIsPlain : Type 0
-FreshIsPlain = (k : Parameters) → FreshTable k
+FreshIsPlain = (k : Parameters) → FreshTable k (freshOf k)

@@ -1,14 +1,15 @@
 -- Section 5 of the specification from a second side: the soundness of a summary in plain facts, and what a recorded step gives back,
 -- by its answer. Assumes nothing.
-use Prim.Native.Nat.{ℕ, _+_, _≤_}
+use Prim.Native.Nat.{ℕ, _+_, _-_, _≤_, _<_}
 use mathlib.Core.Path.{_≡_}
 use mathlib.Core.Logic.{_≢_, _↔_}
 use mathlib.Core.Bool.{true, false}
-use lib.ListN.{getD}
+use lib.ListN.{length, getD}
 use Rattle.model.specs.declared.State.{State}
 use Rattle.model.specs.declared.Counts.{Counts}
 use Rattle.model.specs.declared.Statistics.{Statistics}
 use Rattle.model.specs.declared.Recorded.{Recorded}
+use Rattle.model.specs.Acts.{tryAct, critAct, exitAct}
 use Rattle.model.specs.States.{lastTime, soundOf}
 use Rattle.model.specs.Answers.{stepOf}
 use Rattle.model.specs.Summaries.{mostActs, statisticsSound, acceptedCounted, refusedCounted, recordedOf}
@@ -59,3 +60,56 @@ pub record RecordedTells (s : State) (x : Statistics) (act p m : ℕ) (r : Recor
 -- [5.30] [5.70] [5.80] [5.90] [5.100] [5.105] [5.110] of any table and any summary, sound or not
 abbrev pub RecordedIsPlain : Type 0
 RecordedIsPlain = (s : State) (x : Statistics) (act p m : ℕ) → RecordedTells s x act p m (recordedOf s x act p m)
+
+-- What is counted, in plain facts
+
+-- [5.100] y is the summary x with one refused act more
+pub record OneRefused (x y : Statistics) : Type 0 where
+  pub refused-rises : y .counts .refused ≡ x .counts .refused + 1
+  pub accepted-stays : y .counts .accepted ≡ x .counts .accepted
+  pub entries-stay : y .counts .entries ≡ x .counts .entries
+  pub exits-stay : y .counts .exits ≡ x .counts .exits
+  pub longest-stays : y .counts .longest ≡ x .counts .longest
+  pub tries-stay : y .tries ≡ x .tries
+
+-- [5.10] the try time of process p, from 1
+abbrev pub tryTime : Statistics → ℕ → ℕ
+tryTime x p = getD (x .tries) (p - 1) 0
+
+-- [5.70] [5.80] [5.90] what an accepted act at the time m makes of the entries, the exits, the longest wait and the try time of its process
+pub data Counting (m : ℕ) : (act entries exits longest tried : ℕ) → (entries′ exits′ longest′ tried′ : ℕ) → Type 0 where
+  -- [5.80]
+  try : {n x l t : ℕ} → Counting m tryAct n x l t n x l m
+  -- [5.70] [5.80] [5.90] a crit that ends a longer wait w than any before
+  crit-longer : {n x l t w : ℕ} → t + w ≡ m → l < w → Counting m critAct n x l t (n + 1) x w 0
+  -- [5.70] [5.80] [5.90] a crit that ends no longer one
+  crit : {n x l t w : ℕ} → t + w ≡ m → w ≤ l → Counting m critAct n x l t (n + 1) x l 0
+  -- [5.70]
+  exit : {n x l t : ℕ} → Counting m exitAct n x l t n (x + 1) l t
+  -- [5.80] any other act
+  other : {act n x l t : ℕ} → act ≢ tryAct → act ≢ critAct → act ≢ exitAct → Counting m act n x l t n x l t
+
+-- [5.70] [5.80] [5.90] y is the summary x with the accepted act of process p at the time m counted
+pub record OneAccepted (act p m : ℕ) (x y : Statistics) : Type 0 where
+  pub accepted-rises : y .counts .accepted ≡ x .counts .accepted + 1
+  pub refused-stays : y .counts .refused ≡ x .counts .refused
+  pub counting : Counting m act (x .counts .entries) (x .counts .exits) (x .counts .longest) (tryTime x p)
+      (y .counts .entries) (y .counts .exits) (y .counts .longest) (tryTime y p)
+  -- a wait is of process 0, so that it keeps all
+  pub others-stay : (i : ℕ) → 1 ≤ i → i ≢ p → tryTime y i ≡ tryTime x i
+  pub size-stays : length (y .tries) ≡ length (x .tries)
+
+-- [5.30] the recorded step r of the state s and the summary x counts its act, and is the step but for that
+pub record ActCounted (s : State) (x : Statistics) (act p m : ℕ) (r : Recorded) : Type 0 where
+  -- [5.110]
+  pub step : r .outcome ≡ stepOf s act p m
+  -- [5.100] [4.110]
+  pub refused : r .outcome .answer .code ≢ 0 → (r .outcome .state ≡ s) × OneRefused x (r .statistics)
+  -- [5.70] [5.80] [5.90]
+  pub accepted : r .outcome .answer .code ≡ 0 → OneAccepted act p m x (r .statistics)
+
+-- [5.70] [5.80] [5.90] [5.100] [5.110] beside a sound state any summary that is sound and not full, whoever made it, counts every act; it
+-- has 96 try times, as each of the code does
+abbrev pub EveryActCounted : Type 0
+EveryActCounted = (s : State) (x : Statistics) → soundOf s ≡ true → HasRoom (s .clock) x → length (x .tries) ≡ 96
+    → (act p m : ℕ) → ActCounted s x act p m (recordedOf s x act p m)
