@@ -12,4 +12,5 @@ pub mod Lowest
 pub mod StaysSound
 -- A recorded step
 pub mod RecordedSteps
+pub mod Countings
 pub mod Summaries

@@ -1,9 +1,10 @@
 -- What a recorded step gives, and why: 1, 2 or 3 with the summary as it was, or what the step gives, counted. `recordedOf` is taken
 -- apart here for all of the theory. Assumes nothing.
-use Prim.Native.Nat.{ℕ, _+_}
+use Prim.Native.Nat.{ℕ, _+_, _≤_}
 use mathlib.Core.Path.{_≡_}
 use mathlib.Core.Logic.{_≢_}
 use mathlib.Core.Bool.{true, false, not}
+use native.Mathlib.Omega.{arith}
 use borrow.Author.Tests.{eqb-true, eqb-false, ne-eqb, not-true, not-false}
 use Rattle.model.specs.declared.State.{State}
 use Rattle.model.specs.declared.Statistics.{Statistics}
@@ -54,3 +55,17 @@ module _ (s : State) (x : Statistics) (act p m : ℕ) where
   pub noted-refused : {code : ℕ} → code ≢ 0 → noted x code act p m ≡ refusedCounted x
   unfolding noted
   noted-refused {code} n = rw (ne-eqb code 0 n)
+
+  -- 0 and the codes from 4 on are those of a step, so it was counted
+
+  pub accepted-counted : {r : Recorded} → Judged r → r .outcome .answer .code ≡ 0 → r .statistics ≡ acceptedCounted x act p m
+  accepted-counted (no-table _) e = absurd (omega arith)
+  accepted-counted (no-summary _ _) e = absurd (omega arith)
+  accepted-counted (filled _ _ _) e = absurd (omega arith)
+  accepted-counted (counted _) e = noted-accepted e
+
+  pub refused-counted : {r : Recorded} → Judged r → 4 ≤ r .outcome .answer .code → r .statistics ≡ refusedCounted x
+  refused-counted (no-table _) h = absurd (omega arith)
+  refused-counted (no-summary _ _) h = absurd (omega arith)
+  refused-counted (filled _ _ _) h = absurd (omega arith)
+  refused-counted (counted _) h = noted-refused (omega arith)

@@ -116,8 +116,14 @@ module _ (s : State) (act p m : ℕ) where
   refusal-step (Refusal.late i d h k) =
       let a = admitted h in
       simp (
-        a .sound, a .forward, a .within, a .known, a .named,
-        first-is-due (k .first), ne-eqb i 0 (omega (arith, k .first .has .from)), lt-ltb _ _ (k .missed)
+        a .sound,
+        a .forward,
+        a .within,
+        a .known,
+        a .named,
+        first-is-due (k .first),
+        ne-eqb i 0 (omega (arith, k .first .has .from)),
+        lt-ltb _ _ (k .missed),
       )
   refusal-step (Refusal.misplaced h n k) =
       let a = admitted (h .before) in

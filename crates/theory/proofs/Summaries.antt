@@ -1,6 +1,6 @@
 -- A summary is sound exactly when the plain facts hold, and a recorded step gives back what its answer tells. Assumes nothing.
-use Prim.Native.Nat.{ℕ, zero, suc, _≤_}
-use mathlib.Core.Path.{_≡_, refl, sym}
+use Prim.Native.Nat.{ℕ, zero, suc, _-_, _≤_}
+use mathlib.Core.Path.{_≡_, refl, sym, ap, _∙_}
 use mathlib.Core.Bool.{true, false}
 use mathlib.Core.List.{List, [], _∷_}
 use native.Mathlib.Omega.{arith}
@@ -8,16 +8,20 @@ use lib.Dec.{leb}
 use lib.ListN.{getD}
 use borrow.Author.Tests.{le-leb}
 use Rattle.model.specs.declared.State.{State}
+use Rattle.model.specs.declared.Outcome.{Outcome}
 use Rattle.model.specs.declared.Statistics.{Statistics}
 use Rattle.model.specs.declared.Recorded.{Recorded}
 use Rattle.model.specs.States.{soundOf}
 use Rattle.model.specs.Answers.{stepOf}
 use Rattle.model.specs.Summaries.{triesSound, countsSound, statisticsSound, counting}
-use Rattle.theory.specs.Summaries.{SummarySound, SummarySoundIffPlain, HasRoom, RecordedTells, RecordedIsPlain}
+use Rattle.theory.specs.Summaries.{SummarySound, SummarySoundIffPlain, HasRoom, RecordedTells, RecordedIsPlain, EveryActCounted}
 use Rattle.model.proofs.Tests.{if-eq, and-true-iff, clash, tests}
-use Rattle.theory.proofs.Acceptance.{refused-stays}
+use Rattle.theory.proofs.Soundness.{sound-iff-plain}
+use Rattle.theory.proofs.Conditions.{turn-named, turn-waits}
+use Rattle.theory.proofs.Acceptance.{accepted-iff-allowed, refused-stays}
 use Rattle.theory.proofs.Steps.{unsound-iff-one, unsound-is, step-refuses}
-use Rattle.theory.proofs.RecordedSteps.{Open, Judged, judged, noted-accepted, noted-refused}
+use Rattle.theory.proofs.RecordedSteps.{Open, Judged, judged, accepted-counted, refused-counted}
+use Rattle.theory.proofs.Countings.{one-refused, one-accepted}
 
 -- Soundness
 
@@ -66,8 +70,6 @@ module _ (s : State) (x : Statistics) (act p m : ℕ) where
         three = (λ e. absurd (omega (arith, none (omega arith))), λ h. absurd (room .not-full (h .2)));
         step = λ _. refl;
         unchanged = λ h k. absurd (omega (arith, none (omega arith)));
-        refused = λ h. (refused-stays s act p m (omega arith), noted-refused s x act p m (omega arith));
-        accepted = λ e. noted-accepted s x act p m e;
       }
 
   judged-tells : {r : Recorded} → Judged s x act p m r → Tells r
@@ -77,8 +79,6 @@ module _ (s : State) (x : Statistics) (act p m : ℕ) where
     three = (λ c. absurd (omega arith), λ h. clash (h .0) e);
     step = λ _. sym (unsound-is s act p m e);
     unchanged = λ h k. (refl, refl);
-    refused = λ h. absurd (omega arith);
-    accepted = λ c. absurd (omega arith);
   }
   judged-tells (Judged.no-summary sound e) = record {
     one = (λ c. absurd (omega arith), λ f. clash sound f);
@@ -86,8 +86,6 @@ module _ (s : State) (x : Statistics) (act p m : ℕ) where
     three = (λ c. absurd (omega arith), λ h. absurd (unsound-summary e (h .1)));
     step = λ room. absurd (unsound-summary e (room .sound));
     unchanged = λ h k. (refl, refl);
-    refused = λ h. absurd (omega arith);
-    accepted = λ c. absurd (omega arith);
   }
   judged-tells (Judged.filled sound stands e) =
       let plain = summary-sound-iff-plain (s .clock) x .0 stands in
@@ -97,10 +95,27 @@ module _ (s : State) (x : Statistics) (act p m : ℕ) where
         three = (λ c. (sound, plain, e), λ _. refl);
         step = λ room. absurd (room .not-full e);
         unchanged = λ h k. (refl, refl);
-        refused = λ h. absurd (omega arith);
-        accepted = λ c. absurd (omega arith);
       }
   judged-tells (Judged.counted o) = counted-tells (o .sound) (open-room o)
 
 pub recorded-is-plain : RecordedIsPlain
 recorded-is-plain s x act p m = judged-tells s x act p m (judged s x act p m)
+
+-- What is counted
+
+pub every-act-counted : EveryActCounted
+every-act-counted s x sound room size act p m =
+    let step = recorded-is-plain s x act p m .step room in
+    let why = judged s x act p m in
+    record {
+      step = step;
+      refused = λ n. (
+        ap (λ (o : Outcome). o .state) step ∙ refused-stays s act p m (rw step at n),
+        rw (refused-counted s x act p m why (rw step (step-refuses s act p m sound (rw step at n) .some))) (one-refused x),
+      );
+      accepted = λ e.
+          let allowed = accepted-iff-allowed s sound act p m .0 (rw step at e) in
+          let count = sound-iff-plain s .0 sound .parameters .count in
+          rw (accepted-counted s x act p m why e) (one-accepted x act p m size (omega (arith, turn-named (allowed .turn)))
+          (turn-waits (allowed .turn)) (omega (arith, room .sound .tries (p - 1), allowed .forward)));
+    }

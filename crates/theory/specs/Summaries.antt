@@ -12,7 +12,7 @@ use Rattle.model.specs.declared.Recorded.{Recorded}
 use Rattle.model.specs.Acts.{tryAct, critAct, exitAct}
 use Rattle.model.specs.States.{lastTime, soundOf}
 use Rattle.model.specs.Answers.{stepOf}
-use Rattle.model.specs.Summaries.{mostActs, statisticsSound, acceptedCounted, refusedCounted, recordedOf}
+use Rattle.model.specs.Summaries.{mostActs, statisticsSound, recordedOf}
 
 -- [5.40] [5.50] of the counts; the sums are those of numbers without an end
 pub record CountsSound (k : Counts) : Type 0 where
@@ -39,7 +39,7 @@ pub record HasRoom (clock : ℕ) (x : Statistics) : Type 0 where
   pub sound : SummarySound clock x
   pub not-full : NotFull x
 
--- [5.30] what a recorded step gives back, by the code of its answer
+-- [5.30] when a recorded step looks at the summary only, and what it gives back then; what it counts is `ActCounted`
 pub record RecordedTells (s : State) (x : Statistics) (act p m : ℕ) (r : Recorded) : Type 0 where
   -- [4.1]
   pub one : (r .outcome .answer .code ≡ 1) ↔ (soundOf s ≡ false)
@@ -52,12 +52,8 @@ pub record RecordedTells (s : State) (x : Statistics) (act p m : ℕ) (r : Recor
   pub step : HasRoom (s .clock) x → r .outcome ≡ stepOf s act p m
   -- [5.105] [4.110] 1, 2 and 3 change nothing
   pub unchanged : 1 ≤ r .outcome .answer .code → r .outcome .answer .code ≤ 3 → (r .outcome .state ≡ s) × (r .statistics ≡ x)
-  -- [5.100] [4.110] the other refusals
-  pub refused : 4 ≤ r .outcome .answer .code → (r .outcome .state ≡ s) × (r .statistics ≡ refusedCounted x)
-  -- [5.70] [5.80] [5.90] an accepted act is counted
-  pub accepted : r .outcome .answer .code ≡ 0 → r .statistics ≡ acceptedCounted x act p m
 
--- [5.30] [5.70] [5.80] [5.90] [5.100] [5.105] [5.110] of any table and any summary, sound or not
+-- [5.30] [5.105] [5.110] of any table and any summary, sound or not
 abbrev pub RecordedIsPlain : Type 0
 RecordedIsPlain = (s : State) (x : Statistics) (act p m : ℕ) → RecordedTells s x act p m (recordedOf s x act p m)
 
