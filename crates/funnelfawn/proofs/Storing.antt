@@ -27,11 +27,10 @@ use Rattle.layout.specs.Encodings.{headerLength, stride, processNumbers, parame
 use Rattle.theory.specs.Acceptance.{Waits, Acts}
 use Rattle.funnelfawn.specs.Loading.{placedAt, stored, counted}
 use Rattle.model.proofs.Tests.{by-test, if-eq}
-use Rattle.model.proofs.Soundness.{sound-numbers}
 use Rattle.theory.proofs.Entries.{moved-own}
 use Rattle.theory.proofs.Rows.{from-ready}
 use Rattle.theory.proofs.Steps.{stepped, accepted-is}
-use Rattle.theory.proofs.Acceptance.{accepted-iff-allowed, refused-stays}
+use Rattle.theory.proofs.Acceptance.{refused-stays}
 use Rattle.theory.proofs.RecordedSteps.{Judged, noted-accepted, noted-refused}
 use Rattle.funnelfawn.proofs.Lists.{set-behind}
 
@@ -45,10 +44,10 @@ record Moves (act p : ℕ) : Type 0 where
 
 accepted-turn : (s : State) (act p m : ℕ) → Accepted (stepOf s act p m) → Waits act p ⊎ Moves act p
 accepted-turn s act p m a =
-    let sound = accepted-is (stepped s act p m) a .0 .admissible .sound in
+    let t = accepted-is (stepped s act p m) a in
     ⊎-elim inl
-    (λ (t : Acts s act p m). inr (omega (arith, from-ready (t .from) .not-wait, sound-numbers s sound .count)))
-    (accepted-iff-allowed s sound act p m .0 a .turn)
+    (λ (u : Acts s act p m). inr (omega (arith, from-ready (u .from) .not-wait, t .sound .parameters .count .most)))
+    (t .allowed .turn)
 
 -- A table
 
@@ -104,7 +103,7 @@ module _ (s : State) (size : length (s .processes) ≡ 96) (act p m : ℕ) where
 
   pub step-stores : Stores s p (stepOf s act p m)
   step-stores = record {
-    accepted = λ a. rw (accepted-is (stepped s act p m) a .1) (effect-stored (accepted-turn s act p m a));
+    accepted = λ a. rw (accepted-is (stepped s act p m) a .is) (effect-stored (accepted-turn s act p m a));
     refused = refused-stays s act p m;
   }
 

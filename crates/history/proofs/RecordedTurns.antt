@@ -16,7 +16,7 @@ use Rattle.model.specs.Summaries.{newStatistics, beside}
 use Rattle.model.specs.Tallies.{Attempt, logOnto}
 use Rattle.model.proofs.Lists.{row-at, rows-snoc}
 use Rattle.model.proofs.Folds.{Going, count-going, long-going, moves-on, end-reached, all-written}
-use Rattle.theory.proofs.Soundness.{fresh-is, fresh-answer}
+use Rattle.theory.proofs.Soundness.{fresh-is-plain, fresh-is}
 use Rattle.tallies.specs.Tallies.{recordNext, recordsOf, codeOf, Tallied, startOf}
 use Rattle.tallies.proofs.Tallies.{every-tally}
 use Rattle.history.specs.Lists.{Tuple, answerRow}
@@ -83,7 +83,7 @@ tallied-started p t = record { counts = t .counts; balance = t .balance }
 
 -- an accepted fresh table beside a new summary is where a tally starts
 pub fresh-starts : (k : Parameters) → Accepted (freshOf k) → beside newStatistics (freshOf k) ≡ startOf (freshOf k .state)
-fresh-starts k accepted = λ j. beside newStatistics (record { answer = fresh-answer k accepted j; state = freshOf k .state })
+fresh-starts k accepted = λ j. beside newStatistics (record { answer = fresh-is-plain k .answer accepted j; state = freshOf k .state })
 
 pub recorded-run-tallied : (k : Parameters) (acts answers : List Tuple) {t : RecordedRun} → t ≡ recordedRunOf k acts answers
     → Accepted (freshOf k) → Tallied (logIn acts (t .answers)) (t .recorded)

@@ -19,7 +19,7 @@ use Rattle.model.specs.Calls.{callOf}
 use Rattle.layout.specs.Encodings.{tableLength, stateNumbers, summaryLength, statisticsNumbers}
 use Rattle.model.proofs.Lists.{over-seam}
 use Rattle.tallies.specs.Tallies.{recordNext, recordAll, recordsOf, startOf}
-use Rattle.theory.proofs.Soundness.{fresh-is-plain, fresh-is, fresh-answer}
+use Rattle.theory.proofs.Soundness.{fresh-is-plain, fresh-is}
 use Rattle.lists.proofs.Sizes.{Whole, call-whole, tries-as-long}
 use Rattle.tallies.proofs.Tallies.{every-tally}
 use Rattle.layout.proofs.Encodings.{table-length, summary-length, summary-comes-back}
@@ -102,7 +102,7 @@ module _ (k : Parameters) (table summary : List ℕ) where
   fresh-in-numbers (FreshGiven.refused n) _ e f = absurd (n e)
   fresh-in-numbers (FreshGiven.made _ _) NewGiven.refused e f = absurd (omega arith)
   fresh-in-numbers (FreshGiven.made _ _) (NewGiven.made _) e f =
-      rw (fresh-answer k e, table-length (freshOf k .state) (fresh-is-plain k .fresh e .size), summary-length newStatistics refl)
+      rw (fresh-is-plain k .answer e, table-length (freshOf k .state) (fresh-is-plain k .fresh e .size), summary-length newStatistics refl)
 
   fresh-accepted : {g : Lent} → FreshGiven k table g → g .answer .code ≡ 0 → Accepted (freshOf k)
   fresh-accepted (FreshGiven.refused n) e = absurd (n e)

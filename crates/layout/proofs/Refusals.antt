@@ -17,6 +17,7 @@ use Rattle.layout.specs.Encodings.{tableIn, summaryLength, statisticsNum
 use Rattle.model.proofs.Lists.{over-set}
 use Rattle.layout.proofs.Numbers.{length-summary}
 use Rattle.lists.proofs.Calls.{Called, called}
+use Rattle.theory.proofs.RecordedSteps.{judged, refused-counted}
 use Rattle.theory.proofs.Summaries.{recorded-is-plain}
 use Rattle.layout.proofs.Encodings.{sound-is-table, numbers-come-back, summary-numbers-come-back}
 use Rattle.layout.specs.Interface.{Lent, LentSummary, LentBoth}
@@ -89,7 +90,9 @@ module _ {table summary : List ℕ} {act p m : ℕ} where
   counts-refused (RecordGiven.no-table _) h = absurd (omega arith)
   counts-refused (RecordGiven.no-summary _ _) h = absurd (omega arith)
   counts-refused (RecordGiven.taken _ fits) h =
-      rw (recorded-is-plain (tableIn table) (summaryIn summary) act p m .refused h .1) (one-more summary fits)
+      let s = tableIn table in
+      let x = summaryIn summary in
+      rw (refused-counted s x act p m (judged s x act p m) h) (one-more summary fits)
 
 pub summary-stays : SummaryStays
 summary-stays table summary act p m = leaves-summary (record-given table summary act p m)

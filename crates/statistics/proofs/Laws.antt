@@ -2,7 +2,7 @@
 -- be counted. Assumes nothing.
 use Prim.Native.Nat.{ℕ, _+_, _-_, _≤_, _<_}
 use mathlib.Core.Path.{_≡_, sym, _∙_}
-use mathlib.Core.Logic.{_⊎_, inl, inr, _≢_}
+use mathlib.Core.Logic.{_≢_}
 use mathlib.Core.Bool.{true, cond, _&&_}
 use mathlib.Core.List.{List}
 use native.Mathlib.Omega.{arith}
@@ -18,14 +18,15 @@ use Rattle.model.specs.Answers.{answers, stepOf}
 use Rattle.model.specs.Summaries.{statisticsOf, countsSound, triesSound, statisticsSound, full, countsAfter, triedAfter}
 use Rattle.model.specs.Summaries.{acceptedCounted, refusedCounted, beside, recordedOf}
 use Rattle.model.specs.Facts.{Accepted}
-use Rattle.theory.specs.Acceptance.{Waits, Acts}
 use Rattle.theory.specs.Summaries.{HasRoom, RecordedTells}
 use Rattle.statistics.specs.Countings.{faultBy, Room}
 use Rattle.model.proofs.Lists.{drop-at, drop-end}
 use Rattle.model.proofs.Soundness.{sound-numbers}
 use Rattle.model.proofs.Tests.{by-test}
+use Rattle.theory.proofs.Conditions.{turn-named}
 use Rattle.theory.proofs.Acceptance.{accepted-iff-allowed}
 use Rattle.theory.proofs.Steps.{unsound-iff-one, step-refuses}
+use Rattle.theory.proofs.RecordedSteps.{judged, accepted-counted, refused-counted}
 use Rattle.theory.proofs.Summaries.{summary-sound-iff-plain, recorded-is-plain}
 
 -- Try moments
@@ -68,11 +69,6 @@ module _ (clock : ℕ) (x : Statistics) where
 pub not-one-sound : (s : State) (act p m : ℕ) → stepOf s act p m .answer .code ≢ 1 → soundOf s ≡ true
 not-one-sound s act p m n = by-test (soundOf s) (λ e. e) (λ e. absurd (n (unsound-iff-one s act p m .1 e)))
 
--- an act whose turn it is is of a process that there is, or of process 0
-turn-named : {s : State} {act p m : ℕ} → Waits act p ⊎ Acts s act p m → p ≤ s .parameters .n
-turn-named (inl w) = omega (arith, w .nobody)
-turn-named (inr a) = a .most
-
 -- the try moments have a place for the process of an accepted act, and none of them is after its time
 pub record Countable (x : Statistics) (p m : ℕ) : Type 0 where
   pub most : p ≤ 96
@@ -114,13 +110,13 @@ module _ (s : State) (x : Statistics) (act p m : ℕ) where
       gives-unsound k = gives (tells .unchanged (omega (arith, rw same at k)) (omega (arith, rw same at k)) .1)
 
       pub gives-accepted : Accepted o → {y : Statistics} → y ≡ acceptedCounted x act p m → beside y o ≡ recordedOf s x act p m
-      gives-accepted k f = gives (tells .accepted (rw same at k) ∙ sym f)
+      gives-accepted k f = gives (accepted-counted s x act p m (judged s x act p m) (rw same at k) ∙ sym f)
 
       pub gives-refused : o .answer .code ≢ 0 → o .answer .code ≢ 1 → {y : Statistics} → y ≡ refusedCounted x
           → beside y o ≡ recordedOf s x act p m
       gives-refused n k f =
           let h = step-refuses s act p m (not-one-sound s act p m (rw e at k)) (rw e at n) in
-          gives (tells .refused (rw (tells .step room) (h .some)) .1 ∙ sym f)
+          gives (refused-counted s x act p m (judged s x act p m) (rw (tells .step room) (h .some)) ∙ sym f)
 
 -- An accepted act
 
