@@ -1,4 +1,5 @@
-// Reads a recording on standard input, to its end, and prints its report on standard output.
+// Reads a recording on standard input and prints its report on standard output. It reads to the end of the input or, where that is
+// too long to be a recording, as far as shows it: one byte more than a recording may have.
 //
 // What cannot be read or written is told on standard error. A program of this language has no exit status to choose, so
 // a failed run is known by that message; a failed reading prints no report at all, not even the names line.
@@ -14,7 +15,7 @@ fn main() {
     let mut text = kept();
     let input = read_text(STDIN_FILENO, &mut text);
     let size = input.size;
-    if !input.is_whole {
+    if input.failed {
         io::write_all(STDERR_FILENO, b"replay: the recording could not be read\n");
         return;
     }

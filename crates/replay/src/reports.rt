@@ -2,13 +2,14 @@
 // That the bytes printed are the report is a contract, that they arrive is the operating system's.
 use libc::STDOUT_FILENO;
 ghost use mathlib.Core.Path.{_≡_};
-ghost use lib.ListN.{length, take};
+ghost use lib.ListN.{length, take, replicate};
 ghost use Rattle.io.specs.Counts.{Counts};
 ghost use Rattle.model.specs.Reports.{reportText};
 
-// Room for any report. Only the length is told, since a proof that writes the zeros out is dear.
+// Room for any report, all zeros.
 fn output() -> [u8; 687734]
-    ensures { λ r. ⌜ 687734 ≡ length r ⌝ }
+    ensures size { λ r. ⌜ 687734 ≡ length r ⌝ }
+    ensures zeros { λ r. ⌜ r ≡ replicate 687734 0 ⌝ }
 {
     [0; 687734]
 }

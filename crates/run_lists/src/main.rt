@@ -162,7 +162,7 @@ fn run_file(fd: i32, name: &[u8]) {
     let mut text = kept();
     let input = read_text(fd, &mut text);
     let size = input.size;
-    if !input.is_whole {
+    if input.failed {
         os::fail(name);
         return;
     }

@@ -1,14 +1,16 @@
-// What the programs share: opening a file that an argument names, and reading a text to its end.
+// What the programs share: opening a file that an argument names, and reading a text.
 // Whether a read fails is told apart from the end of the input.
+ghost use mathlib.Core.Bool.{true};
 ghost use mathlib.Core.Path.{_≡_};
-ghost use Prim.Native.Nat.{_≤_};
-ghost use lib.ListN.{length};
+ghost use Prim.Native.Nat.{_-_, _≤_};
+ghost use lib.ListN.{length, take, replicate};
 ghost use Rattle.io.specs.Counts.{Counts};
+ghost use Rattle.libc.specs.Io.{Moved};
 
-// What came: how many bytes were kept, and whether it could be read to its end.
+// What came: how many bytes were kept, and whether a read failed.
 pub struct Input {
     pub size: usize,
-    pub is_whole: bool,
+    pub failed: bool,
 }
 
 // A file that was opened, and how many bytes its path has; `fd` is negative where it could not be.
@@ -39,24 +41,29 @@ pub fn open_argument(place: usize, path: &mut [u8]) -> Opened
     }
 }
 
-// One byte more than a recording may have: a longer input is refused by the bytes that are kept of it.
+// One byte more than a recording may have, all zeros: of a longer input so much is kept that it is refused.
 pub fn kept() -> [u8; 65537]
-    ensures { λ r. ⌜ 65537 ≡ length r ⌝ }
+    ensures size { λ r. ⌜ 65537 ≡ length r ⌝ }
+    ensures zeros { λ r. ⌜ r ≡ replicate 65537 0 ⌝ }
 {
     [0; 65537]
 }
 
-// One read, to place `at` on. A negative answer is a failed read; one that a signal interrupts before it moves a byte counts
-// as failed too.
+// One read, to place `at` on; what stands before it stays. A negative answer is a failed read; one that a signal interrupts
+// before it moves a byte counts as failed too.
 fn read_to(fd: i32, text: &mut [u8], at: usize) -> isize
     requires { ⌜ at ≤ length (now text) ⌝ }
+    ensures moved { λ r. ⌜ Moved (length (now (text .entry)) - at) r ⌝ }
+    ensures stays { λ r. ⌜ take at (now (text .exit)) ≡ take at (now (text .entry)) ⌝ }
 {
     libc::read(fd, &mut text[at..])
 }
 
-// A read may be short, as from a pipe: it goes on until the text is full, the input ends or a read fails.
-fn fill(fd: i32, text: &mut [u8]) -> Input
-    ensures { λ r. ⌜ Counts (r .size) (now (text .exit)) ⌝ }
+// Reads the input of a descriptor until the text is full, the input ends or a read fails; of an input that is longer than the text
+// the first bytes are kept, and the others are not read. A read may be short, as from a pipe. A failed read keeps nothing.
+pub fn read_text(fd: i32, text: &mut [u8]) -> Input
+    ensures counts { λ r. ⌜ Counts (r .size) (now (text .exit)) ⌝ }
+    ensures failed { λ r. ⌜ (r .failed ≡ true → r .size ≡ 0) ⌝ }
 {
     let mut at: usize = 0;
     while at < text.len() {
@@ -64,7 +71,7 @@ fn fill(fd: i32, text: &mut [u8]) -> Input
         if got < 0 {
             return Input {
                 size: 0,
-                is_whole: false,
+                failed: true,
             };
         }
         let more = io::count(got, &text[at..]);
@@ -75,38 +82,6 @@ fn fill(fd: i32, text: &mut [u8]) -> Input
     }
     Input {
         size: at,
-        is_whole: true,
-    }
-}
-
-// Reads the input to its end and drops it, so that the sender never meets a closed pipe; false where a read fails. A proved
-// loop has to end, and nothing says that an input does: so the turns count down, from a number that no run uses up.
-fn drain(fd: i32, scratch: &mut [u8]) -> bool {
-    let mut turns = u64::MAX;
-    while turns > 0 {
-        let got = libc::read(fd, scratch);
-        if got < 0 {
-            return false;
-        }
-        if got == 0 {
-            return true;
-        }
-        turns -= 1;
-    }
-    false
-}
-
-// Reads the input of a descriptor to its end. Of one that is longer than the text the first bytes are kept.
-pub fn read_text(fd: i32, text: &mut [u8]) -> Input
-    ensures { λ r. ⌜ Counts (r .size) (now (text .exit)) ⌝ }
-{
-    let input = fill(fd, text);
-    if input.size < text.len() {
-        return input;
-    }
-    let mut scratch = io::large_buffer();
-    Input {
-        size: input.size,
-        is_whole: drain(fd, &mut scratch),
+        failed: false,
     }
 }

@@ -1,12 +1,13 @@
--- `streams::fill` meets its contract. The invariant: what was read fits. The measure is what is left of the length.
+-- `streams::read_text` meets its contract. The invariant: what was read fits. The measure is what is left of the length.
 -- Assumes nothing.
 use Prim.Native.Nat.{_+_, _-_, _≤_}
+use mathlib.Core.Bool.{false≢true}
 use mathlib.Core.Path.{_≡_}
 use native.Mathlib.Omega.{arith}
 use lib.ListN.{length, length-take, length-drop}
 use borrow.Author.Needs.{needs}
-use Rattle.streams.proofs.fill.Statement.{statement}
-use Rattle.streams.proofs.fill.Tie as tie
+use Rattle.streams.proofs.read_text.Statement.{statement}
+use Rattle.streams.proofs.read_text.Tie as tie
 
 abbrev Inv-loop : tie.InvT-loop
 Inv-loop fd text₀ at₀ text at = (length text ≡ length text₀) × (at ≤ length text)
@@ -58,16 +59,16 @@ same-length-2 : tie.Need-same-length-2 Inv-loop μ-loop
 same-length-2 c = search needs
 
 returns-2 : tie.Need-returns-2 Inv-loop μ-loop
-returns-2 c = simp length-take (omega arith, omega arith)
+returns-2 c = (simp length-take (omega arith, omega arith), λ t. absurd (false≢true t))
 
 same-length-3 : tie.Need-same-length-3 Inv-loop μ-loop
 same-length-3 c = search needs
 
 returns-3 : tie.Need-returns-3 Inv-loop μ-loop
-returns-3 c = simp length-take (search needs, omega arith)
+returns-3 c = (simp length-take (search needs, omega arith), λ t. absurd (false≢true t))
 
-pub fill-spec : {M : Type 1} → statement M
-fill-spec =
+pub read-text-spec : {M : Type 1} → statement M
+read-text-spec =
     tie.close
     (tie.spec
     Inv-loop
