@@ -19,19 +19,21 @@ use Rattle.model.specs.Texts.{Event, event, eventText, headText, firstLine, eve
 use Rattle.model.specs.Readings.{eventAt, scanOf, scanFails, headOf, Body, bodyIn, bodyOf, Trace, refused, trace, ofBody, ofHead, traceOf, scannedOf, readOf}
 use Rattle.model.specs.Writings.{formlessFrom}
 use Rattle.grammar.specs.Exact.{Formed, Says, ReadExactly, WordForEachAct}
-use Rattle.grammar.specs.Faults.{Differs, Fault, long, names, values, count, limits, steps, step, RefusedExactly, OneFault, RefusalTold}
+use Rattle.grammar.specs.Digits.{HasForm}
+use Rattle.grammar.specs.Faults.{Differs, Fault, long, names, values, count, limits, steps, step, RefusedExactly, OneFault}
 use Rattle.model.proofs.Tests.{by-test, by-cond}
 use Rattle.grammar.proofs.Faults.{fault-some}
 use Rattle.grammar.proofs.Lines.{event-some, event-was, event-reads}
+use Rattle.grammar.proofs.Digits.{form-iff-digits}
 use Rattle.grammar.proofs.Bodies.{body-step, body-fault, body-end}
 use Rattle.grammar.proofs.Heads.{first-line, HeadTook, head-line, HeadTells, head-tells, head-reads, trace-refused, trace-events, trace-fault}
 use Rattle.grammar.proofs.Heads.{fails-long, fails-names, fails-values, fails-count, fails-limits, fails-steps}
 
 -- The steps
 
-no-step : (line : ℕ) (s : List ℕ) (code at : ℕ) → eventAt line s ≡ Unread code at → (e : Event) → hasForm e ≡ true → Differs (eventText e) s
+no-step : (line : ℕ) (s : List ℕ) (code at : ℕ) → eventAt line s ≡ Unread code at → (e : Event) → HasForm e → Differs (eventText e) s
 no-step line s code at u e f more q =
-    let read = sym u ∙ (ap (eventAt line) q ∙ event-reads line e more f) in
+    let read = sym u ∙ (ap (eventAt line) q ∙ event-reads line e more (form-iff-digits e .1 f)) in
     let z : _≡_ {A = ℕ} 0 1 = cc in
     absurd (omega arith)
 
@@ -39,7 +41,7 @@ no-step line s code at u e f more q =
 record Stops (line : ℕ) (b : Body) (rest : List ℕ) : Type 0 where
   named : b .fault ≡ line + length (b .events)
   some : 0 < length rest
-  none : (e : Event) → hasForm e ≡ true → Differs (eventText e) rest
+  none : (e : Event) → HasForm e → Differs (eventText e) rest
 
 -- what steps tell of the text that they were read from: they were written so, each has a form, and nothing is left or no step
 record BodyTells (s : List ℕ) (line : ℕ) (b : Body) : Type 0 where
@@ -125,7 +127,7 @@ trace-reads k events f =
     trace-events text (scanOf (firstLine k) k (length (headText k))) h refl (ap (λ (b : Body). b .fault) body) ∙ rw body
 
 -- a line that is no step ends the steps
-body-stops : (line : ℕ) (rest : List ℕ) → 0 < length rest → ((e : Event) → hasForm e ≡ true → Differs (eventText e) rest)
+body-stops : (line : ℕ) (rest : List ℕ) → 0 < length rest → ((e : Event) → HasForm e → Differs (eventText e) rest)
     → bodyOf line rest ≡ record { events = []; fault = line }
 body-stops line rest some none = go (eventAt line rest) refl
   where
@@ -133,7 +135,7 @@ body-stops line rest some none = go (eventAt line rest) refl
     go (Unread code at) q = body-fault line rest some code at q
     go (Step t p a i) q =
         let w = event-was line rest t p a i q in
-        absurd (none (event t p a) (w .formed) (drop i rest) (w .took .split))
+        absurd (none (event t p a) (form-iff-digits (event t p a) .0 (w .formed)) (drop i rest) (w .took .split))
 
 -- what a text tells: the trace that it says, or a fault
 abbrev pub TraceTells : List ℕ → Trace → Type 0
@@ -189,7 +191,7 @@ fails-first {text} {code} {line} f e = trace-refused text (scanFails code line) 
 
 fails-step : {text : List ℕ} (k : Parameters) (events : List Event) (rest : List ℕ) → length text ≤ textLimit
     → text ≡ headText k ++ (eventsText events ++ rest) → parametersStand k ≡ true
-    → formlessFrom (firstLine k) events ≡ 0 → 0 < length rest → ((e : Event) → hasForm e ≡ true → Differs (eventText e) rest)
+    → formlessFrom (firstLine k) events ≡ 0 → 0 < length rest → ((e : Event) → HasForm e → Differs (eventText e) rest)
     → traceOf text ≡ refused 14 (firstLine k + length events)
 fails-step {text} k events rest short is stand forms some none =
     let h : headOf text ≡ scanOf (firstLine k) k (length (headText k)) =
@@ -198,7 +200,7 @@ fails-step {text} k events rest short is stand forms some none =
     rw (is, drop-append-seam, body-reads (firstLine k) events rest (first-line k .0) forms, body-stops (firstLine k + length events) rest some none) in
     trace-fault text (scanOf (firstLine k) k (length (headText k))) h refl (λ z. omega (arith, fault, first-line k)) ∙ rw fault
 
-refused-when : {text : List ℕ} {code line : ℕ} → Fault text code line → traceOf text ≡ refused code line
+pub refused-when : {text : List ℕ} {code line : ℕ} → Fault text code line → traceOf text ≡ refused code line
 refused-when {text} (long h) = fails-first (long h) (fails-long text h)
 refused-when {text} (names h d) = fails-first (names h d) (fails-names text h d)
 refused-when {text} (values rest h e d) = fails-first (values rest h e d) (fails-values text rest h e d)
@@ -212,12 +214,6 @@ refused-exactly text code line = (λ e. rw e at (trace-tells text), refused-when
 
 pub one-fault : OneFault
 one-fault text code line code′ line′ f g = let p = refused-when f in let q = refused-when g in (cc, cc)
-
-pub refusal-told : RefusalTold
-unfolding scannedOf readOf
-refusal-told text l code line e =
-    let some : code ≢ 0 = λ z. omega (arith, fault-some (refused-exactly text code line .0 e)) in
-    rw e (simp (ne-eqb code 0 some))
 
 pub word-for-each-act : WordForEachAct
 word-for-each-act = refl

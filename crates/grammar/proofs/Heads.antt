@@ -18,9 +18,9 @@ use Rattle.model.specs.States.{countStands, limitsStand, parametersStand, param
 use Rattle.model.specs.Texts.{valueNames, valuesText, eventNames, headText, firstLine, textLimit}
 use Rattle.model.specs.Readings.{startsWith, numbersAt, scanOf, scanFails, afterValues, ofValues, headOf, bodyOf, refused, trace, traceOf}
 use Rattle.model.proofs.Tests.{by-cond, and-true-iff, tests}
-use Rattle.grammar.specs.Faults.{Differs, Short, Starts, Fault, long, names, values, count, limits, steps}
+use Rattle.grammar.specs.Faults.{Differs, Short, StartsWithValues, Fault, long, names, values, count, limits, steps}
 use Rattle.grammar.proofs.Fields.{Took, starts-took}
-use Rattle.grammar.proofs.Lines.{took-both, numbers-long, numbers-fail, values-was, values-short, values-reads}
+use Rattle.grammar.proofs.Lines.{took-both, numbers-long, numbers-fail, short-values, values-was, values-short, values-reads}
 use Rattle.grammar.proofs.Faults.{fault-some, differs, starts-not}
 
 -- two lines of names, and four numbers each with a digit and the byte that ends it
@@ -62,7 +62,7 @@ module _ (text : List ℕ) (short : length text ≤ textLimit) (named : startsWi
   after-tells size k t digits =
       let rest = drop (length valueNames + size) text in
       let split = took-both (starts-took valueNames text named) t .split ∙ append-assoc valueNames (valuesText k) rest in
-      let starts : Starts text k rest = record { short = short; is = split; digits = digits } in
+      let starts : StartsWithValues text k rest = record { short = short; is = split; digits = digits } in
       by-cond (HeadTells text) (not (countStands k)) (λ u. fails (count k rest starts (not-true _ u))) (λ u.
       by-cond (HeadTells text) (not (limitsStand k)) (λ v. fails (limits k rest starts (not-false _ u) (not-true _ v))) (λ v.
       let stand = and-true-iff (countStands k) (limitsStand k) .1 (not-false _ u, not-false _ v) in
@@ -98,10 +98,10 @@ head-tells text =
 -- A head that is written is read
 
 pub stand-short : (k : Parameters) → parametersStand k ≡ true → Short k
-stand-short k e = let m = simp tests at e in record { n = omega arith; a = omega arith; b = omega arith; c = omega arith }
+stand-short k e = let m = simp tests at e in short-values k (omega arith)
 
 -- what follows values that are read: a refusal of them or of line 3, or the head as a whole
-module _ {text : List ℕ} {k : Parameters} {rest : List ℕ} (s : Starts text k rest) where
+module _ {text : List ℕ} {k : Parameters} {rest : List ℕ} (s : StartsWithValues text k rest) where
   values-read : headOf text ≡ afterValues text (length (valuesText k)) k
   unfolding headOf startsWith
   values-read = rw (le-ltb textLimit (length text) (s .short), s .is, values-reads 2 k rest (s .digits))
@@ -133,7 +133,7 @@ pub head-reads : (k : Parameters) (s : List ℕ) → parametersStand k ≡ true 
     → headOf (headText k ++ s) ≡ scanOf (firstLine k) k (length (headText k))
 unfolding headText startsWith
 head-reads k s e l =
-    let starts : Starts (headText k ++ s) k (eventNames ++ s) = record { short = l; is = simp append-assoc; digits = stand-short k e } in
+    let starts : StartsWithValues (headText k ++ s) k (eventNames ++ s) = record { short = l; is = simp append-assoc; digits = stand-short k e } in
     head-read starts e refl
 
 -- A text that fails before its values

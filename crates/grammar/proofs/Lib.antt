@@ -7,6 +7,6 @@ pub mod Faults
 pub mod Heads
 pub mod Exact
 pub mod Fits
-pub mod Successes
+pub mod Answers
 pub mod RoundTrips
 pub mod Wholes

@@ -2,7 +2,7 @@
 -- step. Assumes nothing.
 use Prim.Native.Nat.{ℕ, zero, suc, _+_, _*_, _≤_, _<_}
 use mathlib.Core.Path.{_≡_, refl, ap, _∙_}
-use mathlib.Core.Logic.{_≢_}
+use mathlib.Core.Logic.{_≢_, _↔_}
 use mathlib.Core.Bool.{true}
 use mathlib.Core.List.{List, [], _∷_, _++_, append-assoc}
 use native.Mathlib.Omega.{arith}
@@ -23,9 +23,10 @@ use Rattle.model.specs.Texts.{Event, event, numbersText, valuesText, eventText,
 use Rattle.model.specs.States.{parametersIn}
 use Rattle.model.specs.Readings.{numberAt, wordAt, opened, eventAt, lineOf, lineFails, numbersFrom, numbersAt}
 use Rattle.model.proofs.Tests.{tests}
+use Rattle.grammar.specs.Digits.{digitsOf}
 use Rattle.grammar.specs.Faults.{Short}
 use Rattle.grammar.proofs.Tables.{every-at}
-use Rattle.grammar.proofs.Digits.{some-digit}
+use Rattle.grammar.proofs.Digits.{some-digit, bounds-are-digits}
 use Rattle.grammar.proofs.Fields.{Took, number-was, number-reads, word-was, word-reads}
 
 -- How many bytes the texts take
@@ -172,18 +173,34 @@ numbers-reads line v ws s h = rw zero-add at (from-reads line v ws 0 0 (replicat
 
 -- The parameters: line 2 is such a line
 
+pub record Below (k : Parameters) : Type 0 where
+  pub n : k .n < numberBound
+  pub a : k .a < numberBound
+  pub b : k .b < numberBound
+  pub c : k .c < numberBound
+
+-- below the bound, and of few digits
+few : (v : ℕ) → (v < numberBound) ↔ (digitsOf v ≤ 8)
+few = bounds-are-digits .number
+
+pub short-values : (k : Parameters) → Below k → Short k
+short-values k h = record { n = few _ .0 (h .n); a = few _ .0 (h .a); b = few _ .0 (h .b); c = few _ .0 (h .c) }
+
+values-below : (k : Parameters) → Short k → Below k
+values-below k h = record { n = few _ .1 (h .n); a = few _ .1 (h .a); b = few _ .1 (h .b); c = few _ .1 (h .c) }
+
 module _ (line : ℕ) (s : List ℕ) (l : Line) (e : numbersAt line 3 s ≡ l) (z : l .code ≡ 0) where
   pub values-was : Took s (valuesText (parametersIn (l .numbers))) (l .size)
   unfolding valuesText
   values-was = numbers-was line 3 s l (omega arith) e z .took
 
   pub values-short : Short (parametersIn (l .numbers))
-  values-short = let h = numbers-was line 3 s l (omega arith) e z .small in omega arith
+  values-short = let h = numbers-was line 3 s l (omega arith) e z .small in short-values (parametersIn (l .numbers)) (omega arith)
 
 pub values-reads : (line : ℕ) (k : Parameters) (s : List ℕ) → Short k
     → numbersAt line 3 (valuesText k ++ s) ≡ lineOf line (k .n ∷ k .a ∷ k .b ∷ k .c ∷ []) (length (valuesText k))
 unfolding valuesText
-values-reads line k s h = numbers-reads line (k .n) (k .a ∷ k .b ∷ k .c ∷ []) s (omega arith)
+values-reads line k s h = let v = values-below k h in numbers-reads line (k .n) (k .a ∷ k .b ∷ k .c ∷ []) s (omega arith)
 
 -- A step
 

@@ -4,12 +4,13 @@ use mathlib.Core.Path.{_≡_, refl, ap, _∙_}
 use mathlib.Core.List.{List, [], _∷_, map}
 use lib.ListN.{length, take, drop, length-map}
 use lib.Seq.{take-at}
+use Rattle.model.specs.declared.Parameters.{Parameters}
 use Rattle.model.specs.Texts.{Event, firstLine, traceText}
 use Rattle.model.specs.Readings.{Lists, over, timesOf, processesOf, actionsOf, stored, readOf}
 use Rattle.model.specs.Writings.{eventsIn, eventsOf, written}
 use Rattle.grammar.specs.RoundTrips.{firstOf, eventsRead, rewritten, ReadThenWrite, WriteThenRead, SameEvents}
-use Rattle.grammar.specs.Successes.{Readable}
-use Rattle.grammar.proofs.Successes.{read-tells, read-iff, write-tells, write-iff}
+use Rattle.grammar.specs.Answers.{Readable}
+use Rattle.grammar.proofs.Answers.{read-is, read-iff, write-is, write-iff}
 
 -- The lists
 
@@ -33,20 +34,21 @@ events-back events l =
 
 -- The round trips
 
-back : (text : List ℕ) (l : Lists) (out : List ℕ) → Readable text l → length text ≤ length out → rewritten (readOf text l) out ≡ written text out
-back text l out r h =
-    rw (read-tells text (r .line) (r .k) (r .events) l (r .says) (r .fits), events-back (r .events) l, r .says .text-is)
-    (write-tells (r .k) (r .events) out (r .says .formed) (rw (r .says .text-is) at h))
+back : (text : List ℕ) (l : Lists) (out : List ℕ) {line : ℕ} {k : Parameters} {events : List Event} → Readable text l line k events
+    → length text ≤ length out → rewritten (readOf text l) out ≡ written text out
+back text l out {line} {k} {events} r h =
+    rw (read-is text l line k events r, events-back events l, r .says .text-is)
+    (write-is k events out (r .says .formed) (rw (r .says .text-is) at h))
 
 pub read-then-write : ReadThenWrite
-read-then-write text l out e h = back text l out (read-iff text l .0 e) h
+read-then-write text l out e h = back text l out (read-iff text l .0 e .3) h
 
 pub write-then-read : WriteThenRead
 write-then-read k l out m e h =
     let f = write-iff k (eventsOf l) out .0 e in
     let text = traceText k (eventsOf l) in
-    rw (write-tells k (eventsOf l) out (f .0) (f .1), take-at text (drop (length text) out) (length text) refl)
-    (read-tells text (firstLine k) k (eventsOf l) m (record { line-is = refl; text-is = refl; formed = f .0 }) h)
+    rw (write-is k (eventsOf l) out (f .0) (f .1), take-at text (drop (length text) out) (length text) refl)
+    (read-is text m (firstLine k) k (eventsOf l) (record { says = record { line-is = refl; text-is = refl; formed = f .0 }; fits = h }))
 
 pub same-events : SameEvents
 same-events k l out m e h = ap eventsRead (write-then-read k l out m e h) ∙ events-back (eventsOf l) m

@@ -1,6 +1,6 @@
 pub mod Digits
 pub mod Exact
 pub mod Faults
-pub mod Successes
+pub mod Answers
 pub mod RoundTrips
 pub mod Wholes
