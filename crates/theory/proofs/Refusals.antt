@@ -5,7 +5,6 @@ use mathlib.Core.Logic.{_≢_}
 use Rattle.model.specs.declared.State.{State}
 use Rattle.model.specs.declared.Answer.{Answer}
 use Rattle.model.specs.declared.Outcome.{Outcome}
-use Rattle.model.specs.Answers.{answerOf}
 use Rattle.theory.specs.Refusals.{Refusal, RefusedIffRefusal}
 use Rattle.theory.proofs.Steps.{Stepped, stepped, refusal-step}
 

@@ -81,13 +81,13 @@ pub record NumbersPlain (s : State) : Type 0 where
 -- `Sound` speaks of each number i, and `entryOf` gives 0, which is no process, the entry of process 1
 pub sound-from : (s : State) → NumbersPlain s → ((i : ℕ) → 1 ≤ i → EntryPlain s i (entryOf s i)) → Sound s
 unfolding entryOf
-sound-from s h entry = record {
+sound-from s h each = record {
   parameters = h .parameters;
   clock = h .clock;
   word = h .word;
-  above = λ i k. entry i (omega arith) .above k;
-  past = λ i. elim i [ zero ↦ entry 1 (omega arith) .past | suc k ↦ entry (suc k) (omega arith) .past ];
-  in-time = λ i d k. entry i (k .from) .in-time d (k .is);
+  above = λ i k. each i (omega arith) .above k;
+  past = λ i. elim i [ zero ↦ each 1 (omega arith) .past | suc k ↦ each (suc k) (omega arith) .past ];
+  in-time = λ i d k. each i (k .from) .in-time d (k .is);
 }
 
 sound-plain : (s : State) → soundOf s ≡ true → Sound s

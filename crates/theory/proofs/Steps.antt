@@ -8,7 +8,6 @@ use native.Mathlib.Omega.{arith}
 use borrow.Author.Tests.{ltb-true, ltb-false, lt-ltb, le-ltb, ne-eqb, not-true, not-false}
 use Rattle.model.specs.declared.State.{State}
 use Rattle.model.specs.declared.Outcome.{Outcome}
-use Rattle.model.specs.Acts.{waitAct, checkAct, lastAct}
 use Rattle.model.specs.States.{release, soundOf, entryOf}
 use Rattle.model.specs.Actions.{effect}
 use Rattle.model.specs.Answers.{answers, backward, beyond, unknown, misnamed, firstDeadline, missed, misplaced, early, accepts, stepOf}
@@ -24,55 +23,7 @@ use Rattle.theory.proofs.Lateness.{missed-first, first-is-due, none-mis
 use Rattle.theory.proofs.Conditions.{opposite, misnamed-told, misplaced-told, placed-told, release-is, early-told, turn-fits, fits-turn}
 
 module _ (s : State) (act p m : ℕ) where
-  -- From the step to what it tells
-
-  pub data Stepped : Outcome → Type 0 where
-    refused : {code process time : ℕ} → Refusal s act p m code process time → Stepped (answers code process time s)
-    accepted : Sound s → Allowed s act p m → Stepped (accepts (effect s act p m))
-
-  too-early : Placed s act p m → early s act p m ≡ true → Refusal s act p m 10 p (release s (entryOf s p))
-  too-early h e =
-      let check = (simp tests at e) .0 in
-      let at = placed-checks s p check (h .placed (omega arith)) in
-      rw (release-is s p at) (Refusal.early _ h check at (early-told s act p m at .0 e .1))
-
-  passed : Placed s act p m → early s act p m ≡ false → Stepped (accepts (effect s act p m))
-  passed h e =
-      let known = h .before .before .before in
-      accepted (known .before .before .sound) (record {
-        forward = known .before .before .forward;
-        within = known .before .within;
-        in-time = h .before .in-time;
-        turn = fits-turn s act p m (record {
-          known = known .known;
-          named = opposite (misnamed-told (s .parameters .n) act p) .1 (h .before .before .named);
-          placed = placed-told s act p (known .known) .1 (h .placed);
-          released = e;
-        });
-      })
-
-  pub stepped : Stepped (stepOf s act p m)
-  unfolding stepOf
-  stepped =
-      by-cond Stepped (not (soundOf s)) (λ e. refused (Refusal.unsound (opposite (sound-iff-plain s) .0 (not-true _ e))))
-      (λ g₁. let sound = sound-iff-plain s .0 (not-false _ g₁) in
-      by-cond Stepped (backward s m) (λ e. refused (Refusal.backward sound (ltb-true _ _ e)))
-      (λ g₄. let forward : Forward s m = record { sound = sound; forward = ltb-false _ _ g₄ } in
-      by-cond Stepped (beyond m) (λ e. refused (Refusal.beyond forward (ltb-true _ _ e)))
-      (λ g₅. let within : Within s m = record { before = forward; within = ltb-false _ _ g₅ } in
-      by-cond Stepped (unknown act) (λ e. refused (Refusal.unknown within (ltb-true _ _ e)))
-      (λ g₆. let known : Known s act m = record { before = within; known = ltb-false _ _ g₆ } in
-      let told = misnamed-told (s .parameters .n) act p in
-      by-cond Stepped (misnamed (s .parameters .n) act p) (λ e. refused (Refusal.misnamed known (told .0 e)))
-      (λ g₇. let named : Named s act p m = record { before = known; named = opposite told .0 g₇ } in
-      by-cond Stepped (missed (firstDeadline s) m) (λ e. refused (Refusal.late _ _ named (missed-first s m e)))
-      (λ g₈. let in-time : InTime s act p m = record { before = named; in-time = none-missed-iff-all-in-time s m .0 g₈ } in
-      by-cond Stepped (misplaced s act p)
-      (λ e. let h = misplaced-told s act p (known .known) .0 e in refused (Refusal.misplaced in-time (h .0) (h .1)))
-      (λ g₉. let placed : Placed s act p m = record { before = in-time; placed = placed-told s act p (known .known) .0 g₉ } in
-      by-cond Stepped (early s act p m) (λ e. refused (too-early placed e)) (λ g₁₀. passed placed g₁₀))))))))
-
-  -- From what it tells to the step
+  -- From the conditions to the step
 
   -- the tests of 1, 4, 5, 6 and 7 fail
   record Admitted : Type 0 where
@@ -149,6 +100,54 @@ module _ (s : State) (act p m : ℕ) where
         f .placed,
         f .released,
       )
+
+  -- From the step to the conditions
+
+  pub data Stepped : Outcome → Type 0 where
+    refused : {code process time : ℕ} → Refusal s act p m code process time → Stepped (answers code process time s)
+    accepted : Sound s → Allowed s act p m → Stepped (accepts (effect s act p m))
+
+  too-early : Placed s act p m → early s act p m ≡ true → Refusal s act p m 10 p (release s (entryOf s p))
+  too-early h e =
+      let check = (simp tests at e) .0 in
+      let at = placed-checks s p check (h .placed (omega arith)) in
+      rw (release-is s p at) (Refusal.early _ h check at (early-told s act p m at .0 e .1))
+
+  passed : Placed s act p m → early s act p m ≡ false → Stepped (accepts (effect s act p m))
+  passed h e =
+      let known = h .before .before .before in
+      accepted (known .before .before .sound) (record {
+        forward = known .before .before .forward;
+        within = known .before .within;
+        in-time = h .before .in-time;
+        turn = fits-turn s act p m (record {
+          known = known .known;
+          named = opposite (misnamed-told (s .parameters .n) act p) .1 (h .before .before .named);
+          placed = placed-told s act p (known .known) .1 (h .placed);
+          released = e;
+        });
+      })
+
+  pub stepped : Stepped (stepOf s act p m)
+  unfolding stepOf
+  stepped =
+      by-cond Stepped (not (soundOf s)) (λ e. refused (Refusal.unsound (opposite (sound-iff-plain s) .0 (not-true _ e))))
+      (λ g₁. let sound = sound-iff-plain s .0 (not-false _ g₁) in
+      by-cond Stepped (backward s m) (λ e. refused (Refusal.backward sound (ltb-true _ _ e)))
+      (λ g₄. let forward : Forward s m = record { sound = sound; forward = ltb-false _ _ g₄ } in
+      by-cond Stepped (beyond m) (λ e. refused (Refusal.beyond forward (ltb-true _ _ e)))
+      (λ g₅. let within : Within s m = record { before = forward; within = ltb-false _ _ g₅ } in
+      by-cond Stepped (unknown act) (λ e. refused (Refusal.unknown within (ltb-true _ _ e)))
+      (λ g₆. let known : Known s act m = record { before = within; known = ltb-false _ _ g₆ } in
+      let told = misnamed-told (s .parameters .n) act p in
+      by-cond Stepped (misnamed (s .parameters .n) act p) (λ e. refused (Refusal.misnamed known (told .0 e)))
+      (λ g₇. let named : Named s act p m = record { before = known; named = opposite told .0 g₇ } in
+      by-cond Stepped (missed (firstDeadline s) m) (λ e. refused (Refusal.late _ _ named (missed-first s m e)))
+      (λ g₈. let in-time : InTime s act p m = record { before = named; in-time = none-missed-iff-all-in-time s m .0 g₈ } in
+      by-cond Stepped (misplaced s act p)
+      (λ e. let h = misplaced-told s act p (known .known) .0 e in refused (Refusal.misplaced in-time (h .0) (h .1)))
+      (λ g₉. let placed : Placed s act p m = record { before = in-time; placed = placed-told s act p (known .known) .0 g₉ } in
+      by-cond Stepped (early s act p m) (λ e. refused (too-early placed e)) (λ g₁₀. passed placed g₁₀))))))))
 
 -- What an answer tells
 

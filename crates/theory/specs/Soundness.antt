@@ -69,7 +69,7 @@ pub record Fresh (k : Parameters) (s : State) : Type 0 where
   pub size : length (s .processes) ≡ 96
   pub all : (i : ℕ) → entryOf s i .location ≡ Remainder
 
--- [2.65] it is given exactly for the parameters that stand, and it is sound
+-- [2.65] the outcome o of a call for one: it is given exactly for the parameters that stand, and it is sound
 pub record FreshTable (k : Parameters) (o : Outcome) : Type 0 where
   -- [4.11] [4.12] it is refused exactly where one of them holds
   pub accepted : Accepted o ↔ ParametersStand k

@@ -1,5 +1,5 @@
--- Section 5 of the specification from a second side: the soundness of a summary in plain facts, and what a recorded step gives back,
--- by its answer. Assumes nothing.
+-- Section 5 of the specification from a second side: the soundness of a summary in plain facts, what a recorded step gives back, by its
+-- answer, and how it counts its act. Assumes nothing.
 use Prim.Native.Nat.{ℕ, _+_, _-_, _≤_, _<_}
 use mathlib.Core.Path.{_≡_}
 use mathlib.Core.Logic.{_≢_, _↔_}
@@ -39,7 +39,8 @@ pub record HasRoom (clock : ℕ) (x : Statistics) : Type 0 where
   pub sound : SummarySound clock x
   pub not-full : NotFull x
 
--- [5.30] when a recorded step looks at the summary only, and what it gives back then; what it counts is `ActCounted`
+-- [5.30] [4.80] when a recorded step gives 1, 2 or 3, what these leave, and that it is the step otherwise; for what is counted,
+-- `ActCounted`
 pub record RecordedTells (s : State) (x : Statistics) (act p m : ℕ) (r : Recorded) : Type 0 where
   -- [4.1]
   pub one : (r .outcome .answer .code ≡ 1) ↔ (soundOf s ≡ false)
