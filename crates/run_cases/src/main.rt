@@ -1,7 +1,11 @@
 // Runs the table of cases, each call at the state that the one before it gave back, and prints what came of each row:
 // the answer, then the clock, the word, and place and arrival of windows 1 and 2 of the table given back.
-use cases::FRESH;
-use cases::Row;
+mod rows;
+
+use crate::rows::FRESH;
+use crate::rows::Row;
+use crate::rows::call;
+use crate::rows::table;
 use libc::STDOUT_FILENO;
 use model::Outcome;
 use model::Process;
@@ -56,14 +60,14 @@ fn print_names() {
 
 fn main() {
     print_names();
-    let rows = cases::table();
+    let rows = table();
     // the state before the first row, which is a fresh one and has no use for it
     let made = machine::fresh(no_parameters());
     let mut state = made.state;
     for i in 0..rows.len() {
         let row = rows[i];
         print_fresh(row);
-        let outcome = cases::call(state, row);
+        let outcome = call(state, row);
         print_outcome((i as u64) + 1, outcome);
         let next = outcome.state;
         state = next;

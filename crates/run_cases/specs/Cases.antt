@@ -42,8 +42,8 @@ abbrev pub timeOf : List ℕ → ℕ
 timeOf row = getD row 3 0
 
 -- [20.120] what a row's call gives back, a step from the state s
-unfoldable pub outcomeOf : State → List ℕ → Outcome
-outcomeOf s row = cond (eqb (kindOf row) 0) (freshOf (askedOf row)) (stepOf s (actionOf row) (processOf row) (timeOf row))
+unfoldable pub calledOf : State → List ℕ → Outcome
+calledOf s row = cond (eqb (kindOf row) 0) (freshOf (askedOf row)) (stepOf s (actionOf row) (processOf row) (timeOf row))
 
 -- What must come of it
 
@@ -92,4 +92,4 @@ expectedOf row = record { answer = answerTold row; state = stateTold row }
 -- the state s.
 unfoldable pub Hold : State → List (List ℕ) → Type 0
 Hold s [] = Unit
-Hold s (row ∷ rows) = (outcomeOf s row ≡ expectedOf row) × Hold (outcomeOf s row .state) rows
+Hold s (row ∷ rows) = (calledOf s row ≡ expectedOf row) × Hold (calledOf s row .state) rows

@@ -1,5 +1,5 @@
 // The cases of section 20 of the specification: one table of numbers, proved to be what the definitions of `model` give, and
-// the call that a row of it makes. The program `run_cases` runs the same table.
+// the call that a row of it makes. The program runs the same table.
 use model::Outcome;
 use model::Parameters;
 use model::State;
@@ -19,10 +19,10 @@ use rules::stages::SETTING;
 use rules::stages::TESTING;
 ghost use mathlib.Core.Path.{_≡_};
 ghost use Rattle.model.specs.Answers.{blank};
-ghost use Rattle.cases.specs.Cases.{askedOf, outcomeOf, Hold};
+ghost use Rattle.run_cases.specs.Cases.{askedOf, calledOf, Hold};
 
 // the kind of a row that asks for a fresh state
-pub const FRESH: u64 = 0;
+pub(crate) const FRESH: u64 = 0;
 
 // that of a step
 const STEP: u64 = 1;
@@ -32,7 +32,7 @@ const STEP: u64 = 1;
 //   the answer: code, process, time;
 //   the state given back: n, a, b, c, clock, word, then stage and since of process 1 and of process 2.
 // All that is not said is as in a fresh state.
-pub type Row = [u64; 18];
+pub(crate) type Row = [u64; 18];
 
 // A fresh row starts a case, and a step goes on from the state of the row before it. The row of a refused step has the state
 // of the row before it again. The formatter is kept off, as it would give each number a line.
@@ -112,7 +112,7 @@ const CASES: [Row; 57] = [
 ];
 
 // [20.120] The table of cases. Each row's call gives back what the row tells; the state before the first row, a fresh one, is of no account.
-pub fn table() -> [Row; 57]
+pub(crate) fn table() -> [Row; 57]
     ensures { λ r. ⌜ Hold blank r ⌝ }
 {
     CASES
@@ -131,8 +131,8 @@ fn asked(row: Row) -> Parameters
 }
 
 // The call that a row makes, a step at the state that the row before it gave back.
-pub fn call(state: State, row: Row) -> Outcome
-    ensures { λ r. ⌜ r ≡ outcomeOf state row ⌝ }
+pub(crate) fn call(state: State, row: Row) -> Outcome
+    ensures { λ r. ⌜ r ≡ calledOf state row ⌝ }
 {
     if row[0] == FRESH {
         return machine::fresh(asked(row));

@@ -14,7 +14,7 @@ use Rattle.model.specs.declared.Outcome.{Outcome}
 use Rattle.model.specs.States.{entry, stageOf, sinceOf, locationAt}
 use Rattle.model.proofs.Locations.{location-is}
 use Rattle.model.proofs.Tests.{and-true-iff, tests}
-use Rattle.cases.specs.Cases.{outcomeOf, expectedOf, Hold}
+use Rattle.run_cases.specs.Cases.{calledOf, expectedOf, Hold}
 
 -- The test
 
@@ -43,7 +43,7 @@ sameOutcome x y = sameAnswer (x .answer) (y .answer) && sameState (x .state) (y 
 
 unfoldable pub passes : State → List (List ℕ) → Bool
 passes s [] = true
-passes s (row ∷ rows) = sameOutcome (outcomeOf s row) (expectedOf row) && passes (outcomeOf s row .state) rows
+passes s (row ∷ rows) = sameOutcome (calledOf s row) (expectedOf row) && passes (calledOf s row .state) rows
 
 -- What is the same is equal
 
@@ -96,6 +96,6 @@ pub hold : (s : State) (rows : List (List ℕ)) → passes s rows ≡ true → H
 unfolding Hold passes
 hold s [] t = tt
 hold s (row ∷ rows) t =
-    let next = outcomeOf s row .state in
-    let h = and-true-iff (sameOutcome (outcomeOf s row) (expectedOf row)) (passes next rows) .0 t in
-    (outcome-equal (outcomeOf s row) (expectedOf row) (h .0), hold next rows (h .1))
+    let next = calledOf s row .state in
+    let h = and-true-iff (sameOutcome (calledOf s row) (expectedOf row)) (passes next rows) .0 t in
+    (outcome-equal (calledOf s row) (expectedOf row) (h .0), hold next rows (h .1))

@@ -1,17 +1,17 @@
--- `cases::table` meets its contract: the table passes the test, which antt computes.
+-- `rows::table` meets its contract: the table passes the test, which antt computes.
 -- Assumes nothing.
 use mathlib.Core.Path.{refl}
 use Rattle.model.specs.Acts.{leaves}
 use Rattle.model.specs.States.{limitIn, entriesSound, soundOf, entryOf}
 use Rattle.model.specs.Actions.{transitionOf, effect}
 use Rattle.model.specs.Answers.{firstFrom, firstDeadline, criticalFrom, criticalOf, stepOf, freshOf}
-use Rattle.cases.specs.Cases.{outcomeOf, expectedOf}
-use Rattle.cases.proofs.Cases.{sameAnswer, sameParameters, sameEntry, sameEntries, sameState, sameOutcome, passes, hold}
-use Rattle.cases.proofs.table.Statement.{statement}
-use Rattle.cases.proofs.table.Tie as tie
+use Rattle.run_cases.specs.Cases.{calledOf, expectedOf}
+use Rattle.run_cases.proofs.Cases.{sameAnswer, sameParameters, sameEntry, sameEntries, sameState, sameOutcome, passes, hold}
+use Rattle.run_cases.proofs.rows.table.Statement.{statement}
+use Rattle.run_cases.proofs.rows.table.Tie as tie
 
 returns : tie.Need-returns
-unfolding passes sameOutcome sameState sameEntries sameEntry sameParameters sameAnswer outcomeOf expectedOf freshOf stepOf soundOf entriesSound
+unfolding passes sameOutcome sameState sameEntries sameEntry sameParameters sameAnswer calledOf expectedOf freshOf stepOf soundOf entriesSound
     firstDeadline firstFrom entryOf leaves transitionOf effect criticalOf criticalFrom limitIn
 returns c = hold _ _ refl
 
