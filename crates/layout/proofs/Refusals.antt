@@ -1,5 +1,5 @@
 -- A refusal leaves the lent numbers: a refused call gives back the table that they tell, and that has these numbers. A refused act
--- that is counted raises one of them. Assumes nothing.
+-- that is counted raises one of them. And what the calls that are lent only an output answer otherwise. Assumes nothing.
 use Prim.Native.Nat.{ℕ, _+_, _≤_}
 use mathlib.Core.Path.{_≡_, refl, _∙_}
 use mathlib.Core.Logic.{_≢_}
@@ -10,6 +10,7 @@ use lib.Seq.{getD-take}
 use Rattle.model.specs.declared.Parameters.{Parameters}
 use Rattle.model.specs.declared.State.{State}
 use Rattle.model.specs.declared.Outcome.{Outcome}
+use Rattle.model.specs.Answers.{answerOf}
 use Rattle.model.specs.Readings.{over}
 use Rattle.model.specs.Summaries.{refusedCounted}
 use Rattle.model.specs.Calls.{Call}
@@ -17,12 +18,13 @@ use Rattle.layout.specs.Encodings.{tableIn, summaryLength, statisticsNum
 use Rattle.model.proofs.Lists.{over-set}
 use Rattle.layout.proofs.Numbers.{length-summary}
 use Rattle.lists.proofs.Calls.{Called, called}
+use Rattle.theory.proofs.Soundness.{fresh-is-plain}
 use Rattle.theory.proofs.RecordedSteps.{judged, refused-counted}
 use Rattle.theory.proofs.Summaries.{recorded-is-plain}
 use Rattle.layout.proofs.Encodings.{sound-is-table, numbers-come-back, summary-numbers-come-back}
 use Rattle.layout.specs.Interface.{Lent, LentSummary, LentBoth}
 use Rattle.layout.specs.Guarantees.{RefusedFreshStays, RefusedStepStays, RefusedSummaryStays, RefusedRecordStays}
-use Rattle.layout.specs.Guarantees.{SummaryStays, RefusedIsCounted, LentCall, lentCall, callLent}
+use Rattle.layout.specs.Guarantees.{SummaryStays, RefusedIsCounted, LentSuccesses, LentCall, lentCall, callLent}
 use Rattle.layout.proofs.LentSteps.{FreshGiven, fresh-given, NewGiven, new-given, RecordGiven, record-given}
 use Rattle.layout.proofs.LentSteps.{stepCall, recordCall, CallGiven, Given, given}
 
@@ -36,11 +38,25 @@ new-stays : {summary : List ℕ} {r : LentSummary} → NewGiven summary r → r 
 new-stays NewGiven.refused n = refl
 new-stays (NewGiven.made _) n = absurd (n refl)
 
+fresh-answers : {k : Parameters} {table : List ℕ} {r : Lent} → FreshGiven k table r → r .answer .code ≡ 0 → r .answer ≡ answerOf 0 0 0
+fresh-answers (FreshGiven.refused n) e = absurd (n e)
+fresh-answers {k} (FreshGiven.made accepted _) e = fresh-is-plain k .answer accepted
+
+new-answers : {summary : List ℕ} {r : LentSummary} → NewGiven summary r → r .answer .code ≡ 0 → r .answer ≡ answerOf 0 0 0
+new-answers NewGiven.refused e = absurd (omega arith)
+new-answers (NewGiven.made _) e = refl
+
 pub refused-fresh-stays : RefusedFreshStays
 refused-fresh-stays k table = fresh-stays (fresh-given k table)
 
 pub refused-summary-stays : RefusedSummaryStays
 refused-summary-stays summary = new-stays (new-given summary)
+
+pub lent-successes : LentSuccesses
+lent-successes = record {
+  fresh = λ k table. fresh-answers (fresh-given k table);
+  new-summary = λ summary. new-answers (new-given summary);
+}
 
 -- The table of a step and of a recorded step
 
