@@ -98,7 +98,7 @@ module _ {table summary : List ℕ} {act p m : ℕ} where
   leaves-summary (RecordGiven.no-table _) n h = refl
   leaves-summary (RecordGiven.no-summary _ _) n h = refl
   leaves-summary (RecordGiven.taken _ fits) n h =
-      rw (recorded-is-plain (tableIn table) (summaryIn summary) act p m .unchanged (omega arith) h .1)
+      rw (recorded-is-plain (tableIn table) (summaryIn summary) act p m .unchanged (omega arith) h .2)
       (summary-numbers-come-back summary fits)
 
   counts-refused : {r : LentBoth} → RecordGiven table summary act p m r

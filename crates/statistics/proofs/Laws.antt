@@ -107,7 +107,7 @@ module _ (s : State) (x : Statistics) (act p m : ℕ) where
       gives f = λ i. beside (sym f i) (same i)
 
       pub gives-unsound : o .answer .code ≡ 1 → beside x o ≡ recordedOf s x act p m
-      gives-unsound k = gives (tells .unchanged (omega (arith, rw same at k)) (omega (arith, rw same at k)) .1)
+      gives-unsound k = gives (tells .unchanged (omega (arith, rw same at k)) (omega (arith, rw same at k)) .2)
 
       pub gives-accepted : Accepted o → {y : Statistics} → y ≡ acceptedCounted x act p m → beside y o ≡ recordedOf s x act p m
       gives-accepted k f = gives (accepted-counted s x act p m (judged s x act p m) (rw same at k) ∙ sym f)

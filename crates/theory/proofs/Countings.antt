@@ -11,11 +11,11 @@ use Rattle.model.specs.declared.Counts.{Counts}
 use Rattle.model.specs.declared.Statistics.{Statistics}
 use Rattle.model.specs.Acts.{waitAct, tryAct, critAct, exitAct}
 use Rattle.model.specs.Summaries.{countsAfter, triedAfter, acceptedCounted, refusedCounted}
-use Rattle.theory.specs.Summaries.{OneRefused, tryTime, Counting, OneAccepted}
+use Rattle.theory.specs.Summaries.{RefusedAdded, tryTime, Counting, AcceptedAdded}
 use Rattle.model.proofs.Tests.{if-eq, if-lt, by-cond}
 
-pub one-refused : (x : Statistics) → OneRefused x (refusedCounted x)
-one-refused x = record {
+pub refused-added : (x : Statistics) → RefusedAdded x (refusedCounted x)
+refused-added x = record {
   refused-rises = refl;
   accepted-stays = refl;
   entries-stay = refl;
@@ -43,10 +43,10 @@ module _ (k : Counts) (act m t : ℕ) where
       (λ x. rw (ne-eqb act tryAct n, ne-eqb act critAct c, ne-eqb act exitAct x) (Counting.other n c x))))
 
 module _ (x : Statistics) (act p m : ℕ) where
-  pub one-accepted : length (x .tries) ≡ 96 → p ≤ 96 → (p ≡ 0 → act ≡ waitAct) → tryTime x p ≤ m
-      → OneAccepted act p m x (acceptedCounted x act p m)
+  pub accepted-added : length (x .tries) ≡ 96 → p ≤ 96 → (p ≡ 0 → act ≡ waitAct) → tryTime x p ≤ m
+      → AcceptedAdded act p m x (acceptedCounted x act p m)
   unfolding acceptedCounted
-  one-accepted size most wait tried =
+  accepted-added size most wait tried =
       let l = x .tries in
       let after = triedAfter (tryTime x p) act m in
       let rise = one-counted (x .counts) act m (tryTime x p) in

@@ -109,6 +109,10 @@ module _ (s : State) (p : ℕ) {act : ℕ} where
   unfolding leaves
   placed-checks e h = stage-location (entryOf s p .location) {k = checking} (placed-stage h ∙ ap leaves e)
 
+  -- and who is in checking is in its place
+  pub checks-placed : {t : ℕ} → act ≡ checkAct → entryOf s p .location ≡ Checking t → InPlace s act p
+  checks-placed {t} e at = (t + s .parameters .b, rw (e, at) (From.check {t = t} (omega arith)))
+
 -- Where it leads
 
 pub row-effect : (s : State) (p : ℕ) {b m act : ℕ} {l : Location} → From b m act l

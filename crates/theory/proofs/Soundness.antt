@@ -197,17 +197,21 @@ fresh-is k e = record { parameters = k; accepted = e; is = refl }
 
 -- A sound state with two critical processes
 
+abbrev withTwo : State
+withTwo = record {
+  parameters = parametersOf 2 5 8 12;
+  clock = 0;
+  word = 0;
+  processes = entry Critical ∷ entry Critical ∷ replicate 94 idle;
+}
+
 pub two-critical-may-be-sound : TwoCriticalMayBeSound
 unfolding soundOf entriesSound entryOf
 two-critical-may-be-sound = (
+  withTwo,
   record {
-    parameters = parametersOf 2 5 8 12;
-    clock = 0;
-    word = 0;
-    processes = entry Critical ∷ entry Critical ∷ replicate 94 idle;
-  },
-  record {
-    sound = refl;
+    sound = sound-iff-plain withTwo .0 refl;
+    size = refl;
     first = record { from = omega arith; at = refl };
     second = record { from = omega arith; at = refl };
   },

@@ -9,15 +9,16 @@ use borrow.Author.Tests.{ltb-true, ltb-false, lt-ltb, le-ltb, ne-eqb, not-true, 
 use Rattle.model.specs.declared.State.{State}
 use Rattle.model.specs.declared.Outcome.{Outcome}
 use Rattle.model.specs.States.{release, soundOf, entryOf}
+use Rattle.model.specs.Acts.{waitAct}
 use Rattle.model.specs.Actions.{effect}
 use Rattle.model.specs.Answers.{answers, backward, beyond, unknown, misnamed, firstDeadline, missed, misplaced, early, accepts, stepOf}
 use Rattle.model.specs.Facts.{Accepted}
 use Rattle.theory.specs.Soundness.{Sound, UnsoundIffOne}
 use Rattle.theory.specs.Acceptance.{Allowed}
 use Rattle.theory.specs.Lateness.{AllInTime}
-use Rattle.theory.specs.Refusals.{Forward, Within, Known, Named, InTime, Placed, Refusal}
+use Rattle.theory.specs.Refusals.{InPlace, Forward, Within, Known, Named, OnTime, Refusal}
 use Rattle.model.proofs.Tests.{by-test, by-cond, tests}
-use Rattle.theory.proofs.Rows.{placed-checks}
+use Rattle.theory.proofs.Rows.{placed-checks, checks-placed}
 use Rattle.theory.proofs.Soundness.{sound-iff-plain}
 use Rattle.theory.proofs.Lateness.{missed-first, first-is-due, none-missed-iff-all-in-time}
 use Rattle.theory.proofs.Conditions.{opposite, misnamed-told, misplaced-told, placed-told, release-is, early-told, turn-fits, fits-turn}
@@ -81,10 +82,10 @@ module _ (s : State) (act p m : ℕ) where
       let e = misplaced-told s act p (h .before .before .known) .1 (n, k) in
       simp (a .sound, a .forward, a .within, a .known, a .named, none-missed (h .in-time), e)
   refusal-step (Refusal.early t h c at k) =
-      let a = admitted (h .before .before) in
-      let placed = placed-told s act p (h .before .before .before .known) .1 (h .placed) in
+      let a = admitted (h .before) in
+      let placed = placed-told s act p (h .before .before .known) .1 (λ _. checks-placed s p c at) in
       let e = early-told s act p m at .1 (c, k) in
-      simp (a .sound, a .forward, a .within, a .known, a .named, none-missed (h .before .in-time), placed, e) (rw (release-is s p at))
+      simp (a .sound, a .forward, a .within, a .known, a .named, none-missed (h .in-time), placed, e) (rw (release-is s p at))
 
   pub allowed-step : Sound s → Allowed s act p m → stepOf s act p m ≡ accepts (effect s act p m)
   unfolding stepOf
@@ -107,13 +108,18 @@ module _ (s : State) (act p m : ℕ) where
     refused : {code process time : ℕ} → Refusal s act p m code process time → Stepped (answers code process time s)
     accepted : Sound s → Allowed s act p m → Stepped (accepts (effect s act p m))
 
-  too-early : Placed s act p m → early s act p m ≡ true → Refusal s act p m 10 p (release s (entryOf s p))
+  -- past 9 too
+  record Placed : Type 0 where
+    before : OnTime s act p m
+    placed : act ≢ waitAct → InPlace s act p
+
+  too-early : Placed → early s act p m ≡ true → Refusal s act p m 10 p (release s (entryOf s p))
   too-early h e =
       let check = (simp tests at e) .0 in
       let at = placed-checks s p check (h .placed (omega arith)) in
-      rw (release-is s p at) (Refusal.early _ h check at (early-told s act p m at .0 e .1))
+      rw (release-is s p at) (Refusal.early _ (h .before) check at (early-told s act p m at .0 e .1))
 
-  passed : Placed s act p m → early s act p m ≡ false → Stepped (accepts (effect s act p m))
+  passed : Placed → early s act p m ≡ false → Stepped (accepts (effect s act p m))
   passed h e =
       let known = h .before .before .before in
       accepted (known .before .before .sound) (record {
@@ -143,10 +149,10 @@ module _ (s : State) (act p m : ℕ) where
       by-cond Stepped (misnamed (s .parameters .n) act p) (λ e. refused (Refusal.misnamed known (told .0 e)))
       (λ g₇. let named : Named s act p m = record { before = known; named = opposite told .0 g₇ } in
       by-cond Stepped (missed (firstDeadline s) m) (λ e. refused (Refusal.late _ _ named (missed-first s m e)))
-      (λ g₈. let in-time : InTime s act p m = record { before = named; in-time = none-missed-iff-all-in-time s m .0 g₈ } in
+      (λ g₈. let in-time : OnTime s act p m = record { before = named; in-time = none-missed-iff-all-in-time s m .0 g₈ } in
       by-cond Stepped (misplaced s act p)
       (λ e. let h = misplaced-told s act p (known .known) .0 e in refused (Refusal.misplaced in-time (h .0) (h .1)))
-      (λ g₉. let placed : Placed s act p m = record { before = in-time; placed = placed-told s act p (known .known) .0 g₉ } in
+      (λ g₉. let placed : Placed = record { before = in-time; placed = placed-told s act p (known .known) .0 g₉ } in
       by-cond Stepped (early s act p m) (λ e. refused (too-early placed e)) (λ g₁₀. passed placed g₁₀))))))))
 
 -- What an answer tells

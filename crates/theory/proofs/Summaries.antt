@@ -21,7 +21,7 @@ use Rattle.theory.proofs.Conditions.{turn-named, turn-waits}
 use Rattle.theory.proofs.Acceptance.{accepted-iff-allowed, refused-stays}
 use Rattle.theory.proofs.Steps.{unsound-iff-one, unsound-is, step-refuses}
 use Rattle.theory.proofs.RecordedSteps.{Open, Judged, judged, accepted-counted, refused-counted}
-use Rattle.theory.proofs.Countings.{one-refused, one-accepted}
+use Rattle.theory.proofs.Countings.{refused-added, accepted-added}
 
 -- Soundness
 
@@ -78,14 +78,14 @@ module _ (s : State) (x : Statistics) (act p m : ℕ) where
     two = (λ c. absurd (omega arith), λ h. clash (h .0) e);
     three = (λ c. absurd (omega arith), λ h. clash (h .0) e);
     step = λ _. sym (unsound-is s act p m e);
-    unchanged = λ h k. (refl, refl);
+    unchanged = λ h k. (refl, refl, refl);
   }
   judged-tells (Judged.no-summary sound e) = record {
     one = (λ c. absurd (omega arith), λ f. clash sound f);
     two = (λ c. (sound, unsound-summary e), λ _. refl);
     three = (λ c. absurd (omega arith), λ h. absurd (unsound-summary e (h .1)));
     step = λ room. absurd (unsound-summary e (room .sound));
-    unchanged = λ h k. (refl, refl);
+    unchanged = λ h k. (refl, refl, refl);
   }
   judged-tells (Judged.filled sound stands e) =
       let plain = summary-sound-iff-plain (s .clock) x .0 stands in
@@ -94,7 +94,7 @@ module _ (s : State) (x : Statistics) (act p m : ℕ) where
         two = (λ c. absurd (omega arith), λ h. absurd (h .1 plain));
         three = (λ c. (sound, plain, e), λ _. refl);
         step = λ room. absurd (room .not-full e);
-        unchanged = λ h k. (refl, refl);
+        unchanged = λ h k. (refl, refl, refl);
       }
   judged-tells (Judged.counted o) = counted-tells (o .sound) (open-room o)
 
@@ -104,18 +104,19 @@ recorded-is-plain s x act p m = judged-tells s x act p m (judged s x act p m)
 -- What is counted
 
 pub every-act-counted : EveryActCounted
-every-act-counted s x sound room size act p m =
+every-act-counted s x plain room size act p m =
+    let sound = sound-iff-plain s .1 plain in
     let step = recorded-is-plain s x act p m .step room in
     let why = judged s x act p m in
     record {
       step = step;
       refused = λ n. (
         ap (λ (o : Outcome). o .state) step ∙ refused-stays s act p m (rw step at n),
-        rw (refused-counted s x act p m why (rw step (step-refuses s act p m sound (rw step at n) .some))) (one-refused x),
+        rw (refused-counted s x act p m why (rw step (step-refuses s act p m sound (rw step at n) .some))) (refused-added x),
       );
       accepted = λ e.
           let allowed = accepted-iff-allowed s sound act p m .0 (rw step at e) in
-          let count = sound-iff-plain s .0 sound .parameters .count in
-          rw (accepted-counted s x act p m why e) (one-accepted x act p m size (omega (arith, turn-named (allowed .turn)))
+          let count = plain .parameters .count in
+          rw (accepted-counted s x act p m why e) (accepted-added x act p m size (omega (arith, turn-named (allowed .turn)))
           (turn-waits (allowed .turn)) (omega (arith, room .sound .tries (p - 1), allowed .forward)));
     }

@@ -26,7 +26,7 @@ InPlace s act p = (t : ℕ) × From (s .parameters .b) t act (entryOf s p .locat
 
 -- What holds where the conditions up to one of them do not, in the order of the codes
 
--- [4.80] none of 1 and 4
+-- [4.80] [4.83] neither 1 nor 4; 2 and 3 are the summary's
 pub record Forward (s : State) (m : ℕ) : Type 0 where
   pub sound : Sound s
   pub forward : s .clock ≤ m
@@ -47,14 +47,9 @@ pub record Named (s : State) (act p m : ℕ) : Type 0 where
   pub named : Misnamed (s .parameters .n) act p → ⊥
 
 -- [4.80] nor 8
-pub record InTime (s : State) (act p m : ℕ) : Type 0 where
+pub record OnTime (s : State) (act p m : ℕ) : Type 0 where
   pub before : Named s act p m
   pub in-time : AllInTime s m
-
--- [4.80] nor 9
-pub record Placed (s : State) (act p m : ℕ) : Type 0 where
-  pub before : InTime s act p m
-  pub placed : act ≢ waitAct → InPlace s act p
 
 -- The refusals
 
@@ -73,9 +68,9 @@ pub data Refusal (s : State) (act p m : ℕ) : ℕ → ℕ → ℕ → Type 0 wh
   -- [4.8]
   late : (i d : ℕ) → Named s act p m → FirstMissed s m i d → Refusal s act p m 8 i d
   -- [4.9]
-  misplaced : InTime s act p m → act ≢ waitAct → (InPlace s act p → ⊥) → Refusal s act p m 9 p 0
-  -- [4.10] [2.100]
-  early : (t : ℕ) → Placed s act p m → act ≡ checkAct → entryOf s p .location ≡ Checking t → m < t + s .parameters .b
+  misplaced : OnTime s act p m → act ≢ waitAct → (InPlace s act p → ⊥) → Refusal s act p m 9 p 0
+  -- [4.10] [2.100] it is in place, so that 9 does not hold
+  early : (t : ℕ) → OnTime s act p m → act ≡ checkAct → entryOf s p .location ≡ Checking t → m < t + s .parameters .b
       → Refusal s act p m 10 p (t + s .parameters .b)
 
 -- [4.80] [4.83] of any state, sound or not

@@ -47,7 +47,8 @@ SoundIffPlain = (s : State) → (soundOf s ≡ true) ↔ Sound s
 
 -- [2.135] a sound state in which two processes are critical
 pub record SoundWithTwo (s : State) : Type 0 where
-  pub sound : soundOf s ≡ true
+  pub sound : Sound s
+  pub size : length (s .processes) ≡ 96
   pub first : IsCritical s 1
   pub second : IsCritical s 2
 

@@ -11,7 +11,8 @@ use Rattle.model.specs.declared.Statistics.{Statistics}
 use Rattle.model.specs.declared.Recorded.{Recorded}
 use Rattle.model.specs.Acts.{tryAct, critAct, exitAct}
 use Rattle.model.specs.States.{lastTime, soundOf}
-use Rattle.model.specs.Answers.{stepOf}
+use Rattle.model.specs.Answers.{answerOf, stepOf}
+use Rattle.theory.specs.Soundness.{Sound}
 use Rattle.model.specs.Summaries.{mostActs, statisticsSound, recordedOf}
 
 -- [5.40] [5.50] of the counts; the sums are those of numbers without an end
@@ -51,8 +52,9 @@ pub record RecordedTells (s : State) (x : Statistics) (act p m : ℕ) (r : Recor
       ↔ ((soundOf s ≡ true) × SummarySound (s .clock) x × (x .counts .accepted + x .counts .refused ≡ mostActs))
   -- [5.110] where neither 2 nor 3 applies; a state that is not sound is answered alike by both
   pub step : HasRoom (s .clock) x → r .outcome ≡ stepOf s act p m
-  -- [5.105] [4.110] 1, 2 and 3 change nothing
-  pub unchanged : 1 ≤ r .outcome .answer .code → r .outcome .answer .code ≤ 3 → (r .outcome .state ≡ s) × (r .statistics ≡ x)
+  -- [4.1] [4.2] [4.3] [5.105] [4.110] 1, 2 and 3 carry 0 and 0, and change nothing
+  pub unchanged : 1 ≤ r .outcome .answer .code → r .outcome .answer .code ≤ 3
+      → (r .outcome .answer ≡ answerOf (r .outcome .answer .code) 0 0) × (r .outcome .state ≡ s) × (r .statistics ≡ x)
 
 -- [5.30] [5.105] [5.110] of any table and any summary, sound or not
 abbrev pub RecordedIsPlain : Type 0
@@ -61,7 +63,7 @@ RecordedIsPlain = (s : State) (x : Statistics) (act p m : ℕ) → RecordedTells
 -- What is counted, in plain facts
 
 -- [5.100] y is the summary x with one refused act more
-pub record OneRefused (x y : Statistics) : Type 0 where
+pub record RefusedAdded (x y : Statistics) : Type 0 where
   pub refused-rises : y .counts .refused ≡ x .counts .refused + 1
   pub accepted-stays : y .counts .accepted ≡ x .counts .accepted
   pub entries-stay : y .counts .entries ≡ x .counts .entries
@@ -76,18 +78,18 @@ tryTime x p = getD (x .tries) (p - 1) 0
 -- [5.70] [5.80] [5.90] what an accepted act at the time m makes of the entries, the exits, the longest wait and the try time of its process
 pub data Counting (m : ℕ) : (act entries exits longest tried : ℕ) → (entries′ exits′ longest′ tried′ : ℕ) → Type 0 where
   -- [5.80]
-  try : {n x l t : ℕ} → Counting m tryAct n x l t n x l m
+  try : {e x l t : ℕ} → Counting m tryAct e x l t e x l m
   -- [5.70] [5.80] [5.90] a crit that ends a longer wait w than any before
-  crit-longer : {n x l t w : ℕ} → t + w ≡ m → l < w → Counting m critAct n x l t (n + 1) x w 0
+  crit-longer : {e x l t w : ℕ} → t + w ≡ m → l < w → Counting m critAct e x l t (e + 1) x w 0
   -- [5.70] [5.80] [5.90] a crit that ends no longer one
-  crit : {n x l t w : ℕ} → t + w ≡ m → w ≤ l → Counting m critAct n x l t (n + 1) x l 0
+  crit : {e x l t w : ℕ} → t + w ≡ m → w ≤ l → Counting m critAct e x l t (e + 1) x l 0
   -- [5.70]
-  exit : {n x l t : ℕ} → Counting m exitAct n x l t n (x + 1) l t
-  -- [5.80] any other act
-  other : {act n x l t : ℕ} → act ≢ tryAct → act ≢ critAct → act ≢ exitAct → Counting m act n x l t n x l t
+  exit : {e x l t : ℕ} → Counting m exitAct e x l t e (x + 1) l t
+  -- [5.70] [5.80] any other act
+  other : {act e x l t : ℕ} → act ≢ tryAct → act ≢ critAct → act ≢ exitAct → Counting m act e x l t e x l t
 
 -- [5.70] [5.80] [5.90] y is the summary x with the accepted act of process p at the time m counted
-pub record OneAccepted (act p m : ℕ) (x y : Statistics) : Type 0 where
+pub record AcceptedAdded (act p m : ℕ) (x y : Statistics) : Type 0 where
   pub accepted-rises : y .counts .accepted ≡ x .counts .accepted + 1
   pub refused-stays : y .counts .refused ≡ x .counts .refused
   pub counting : Counting m act (x .counts .entries) (x .counts .exits) (x .counts .longest) (tryTime x p)
@@ -101,12 +103,12 @@ pub record ActCounted (s : State) (x : Statistics) (act p m : ℕ) (r : Recorded
   -- [5.110]
   pub step : r .outcome ≡ stepOf s act p m
   -- [5.100] [4.110]
-  pub refused : r .outcome .answer .code ≢ 0 → (r .outcome .state ≡ s) × OneRefused x (r .statistics)
+  pub refused : r .outcome .answer .code ≢ 0 → (r .outcome .state ≡ s) × RefusedAdded x (r .statistics)
   -- [5.70] [5.80] [5.90]
-  pub accepted : r .outcome .answer .code ≡ 0 → OneAccepted act p m x (r .statistics)
+  pub accepted : r .outcome .answer .code ≡ 0 → AcceptedAdded act p m x (r .statistics)
 
 -- [5.70] [5.80] [5.90] [5.100] [5.110] beside a sound state any summary that is sound and not full, whoever made it, counts every act; it
 -- has 96 try times, as each of the code does
 abbrev pub EveryActCounted : Type 0
-EveryActCounted = (s : State) (x : Statistics) → soundOf s ≡ true → HasRoom (s .clock) x → length (x .tries) ≡ 96
+EveryActCounted = (s : State) (x : Statistics) → Sound s → HasRoom (s .clock) x → length (x .tries) ≡ 96
     → (act p m : ℕ) → ActCounted s x act p m (recordedOf s x act p m)
