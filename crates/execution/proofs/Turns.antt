@@ -15,7 +15,7 @@ use Rattle.model.specs.Folds.{resultsBy}
 use Rattle.model.specs.Executions.{stepBy, stateAfter, Executed, executedGave, executedOf}
 use Rattle.model.proofs.Lists.{rows-snoc}
 use Rattle.model.proofs.Folds.{Going, sets-out, count-going, long-going, moves-on, end-reached, all-written}
-use Rattle.execution.specs.Turns.{turnOf}
+use Rattle.execution.specs.Turns.{stepTurnOf}
 use Rattle.model.proofs.Steps.{length-steps, step-at}
 
 -- The steps that there are rows for
@@ -44,7 +44,7 @@ module _ {s : State} {l : Lists} {rows : List (List ℕ)} {n i : ℕ} {t : State
   pub is-inside : i < n → i < min (length rows) (room l)
   is-inside h = omega (arith, g .all, length-for l rows)
 
-  pub takes-on : i < n → {u : State} {k : List (List ℕ)} → executedGave u k ≡ turnOf t l m i → Taking s l rows n (i + 1) u k
+  pub takes-on : i < n → {u : State} {k : List (List ℕ)} → executedGave u k ≡ stepTurnOf t l m i → Taking s l rows n (i + 1) u k
   takes-on h e =
       let inside = is-inside h in
       let this = getD-take (length rows) (eventsOf l) i (eventIn l i) (omega arith) ∙ step-at l i (eventIn l i) (omega arith) in

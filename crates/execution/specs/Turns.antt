@@ -9,6 +9,6 @@ use Rattle.model.specs.Writings.{eventIn}
 use Rattle.model.specs.Executions.{stepBy, Executed, executedGave}
 
 -- the state after the step in place i of the lists, and the rows
-abbrev pub turnOf : State → Lists → List (List ℕ) → ℕ → Executed
-turnOf s l rows i =
+abbrev pub stepTurnOf : State → Lists → List (List ℕ) → ℕ → Executed
+stepTurnOf s l rows i =
     executedGave (stepBy s (eventIn l i) .state) (set rows i (answerNumbers (stepBy s (eventIn l i) .answer)))

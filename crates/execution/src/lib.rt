@@ -13,7 +13,7 @@ ghost use lib.ListN.{length};
 ghost use Rattle.model.specs.Readings.{lent};
 ghost use Rattle.model.specs.Writings.{eventsOf};
 ghost use Rattle.model.specs.Executions.{startGave, startedOf, executedGave, executedOf};
-ghost use Rattle.execution.specs.Turns.{turnOf};
+ghost use Rattle.execution.specs.Turns.{stepTurnOf};
 
 // [7.46] What was found of a text, and the state that its first step is taken in.
 pub struct Started {
@@ -46,7 +46,7 @@ fn run_turn(
 ) -> State
     requires { ⌜ (i < length (now times)) × (i < length (now processes)) × (i < length (now actions)) × (i < length (now answers)) ⌝ }
     ensures { λ r. ⌜ executedGave r (now (answers .exit))
-        ≡ turnOf state (lent (times .entry) (processes .entry) (actions .entry)) (now (answers .entry)) i ⌝ }
+        ≡ stepTurnOf state (lent (times .entry) (processes .entry) (actions .entry)) (now (answers .entry)) i ⌝ }
 {
     let outcome = step(state, actions[i], processes[i], times[i]);
     let answer = outcome.answer;

@@ -20,7 +20,7 @@ use Rattle.model.specs.Readings.{over}
 use Rattle.model.specs.Summaries.{newStatistics, recordedOf}
 use Rattle.layout.specs.Encodings.{headerLength, tableLength, stateNumbers, areEntries, isTable, tableIn, isSoundTable}
 use Rattle.layout.specs.Encodings.{summaryLength, statisticsNumbers, summaryIn}
-use Rattle.funnelfawn.specs.Loading.{stored, counted}
+use Rattle.funnelfawn.specs.Loading.{storedTable, counted}
 use Rattle.layout.specs.Interface.{lentGave, lentFresh, lentStep, summaryGave, lentSummary, recordGave, lentRecord}
 use Rattle.layout.proofs.Numbers.{summary-numbers-told}
 use Rattle.theory.proofs.Soundness.{fresh-is-plain}
@@ -49,7 +49,7 @@ front-over k l e h = rw (← e, h)
 
 -- what is stored of an outcome is its table over the front
 module _ (table : List ℕ) (told : isTable table ≡ true) {p : ℕ} {o : Outcome} (st : Stores (tableIn table) p o) where
-  pub accepted-over : Accepted o → {new : List ℕ} → new ≡ stored (take tableLength table) (o .state) p
+  pub accepted-over : Accepted o → {new : List ℕ} → new ≡ storedTable (take tableLength table) (o .state) p
       → new ++ drop tableLength table ≡ over (stateNumbers (o .state)) table
   accepted-over a e =
       let first = take tableLength table in
@@ -139,7 +139,7 @@ module _ (table : List ℕ) (act p m : ℕ) where
     stores : Stores (tableIn table) p o
     stores = rw e (step-stores (tableIn table) (table-is-whole table (sound-is-table table sound)) act p m)
 
-    pub step-accepted : Accepted o → {new : List ℕ} → new ≡ stored (take tableLength table) (o .state) p
+    pub step-accepted : Accepted o → {new : List ℕ} → new ≡ storedTable (take tableLength table) (o .state) p
         → lentGave (o .answer) (new ++ drop tableLength table) ≡ lentStep table act p m
     step-accepted a f = gives (accepted-over table (sound-is-table table sound) stores a f)
 
@@ -168,7 +168,7 @@ module _ (table summary : List ℕ) (act p m : ℕ) where
           recorded-stores s (table-is-whole table (sound-is-table table sound)) act p m x {r = r} (rw e (judged s x act p m))
 
       pub recorded-accepted : Accepted (r .outcome)
-          → {new : List ℕ} → new ≡ stored (take tableLength table) (r .outcome .state) p
+          → {new : List ℕ} → new ≡ storedTable (take tableLength table) (r .outcome .state) p
           → new ++ drop tableLength table ≡ over (stateNumbers (r .outcome .state)) table
       recorded-accepted = accepted-over table (sound-is-table table sound) recorded-table
 

@@ -16,7 +16,7 @@ use Rattle.model.specs.declared.Parameters.{Parameters}
 use Rattle.model.specs.declared.State.{State}
 use Rattle.model.specs.Stages.{remainder, testing, setting, checking, entering, critical, resetting}
 use Rattle.model.specs.States.{entry, idle, stageOf, entrySound, entriesSound, soundOf, locationAt, parametersIn}
-use Rattle.layout.specs.Encodings.{headerLength, stride, tableLength, clockPlace, wordPlace, processesIn, stateIn, isEntry, areEntries}
+use Rattle.layout.specs.Encodings.{headerLength, stride, tableLength, clockPlace, wordPlace, processesIn, stateIn, tellsEntry, areEntries}
 use Rattle.model.proofs.Lists.{drop-at, drop-end}
 use Rattle.model.proofs.Tests.{tests, if-eq, by-cond}
 use Rattle.rules.specs.Survey.{bare, numbersStand}
@@ -106,15 +106,15 @@ module _ (l : List ℕ) (processes : List Process) (i : ℕ) (done : EntriesRead
         drop-set-lt (i + 1) processes i told (omega arith)
         ∙ sym (ap (drop 1) (drop-at processes i idle (omega (arith, done .size)))) ∙ ap (drop 1) (done .idle-behind) ∙ rw e
 
-    next-sound : leftSound l i ≡ (isEntry (stageAt l i) (sinceAt l i) && entrySound (stateIn l) (i + 1) told) && leftSound l (i + 1)
+    next-sound : leftSound l i ≡ (tellsEntry (stageAt l i) (sinceAt l i) && entrySound (stateIn l) (i + 1) told) && leftSound l (i + 1)
     unfolding areEntries entriesSound processesIn
     next-sound =
         rw (pair-at l i long more)
-        (regroup (isEntry (stageAt l i) (sinceAt l i)) (areEntries (left l (i + 1)))
+        (regroup (tellsEntry (stageAt l i) (sinceAt l i)) (areEntries (left l (i + 1)))
         (entrySound (stateIn l) (i + 1) told) (entriesSound (stateIn l) (i + 1 + 1) (processesIn (left l (i + 1)))))
 
     -- it stands, or the table is not sound
-    module _ {t : Bool} (e : t ≡ (isEntry (stageAt l i) (sinceAt l i) && entrySound (bare (parametersIn l) (clockIn l)) (i + 1) told)) where
+    module _ {t : Bool} (e : t ≡ (tellsEntry (stageAt l i) (sinceAt l i) && entrySound (bare (parametersIn l) (clockIn l)) (i + 1) told)) where
       entry-sound : tellSound l ≡ t && leftSound l (i + 1)
       unfolding stateIn
       entry-sound = sym (done .sound) ∙ next-sound ∙ ap (λ (u : Bool). u && leftSound l (i + 1)) (sym e)
@@ -148,11 +148,11 @@ not-remainder stage since n =
 module _ (s : State) where
   -- there an entry is sound just where it is in the remainder
   above-is-idle : (k stage since : ℕ) → s .parameters .n < k
-      → (isEntry stage since && entrySound s k (entry (locationAt stage since))) ≡ (eqb stage 0 && eqb since 0)
+      → (tellsEntry stage since && entrySound s k (entry (locationAt stage since))) ≡ (eqb stage 0 && eqb since 0)
   above-is-idle k stage since h =
       if-eq stage 0
       (λ e. rw e (if-eq since 0 (λ f. rw f (idle-sound s k)) (λ f. simp (ne-eqb since 0 f, ne-eqb 0 since (λ g. f (sym g))))))
-      (λ e. ap (λ (u : Bool). isEntry stage since && u) (above-sound ∙ not-remainder stage since e) ∙ and-false (isEntry stage since)
+      (λ e. ap (λ (u : Bool). tellsEntry stage since && u) (above-sound ∙ not-remainder stage since e) ∙ and-false (tellsEntry stage since)
       ∙ sym (rw (ne-eqb stage 0 e)))
     where
       above-sound : entrySound s k (entry (locationAt stage since)) ≡ eqb (stageOf (locationAt stage since)) remainder
@@ -166,7 +166,7 @@ module _ (s : State) where
   above-are-idle (suc m) k [] e h = absurd (omega arith)
   above-are-idle (suc m) k (x ∷ []) e h = absurd (omega arith)
   above-are-idle (suc m) k (x ∷ (y ∷ l)) e h =
-      regroup (isEntry x y) (areEntries l) (entrySound s k (entry (locationAt x y))) (entriesSound s (k + 1) (processesIn l))
+      regroup (tellsEntry x y) (areEntries l) (entrySound s k (entry (locationAt x y))) (entriesSound s (k + 1) (processesIn l))
       ∙ (λ i. above-is-idle k x y h i && above-are-idle m (k + 1) l (omega arith) (omega arith) i)
       ∙ and-assoc (eqb x 0) (eqb y 0) (areIdle l)
 

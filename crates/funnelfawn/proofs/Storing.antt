@@ -25,13 +25,13 @@ use Rattle.model.specs.Facts.{Accepted}
 use Rattle.model.specs.Summaries.{countsNumbers, statisticsOf, oneRefused, triedAt, acceptedCounted}
 use Rattle.layout.specs.Encodings.{headerLength, stride, processNumbers, parametersNumbers, stateNumbers, statisticsNumbers}
 use Rattle.theory.specs.Acceptance.{Waits, Acts}
-use Rattle.funnelfawn.specs.Loading.{placedAt, stored, counted}
+use Rattle.funnelfawn.specs.Loading.{placedAt, storedTable, counted}
 use Rattle.model.proofs.Tests.{by-test, if-eq}
 use Rattle.theory.proofs.Entries.{moved-own}
 use Rattle.theory.proofs.Rows.{from-ready}
 use Rattle.theory.proofs.Steps.{stepped, accepted-is}
 use Rattle.theory.proofs.Acceptance.{refused-stays}
-use Rattle.theory.proofs.RecordedSteps.{Judged, noted-accepted, noted-refused}
+use Rattle.theory.proofs.RecordedSteps.{Judged, answer-accepted, answer-refused}
 use Rattle.funnelfawn.proofs.Lists.{set-behind}
 
 -- The turn of an accepted act
@@ -78,26 +78,26 @@ placed-behind s i q =
     ∙ ap (λ (l : List ℕ). headerOf s ++ l) (sym (entries-set (s .processes) i q)))
 
 stored-moved : (s : State) (p m : ℕ) (t : Transition) → 1 ≤ p → p ≤ 96 → length (s .processes) ≡ 96
-    → stored (stateNumbers s) (moved s p m t) p ≡ stateNumbers (moved s p m t)
-unfolding stored stateNumbers
+    → storedTable (stateNumbers s) (moved s p m t) p ≡ stateNumbers (moved s p m t)
+unfolding storedTable stateNumbers
 stored-moved s p m t some most size =
     simp (ne-eqb p 0 (omega arith), le-ltb 96 p most, moved-own s p m t some (omega arith))
     (placed-behind (changed s m (t .word) (s .processes)) (p - 1) (entry (t .to)))
 
 -- storing keeps the length
-pub stored-length : (l : List ℕ) (s : State) (p : ℕ) → length (stored l s p) ≡ length l
-unfolding stored
+pub stored-length : (l : List ℕ) (s : State) (p : ℕ) → length (storedTable l s p) ≡ length l
+unfolding storedTable
 stored-length l s p = by-test (eqb p 0 || ltb 96 p) (λ e. rw e (simp length-set)) (λ e. rw e (simp length-set))
 
 -- what is stored of an outcome in the numbers of the table s, for process p
 pub record Stores (s : State) (p : ℕ) (o : Outcome) : Type 0 where
-  pub accepted : Accepted o → stored (stateNumbers s) (o .state) p ≡ stateNumbers (o .state)
+  pub accepted : Accepted o → storedTable (stateNumbers s) (o .state) p ≡ stateNumbers (o .state)
   pub refused : o .answer .code ≢ 0 → o .state ≡ s
 
 module _ (s : State) (size : length (s .processes) ≡ 96) (act p m : ℕ) where
   effect-stored : Waits act p ⊎ Moves act p
-      → stored (stateNumbers s) (effect s act p m) p ≡ stateNumbers (effect s act p m)
-  unfolding stored effect stateNumbers
+      → storedTable (stateNumbers s) (effect s act p m) p ≡ stateNumbers (effect s act p m)
+  unfolding storedTable effect stateNumbers
   effect-stored (inl w) = rw (w .wait, w .nobody)
   effect-stored (inr v) = rw (ne-eqb act waitAct (v .no-wait)) (stored-moved s p m (transitionOf s act p m) (v .some) (v .most) size)
 
@@ -154,5 +154,5 @@ module _ (x : Statistics) (p : ℕ) where
     recorded-counted s act m (Judged.no-summary e f) = counted-kept (x .counts)
     recorded-counted s act m (Judged.filled e f g) = counted-kept (x .counts)
     recorded-counted s act m (Judged.counted o) = if-eq (stepOf s act p m .answer .code) 0
-        (λ e. rw (noted-accepted s x act p m e) (accepted-counted act m (accepted-turn s act p m e)))
-        (λ n. rw (noted-refused s x act p m n) (counted-kept (oneRefused (x .counts))))
+        (λ e. rw (answer-accepted s x act p m e) (accepted-counted act m (accepted-turn s act p m e)))
+        (λ n. rw (answer-refused s x act p m n) (counted-kept (oneRefused (x .counts))))

@@ -40,8 +40,8 @@ abbrev pub placedAt : List ℕ → ℕ → Process → List ℕ
 placedAt numbers i q =
     set (set numbers (headerLength + stride * i) (stageOf (q .location))) (headerLength + stride * i + 1) (sinceOf (q .location))
 
-unfoldable pub stored : List ℕ → State → ℕ → List ℕ
-stored numbers s p =
+unfoldable pub storedTable : List ℕ → State → ℕ → List ℕ
+storedTable numbers s p =
     cond (eqb p 0 || ltb 96 p) (clocked numbers s) (placedAt (clocked numbers s) (p - 1) (entryOf s p))
 
 -- the counts, and the try moment

@@ -19,9 +19,9 @@ ghost use lib.ListN.{length, drop, set};
 ghost use lib.Dec.{eqb};
 ghost use Rattle.model.specs.Stages.{remainder};
 ghost use Rattle.model.specs.States.{entry, entrySound, locationAt, parametersIn};
-ghost use Rattle.layout.specs.Encodings.{headerLength, stride, tableLength, isEntry, stateNumbers};
+ghost use Rattle.layout.specs.Encodings.{headerLength, stride, tableLength, tellsEntry, stateNumbers};
 ghost use Rattle.rules.specs.Survey.{bare};
-ghost use Rattle.funnelfawn.specs.Loading.{areIdle, Loads, placedAt, stored};
+ghost use Rattle.funnelfawn.specs.Loading.{areIdle, Loads, placedAt, storedTable};
 
 // [9.10] the numbers before the entries
 const HEADER: usize = 6;
@@ -39,7 +39,7 @@ const WORD: usize = CLOCK + 1;
 
 // [9.20] A stage and an arrival that tell a location.
 fn is_entry(stage: u64, since: u64) -> bool
-    ensures { λ r. ⌜ r ≡ isEntry stage since ⌝ }
+    ensures { λ r. ⌜ r ≡ tellsEntry stage since ⌝ }
 {
     if LEAVING < stage {
         return false;
@@ -50,7 +50,7 @@ fn is_entry(stage: u64, since: u64) -> bool
 // A stage and an arrival that tell a sound entry. Most processes are in the remainder: that is looked at first. The order of the other
 // two is the faster one.
 fn stands(parameters: Parameters, clock: u64, process: u64, stage: u64, since: u64) -> bool
-    ensures { λ r. ⌜ r ≡ (isEntry stage since && entrySound (bare parameters clock) process (entry (locationAt stage since))) ⌝ }
+    ensures { λ r. ⌜ r ≡ (tellsEntry stage since && entrySound (bare parameters clock) process (entry (locationAt stage since))) ⌝ }
 {
     if stage == REMAINDER {
         return since == 0;
@@ -189,7 +189,7 @@ pub(crate) fn save(table: &mut [u64], state: State)
 // [9.130] Writes what an act of a process may have changed: the clock, the word and the entry of the process.
 pub(crate) fn store(table: &mut [u64], state: State, process: u64)
     requires { ⌜ length (now table) ≡ tableLength ⌝ }
-    ensures { λ _. ⌜ now (table .exit) ≡ stored (now (table .entry)) state process ⌝ }
+    ensures { λ _. ⌜ now (table .exit) ≡ storedTable (now (table .entry)) state process ⌝ }
 {
     put_pair(table, CLOCK, state.clock, state.word);
     if process == 0 {

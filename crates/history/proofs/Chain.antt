@@ -11,12 +11,13 @@ use Rattle.model.specs.Summaries.{beside}
 use Rattle.model.specs.Folds.{endBy, resultsBy, itself}
 use Rattle.model.specs.Calls.{Call, callOf, tableOf, handedOn, resultsOf}
 use Rattle.lists.specs.Demand3.{Demand3}
-use Rattle.tallies.specs.Tallies.{recordNext, startOf}
+use Rattle.tallies.specs.Tallies.{recordNext, recordsOf, startOf}
 use Rattle.model.proofs.Tests.{by-test}
 use Rattle.theory.proofs.Soundness.{fresh-is-plain, fresh-is}
 use Rattle.lists.proofs.Demand3.{every-list}
 use Rattle.tallies.proofs.Tallies.{every-tally}
-use Rattle.history.specs.Chains.{Chained, lastOf, Made, Chain, NotStuck, EveryChain, SomeStart, SomeChain, callOn, MadeOn, EveryRecordedChain}
+use Rattle.history.specs.Chains.{Chained, lastOf, Made, Chain, NotStuck, EveryChain, SomeStart, SomeChain, callOn, MadeOn}
+use Rattle.history.specs.Chains.{SomeRecordedChain, EveryRecordedChain}
 use Rattle.history.proofs.RecordedTurns.{fresh-starts}
 
 -- Where one result alone is allowed, a chain is the list of calls
@@ -72,19 +73,25 @@ callable s d = by-test (d .recorded)
     }))
     (λ k. Made.by-step k (rw k) (rw k))
 
-list-chain : (s : State) (ds : List Call) → Chain s ds (resultsOf s ds)
-unfolding resultsBy
-list-chain s [] = Chained.ended
-list-chain s (d ∷ ds) = Chained.made (callable s d) (list-chain (tableOf s d) ds)
+-- where each call has a result that is allowed, so has each list
+module _ {S D R : Type 0} {Allows : S → D → R → Type 0} (gives : S → D → R) (next : R → S) (some : (s : S) (d : D) → Allows s d (gives s d)) where
+  list-chain : (s : S) (ds : List D) → Chained Allows next s ds (resultsBy gives next s ds)
+  unfolding resultsBy
+  list-chain s [] = Chained.ended
+  list-chain s (d ∷ ds) = Chained.made (some s d) (list-chain (next (gives s d)) ds)
 
 pub some-chain : SomeChain
-some-chain s ds = (resultsOf s ds, list-chain s ds)
+some-chain s ds = (resultsOf s ds, list-chain callOf handedOn callable s ds)
 
 -- The tally
 
 next-made : (r : Recorded) (e : Event) (t : Recorded) → MadeOn r e t → t ≡ recordNext r e
 unfolding callOf
 next-made r e t m = call-made (r .outcome .state) (callOn r e) t m
+
+pub some-recorded-chain : SomeRecordedChain
+unfolding callOf
+some-recorded-chain r es = (recordsOf r es, list-chain recordNext itself (λ q e. callable (q .outcome .state) (callOn q e)) r es)
 
 pub every-recorded-chain : EveryRecordedChain
 every-recorded-chain k o x es rs h accepted new ch =

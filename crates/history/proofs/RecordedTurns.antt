@@ -20,25 +20,25 @@ use Rattle.theory.proofs.Soundness.{fresh-is-plain, fresh-is}
 use Rattle.tallies.specs.Tallies.{recordNext, recordsOf, codeOf, Tallied, startOf}
 use Rattle.tallies.proofs.Tallies.{every-tally}
 use Rattle.history.specs.Lists.{Tuple, answerRow}
-use Rattle.history.specs.RecordedRuns.{eventIn, eventsOf, codeIn, logIn, RecordedRun, recordedRunGave, started}
+use Rattle.history.specs.RecordedRuns.{eventInRow, eventsInRows, codeIn, logIn, RecordedRun, recordedRunGave, started}
 use Rattle.history.specs.RecordedRuns.{recordedRunFrom, recordedRunOf, recordAt}
 
 -- The events that rows stand for
 
-pub length-events : (acts answers : List Tuple) → length (eventsOf acts answers) ≡ min (length acts) (length answers)
+pub length-events : (acts answers : List Tuple) → length (eventsInRows acts answers) ≡ min (length acts) (length answers)
 length-events acts answers = simp (length-take, length-map) (omega arith)
 
 event-at : (acts answers : List Tuple) (i : ℕ) → i < length answers
-    → getD (eventsOf acts answers) i (eventIn []) ≡ eventIn (getD acts i [])
-event-at acts answers i h = getD-take (length answers) (map eventIn acts) i (eventIn []) h ∙ List·getD-map eventIn acts i []
+    → getD (eventsInRows acts answers) i (eventInRow []) ≡ eventInRow (getD acts i [])
+event-at acts answers i h = getD-take (length answers) (map eventInRow acts) i (eventInRow []) h ∙ List·getD-map eventInRow acts i []
 
 -- One turn
 
 pub record-at : (r : Recorded) (acts answers : List Tuple) (i : ℕ) (d : Tuple) → i < length acts → {t : Recorded}
-    → t ≡ recordNext r (eventIn (getD acts i d)) → recordedRunGave t (set answers i (answerRow t)) ≡ recordAt r acts answers i
+    → t ≡ recordNext r (eventInRow (getD acts i d)) → recordedRunGave t (set answers i (answerRow t)) ≡ recordAt r acts answers i
 record-at r acts answers i d h e =
     ap (λ (u : Recorded). recordedRunGave u (set answers i (answerRow u)))
-    (e ∙ ap (λ (row : Tuple). recordNext r (eventIn row)) (row-at acts i d [] h))
+    (e ∙ ap (λ (row : Tuple). recordNext r (eventInRow row)) (row-at acts i d [] h))
 
 -- The loop of `run_recorded`: of n steps i have been made, t is what the last one gave back, and the answers have become m
 
@@ -46,14 +46,14 @@ abbrev pub answered : List Recorded → List Tuple → List Tuple
 answered rs answers = over (map answerRow rs) answers
 
 abbrev pub Recording : Recorded → List Tuple → List Tuple → ℕ → ℕ → Recorded → List Tuple → Type 0
-Recording r acts answers n i t m = Going recordNext itself eventsOf answered r acts answers n i t m
+Recording r acts answers n i t m = Going recordNext itself eventsInRows answered r acts answers n i t m
 
 module _ {r : Recorded} {acts answers : List Tuple} {n i : ℕ} {t : Recorded} {m : List Tuple} (g : Recording r acts answers n i t m) where
   pub records-on : i < n → {u : Recorded} {k : List Tuple} → recordedRunGave u k ≡ recordAt t acts m i
       → Recording r acts answers n (i + 1) u k
   records-on h e =
       let inside : i < length answers = omega (arith, g .all, length-events acts answers) in
-      moves-on g h (eventIn (getD acts i [])) (eventIn []) (event-at acts answers i inside)
+      moves-on g h (eventInRow (getD acts i [])) (eventInRow []) (event-at acts answers i inside)
       (ap (λ (v : RecordedRun). v .recorded) e)
       (ap (λ (v : RecordedRun). v .answers) e ∙ rw (g .written) (rows-snoc answerRow (g .results) answers i (count-going g) inside _))
 
@@ -62,20 +62,20 @@ module _ {r : Recorded} {acts answers : List Tuple} {n i : ℕ} {t : Recorded} {
   answers-long = rw (g .written) (long-going g answerRow answers (omega (arith, g .all, length-events acts answers)))
 
 pub ends : (r : Recorded) {acts answers : List Tuple} {n i : ℕ} {t : Recorded} {m : List Tuple} → Recording r acts answers n i t m → n ≤ i
-    → recordedRunGave (started r t) m ≡ recordedRunFrom r (eventsOf acts answers) answers
+    → recordedRunGave (started r t) m ≡ recordedRunFrom r (eventsInRows acts answers) answers
 ends r g h = λ j. recordedRunGave (started r (end-reached g h j)) (all-written g h j)
 
 -- The log
 
 -- the acts, and the answers that are left in their rows, tell the log of the list
 log-onto : (log : List Attempt) (r : Recorded) (acts answers : List Tuple)
-    → logOnto log (map eventIn acts) (map codeIn (answered (recordsOf r (eventsOf acts answers)) answers))
-    ≡ logOnto log (eventsOf acts answers) (map codeOf (recordsOf r (eventsOf acts answers)))
+    → logOnto log (map eventInRow acts) (map codeIn (answered (recordsOf r (eventsInRows acts answers)) answers))
+    ≡ logOnto log (eventsInRows acts answers) (map codeOf (recordsOf r (eventsInRows acts answers)))
 unfolding resultsBy logOnto
 log-onto log r [] [] = refl
 log-onto log r [] (b ∷ bs) = refl
 log-onto log r (e ∷ es) [] = refl
-log-onto log r (e ∷ es) (b ∷ bs) = log-onto _ (recordNext r (eventIn e)) es bs
+log-onto log r (e ∷ es) (b ∷ bs) = log-onto _ (recordNext r (eventInRow e)) es bs
 
 -- a tally does not look at the answer that is given back
 tallied-started : {log : List Attempt} {r : Recorded} (p : Recorded) → Tallied log r → Tallied log (started p r)
@@ -90,4 +90,4 @@ pub recorded-run-tallied : (k : Parameters) (acts answers : List Tuple) {t : Rec
 unfolding recordedRunOf
 recorded-run-tallied k acts answers e accepted =
     rw (e, fresh-starts k accepted, log-onto [] (startOf (freshOf k .state)) acts answers)
-    (tallied-started (beside newStatistics (freshOf k)) (every-tally (freshOf k .state) (fresh-is k accepted) (eventsOf acts answers)))
+    (tallied-started (beside newStatistics (freshOf k)) (every-tally (freshOf k .state) (fresh-is k accepted) (eventsInRows acts answers)))

@@ -145,6 +145,10 @@ MadeOn r e t = Made (r .outcome .state) (callOn r e) t
 abbrev pub RecordedChain : Recorded → List Event → List Recorded → Type 0
 RecordedChain r es rs = Chained MadeOn itself r es rs
 
+-- [5.120] every list of acts has such a chain
+abbrev pub SomeRecordedChain : Type 0
+SomeRecordedChain = (r : Recorded) (es : List Event) → (rs : List Recorded) × RecordedChain r es rs
+
 -- [5.120] [5.125] [5.130] whoever makes the calls, from a table that `fresh` gave back with the answer 0, and a summary of `new_statistics`
 abbrev pub EveryRecordedChain : Type 0
 EveryRecordedChain = (k : Parameters) (o : Outcome) (x : Statistics) (es : List Event) (rs : List Recorded)

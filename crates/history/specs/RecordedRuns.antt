@@ -14,12 +14,12 @@ use Rattle.model.specs.Readings.{over}
 use Rattle.history.specs.Lists.{Tuple, answerRow, ending}
 
 -- [8.160] action, process, time
-abbrev pub eventIn : Tuple → Event
-eventIn row = event (getD row 2 0) (getD row 1 0) (getD row 0 0)
+abbrev pub eventInRow : Tuple → Event
+eventInRow row = event (getD row 2 0) (getD row 1 0) (getD row 0 0)
 
 -- [8.160] as many as the shorter list has rows
-abbrev pub eventsOf : List Tuple → List Tuple → List Event
-eventsOf acts answers = take (length answers) (map eventIn acts)
+abbrev pub eventsInRows : List Tuple → List Tuple → List Event
+eventsInRows acts answers = take (length answers) (map eventInRow acts)
 
 -- [8.162] the code in a row of an answer
 abbrev pub codeIn : Tuple → ℕ
@@ -27,7 +27,7 @@ codeIn row = getD row 0 0
 
 -- [5.120] [5.125] the log of rows of acts and of the rows that have the answers to them
 abbrev pub logIn : List Tuple → List Tuple → List Attempt
-logIn acts answers = logOf (map eventIn acts) (map codeIn answers)
+logIn acts answers = logOf (map eventInRow acts) (map codeIn answers)
 
 -- All that `run_recorded` gives back: the answer to the fresh table, the table and the summary after the last step, and the answers
 
@@ -50,11 +50,11 @@ recordedRunFrom r es answers = recordedRunGave (started r (recordAll r es)) (ove
 
 -- [8.160] [8.164] as a whole
 unfoldable pub recordedRunOf : Parameters → List Tuple → List Tuple → RecordedRun
-recordedRunOf k acts answers = recordedRunFrom (beside newStatistics (freshOf k)) (eventsOf acts answers) answers
+recordedRunOf k acts answers = recordedRunFrom (beside newStatistics (freshOf k)) (eventsInRows acts answers) answers
 
 -- One turn of the loop: the step in row i
 
 -- helper: r is what the step before it gave back
 abbrev pub recordAt : Recorded → List Tuple → List Tuple → ℕ → RecordedRun
 recordAt r acts answers i =
-    let t = recordNext r (eventIn (getD acts i [])) in recordedRunGave t (set answers i (answerRow t))
+    let t = recordNext r (eventInRow (getD acts i [])) in recordedRunGave t (set answers i (answerRow t))

@@ -14,7 +14,7 @@ use Rattle.model.specs.declared.State.{State}
 use Rattle.model.specs.declared.Statistics.{Statistics}
 use Rattle.model.specs.Stages.{leaving}
 use Rattle.model.specs.States.{entry, idle, stageOf, sinceOf, locationAt}
-use Rattle.layout.specs.Encodings.{headerLength, stride, processNumbers, stateNumbers, processesIn, stateIn, isEntry, areEntries}
+use Rattle.layout.specs.Encodings.{headerLength, stride, processNumbers, stateNumbers, processesIn, stateIn, tellsEntry, areEntries}
 use Rattle.layout.specs.Encodings.{countsLength, statisticsNumbers, statisticsIn}
 use Rattle.model.proofs.Lists.{drop-at}
 use Rattle.model.proofs.Locations.{location-is}
@@ -23,7 +23,7 @@ use Rattle.model.proofs.Tests.{and-true-iff, tests}
 -- One entry
 
 -- the numbers of a location tell an entry
-pub location-entry : (l : Location) → isEntry (stageOf l) (sinceOf l) ≡ true
+pub location-entry : (l : Location) → tellsEntry (stageOf l) (sinceOf l) ≡ true
 location-entry Remainder = refl
 location-entry (Testing t) = eq-eqb t t refl
 location-entry (Setting t) = eq-eqb t t refl
@@ -50,7 +50,7 @@ pub record Told (stage since : ℕ) : Type 0 where
   pub stage-is : stageOf (locationAt stage since) ≡ stage
   pub since-is : sinceOf (locationAt stage since) ≡ since
 
-pub entry-told : (stage since : ℕ) → isEntry stage since ≡ true → Told stage since
+pub entry-told : (stage since : ℕ) → tellsEntry stage since ≡ true → Told stage since
 entry-told stage since e =
     let h = simp tests at e in
     record { stage-is = stage-told stage since (h .0); since-is = h .1 }
@@ -72,7 +72,7 @@ unfolding areEntries processesIn processNumbers
 entries-told [] e = refl
 entries-told (stage ∷ []) e = absurd (false≢true e)
 entries-told (stage ∷ since ∷ rest) e =
-    let h = and-true-iff (isEntry stage since) (areEntries rest) .0 e in
+    let h = and-true-iff (tellsEntry stage since) (areEntries rest) .0 e in
     let t = entry-told stage since (h .0) in
     λ i. t .stage-is i ∷ t .since-is i ∷ entries-told rest (h .1) i
 

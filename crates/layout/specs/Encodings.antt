@@ -67,14 +67,14 @@ stateIn l =
     }
 
 -- [9.20] a stage and a since tell a location if there is one that has them
-abbrev pub isEntry : ℕ → ℕ → Bool
-isEntry stage since = leb stage leaving && eqb (sinceOf (locationAt stage since)) since
+abbrev pub tellsEntry : ℕ → ℕ → Bool
+tellsEntry stage since = leb stage leaving && eqb (sinceOf (locationAt stage since)) since
 
 -- [9.20] of the numbers of all entries
 unfoldable pub areEntries : List ℕ → Bool
 areEntries [] = true
 areEntries (stage ∷ []) = false
-areEntries (stage ∷ since ∷ rest) = isEntry stage since && areEntries rest
+areEntries (stage ∷ since ∷ rest) = tellsEntry stage since && areEntries rest
 
 -- [9.20] a list that starts with the numbers of a state
 unfoldable pub isTable : List ℕ → Bool

@@ -16,7 +16,7 @@ use Rattle.model.specs.Calls.{Call, tableOf, runOf}
 use Rattle.theory.specs.Acceptance.{Waits, Acts}
 use Rattle.model.proofs.Tests.{if-eq}
 use Rattle.theory.proofs.Acceptance.{accepted-iff-allowed, next-is-changed}
-use Rattle.theory.proofs.RecordedSteps.{Judged, judged, noted-accepted, noted-refused}
+use Rattle.theory.proofs.RecordedSteps.{Judged, judged, answer-accepted, answer-refused}
 use Rattle.lists.proofs.Calls.{call-keeps, run-keeps}
 
 -- Tables
@@ -48,8 +48,8 @@ module _ (s : State) (x : Statistics) (act p m : ℕ) (P : List ℕ → Type 0)
   judged-tries (Judged.no-summary _ _) = same
   judged-tries (Judged.filled _ _ _) = same
   judged-tries (Judged.counted o) = if-eq (stepOf s act p m .answer .code) 0
-      (λ e. rw (noted-accepted s x act p m e) (accepted-tries (accepted-iff-allowed s (o .sound) act p m .0 e .turn)))
-      (λ n. rw (noted-refused s x act p m n) same)
+      (λ e. rw (answer-accepted s x act p m e) (accepted-tries (accepted-iff-allowed s (o .sound) act p m .0 e .turn)))
+      (λ n. rw (answer-refused s x act p m n) same)
 
   pub recorded-tries : P (recordedOf s x act p m .statistics .tries)
   recorded-tries = judged-tries (judged s x act p m)

@@ -106,8 +106,8 @@ abbrev pub refusedCounted : Statistics → Statistics
 refusedCounted x = statisticsOf (oneRefused (x .counts)) (x .tries)
 
 -- [5.70] [5.100] the summary after an action that was answered with a code
-unfoldable pub noted : Statistics → ℕ → ℕ → ℕ → ℕ → Statistics
-noted x code act p m = cond (eqb code 0) (acceptedCounted x act p m) (refusedCounted x)
+unfoldable pub answerCounted : Statistics → ℕ → ℕ → ℕ → ℕ → Statistics
+answerCounted x code act p m = cond (eqb code 0) (acceptedCounted x act p m) (refusedCounted x)
 
 -- The recorded step
 
@@ -117,7 +117,7 @@ beside x o = record { outcome = o; statistics = x }
 
 -- [5.110] the outcome of a step, and its answer counted
 abbrev pub counting : Statistics → ℕ → ℕ → ℕ → Outcome → Recorded
-counting x act p m o = beside (noted x (o .answer .code) act p m) o
+counting x act p m o = beside (answerCounted x (o .answer .code) act p m) o
 
 -- [5.30] [5.105] [5.110] [4.80] [4.110] [4.1] [4.2] [4.3] one condition a line; 1, 2 and 3 give the summary back
 unfoldable pub recordedOf : State → Statistics → ℕ → ℕ → ℕ → Recorded

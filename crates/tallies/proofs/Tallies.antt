@@ -19,7 +19,7 @@ use Rattle.model.specs.States.{trying, soundOf, entryOf}
 use Rattle.model.specs.Answers.{stepOf, freshOf}
 use Rattle.model.specs.Facts.{Accepted, IsFresh, IsTrying}
 use Rattle.model.specs.Folds.{endBy, resultsBy}
-use Rattle.model.specs.Summaries.{newStatistics, triedAt, acceptedCounted, refusedCounted, noted}
+use Rattle.model.specs.Summaries.{newStatistics, triedAt, acceptedCounted, refusedCounted, answerCounted}
 use Rattle.model.specs.Tallies.{Attempt, attempt, logOnto, countOf, lastTry, longestWait, criticalCount}
 use Rattle.theory.specs.Acceptance.{Allowed, Changed}
 use Rattle.tallies.specs.Tallies.{recordNext, recordAll, recordsOf, codeOf, Tallied, startOf, EveryTally}
@@ -32,7 +32,7 @@ use Rattle.theory.proofs.Entries.{same-at}
 use Rattle.tallies.proofs.CountLaws.{count-idle, skipped}
 use Rattle.tallies.proofs.ActKinds.{Kind, entry-at, turn-kind, next-count}
 use Rattle.theory.proofs.Steps.{Refuses, step-refuses}
-use Rattle.theory.proofs.RecordedSteps.{Judged, judged, noted-accepted, noted-refused}
+use Rattle.theory.proofs.RecordedSteps.{Judged, judged, answer-accepted, answer-refused}
 use Rattle.theory.proofs.Summaries.{summary-sound-iff-plain}
 use Rattle.tallies.proofs.Countings.{TriesStand, tries-later, Counted, refused-unmarked}
 use Rattle.tallies.proofs.Countings.{filled-counted, refused-stands, refused-counted}
@@ -126,13 +126,13 @@ module _ {log : List Attempt} {s : State} {x : Statistics} (along : Along log s 
   abbrev Step : Statistics → Outcome → Type 0
   Step y o = Along (attempt act p m (o .answer .code) ∷ log) (o .state) y
 
-  along-step : NotFull x → Step (noted x (stepOf s act p m .answer .code) act p m) (stepOf s act p m)
+  along-step : NotFull x → Step (answerCounted x (stepOf s act p m .answer .code) act p m) (stepOf s act p m)
   along-step room = if-eq (stepOf s act p m .answer .code) 0
-      (λ e. rw (noted-accepted s x act p m e)
+      (λ e. rw (answer-accepted s x act p m e)
       (subst (λ (code : ℕ). Along (attempt act p m code ∷ log) (stepOf s act p m .state) (acceptedCounted x act p m)) (sym e)
       (along-accepted (accepted-iff-allowed s (along .sound) act p m .0 e) (next-is-changed s (along .size) act p m e)
       room (sound-kept s (along .size) act p m (along .sound) e))))
-      (λ n. rw (noted-refused s x act p m n, refused-stays s act p m n)
+      (λ n. rw (answer-refused s x act p m n, refused-stays s act p m n)
       (along-refused _ room (step-refuses s act p m (along .sound) n)))
 
   along-judged : {r : Recorded} → Judged s x act p m r → Step (r .statistics) (r .outcome)

@@ -11,7 +11,7 @@ use Rattle.model.specs.declared.Statistics.{Statistics}
 use Rattle.model.specs.declared.Recorded.{Recorded}
 use Rattle.model.specs.States.{soundOf}
 use Rattle.model.specs.Answers.{answers, stepOf}
-use Rattle.model.specs.Summaries.{mostActs, statisticsSound, full, acceptedCounted, refusedCounted, noted, beside, counting, recordedOf}
+use Rattle.model.specs.Summaries.{mostActs, statisticsSound, full, acceptedCounted, refusedCounted, answerCounted, beside, counting, recordedOf}
 use Rattle.theory.specs.Summaries.{NotFull}
 use Rattle.model.proofs.Tests.{by-cond}
 
@@ -48,13 +48,13 @@ module _ (s : State) (x : Statistics) (act p m : ℕ) where
 
   -- What is counted, by the number of the answer
 
-  pub noted-accepted : {code : ℕ} → code ≡ 0 → noted x code act p m ≡ acceptedCounted x act p m
-  unfolding noted
-  noted-accepted e = rw e
+  pub answer-accepted : {code : ℕ} → code ≡ 0 → answerCounted x code act p m ≡ acceptedCounted x act p m
+  unfolding answerCounted
+  answer-accepted e = rw e
 
-  pub noted-refused : {code : ℕ} → code ≢ 0 → noted x code act p m ≡ refusedCounted x
-  unfolding noted
-  noted-refused {code} n = rw (ne-eqb code 0 n)
+  pub answer-refused : {code : ℕ} → code ≢ 0 → answerCounted x code act p m ≡ refusedCounted x
+  unfolding answerCounted
+  answer-refused {code} n = rw (ne-eqb code 0 n)
 
   -- 0 and the codes from 4 on are those of a step, so it was counted
 
@@ -62,10 +62,10 @@ module _ (s : State) (x : Statistics) (act p m : ℕ) where
   accepted-counted (no-table _) e = absurd (omega arith)
   accepted-counted (no-summary _ _) e = absurd (omega arith)
   accepted-counted (filled _ _ _) e = absurd (omega arith)
-  accepted-counted (counted _) e = noted-accepted e
+  accepted-counted (counted _) e = answer-accepted e
 
   pub refused-counted : {r : Recorded} → Judged r → 4 ≤ r .outcome .answer .code → r .statistics ≡ refusedCounted x
   refused-counted (no-table _) h = absurd (omega arith)
   refused-counted (no-summary _ _) h = absurd (omega arith)
   refused-counted (filled _ _ _) h = absurd (omega arith)
-  refused-counted (counted _) h = noted-refused (omega arith)
+  refused-counted (counted _) h = answer-refused (omega arith)

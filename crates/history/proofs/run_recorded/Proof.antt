@@ -5,7 +5,7 @@ use mathlib.Core.Path.{refl, _∙_}
 use native.Mathlib.Omega.{arith}
 use Rattle.model.specs.Summaries.{beside}
 use Rattle.model.proofs.Folds.{sets-out}
-use Rattle.history.specs.RecordedRuns.{eventsOf, recordedRunFrom, recordedRunOf}
+use Rattle.history.specs.RecordedRuns.{eventsInRows, recordedRunFrom, recordedRunOf}
 use Rattle.history.proofs.RecordedTurns.{length-events, Recording, records-on, answers-long, ends, recorded-run-tallied}
 use Rattle.history.proofs.run_recorded.Statement.{statement}
 use Rattle.history.proofs.run_recorded.Tie as tie
@@ -57,7 +57,7 @@ returns c =
     let made = c .before .before .before .before .before .before .before .before .fresh in
     let summary = c .before .before .before .before .before .before .new-statistics in
     let e = ends (beside (summary .result) (made .result)) (c .before .before .before .before .loop .inv) (omega arith)
-    ∙ (λ j. recordedRunFrom (beside (summary .ensures j) (made .ensures j)) (eventsOf acts answers) answers) in
+    ∙ (λ j. recordedRunFrom (beside (summary .ensures j) (made .ensures j)) (eventsInRows acts answers) answers) in
     (e, recorded-run-tallied (s .args .parameters) acts answers e)
 
 pub run-recorded-spec : {M : Type 1} → statement M

@@ -1,9 +1,9 @@
--- `funnelfawn::tables::store` meets its contract: each exit is an arm of `stored`. Assumes nothing.
+-- `funnelfawn::tables::store` meets its contract: each exit is an arm of `storedTable`. Assumes nothing.
 use borrow.Author.Needs.{needs}
 use mathlib.Core.Path.{_∙_}
 use borrow.Author.Tests.{eq-eqb, ne-eqb, lt-ltb, le-ltb}
 use Rattle.model.specs.States.{entryOf}
-use Rattle.funnelfawn.specs.Loading.{stored}
+use Rattle.funnelfawn.specs.Loading.{storedTable}
 use Rattle.funnelfawn.proofs.tables.store.Statement.{statement}
 use Rattle.funnelfawn.proofs.tables.store.Tie as tie
 
@@ -14,14 +14,14 @@ same-length : tie.Need-same-length
 same-length c = search needs
 
 returns : tie.Need-returns
-unfolding stored
+unfolding storedTable
 returns c = c .before .before .before .put-pair .ensures ∙ simp (eq-eqb _ _ (c .if1 .taken))
 
 same-length-2 : tie.Need-same-length-2
 same-length-2 c = search needs
 
 returns-2 : tie.Need-returns-2
-unfolding stored
+unfolding storedTable
 returns-2 c =
     c .before .before .before .before .put-pair .ensures ∙ simp (ne-eqb _ _ (c .before .if1 .left), lt-ltb _ _ (c .if2 .taken))
 
@@ -41,7 +41,7 @@ same-length-3 : tie.Need-same-length-3
 same-length-3 c = search needs
 
 returns-3 : tie.Need-returns-3
-unfolding stored entryOf
+unfolding storedTable entryOf
 returns-3 c =
     let e = c .before .before .before .before in
     rw (c .before .before .put-entry .ensures, e .before .before .before .before .before .put-pair .ensures)
