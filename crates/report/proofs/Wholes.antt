@@ -27,7 +27,7 @@ sets-nothing i (x ∷ text) = sets-nothing (suc i) text
 
 -- an output of no bytes stays so
 pub nothing-put : {new text : List ℕ} {at size : ℕ} → Put [] new at text size → new ≡ []
-nothing-put {text = text} {at = at} p = p .stored ∙ sets-nothing at text
+nothing-put {text = text} {at = at} p = p .put ∙ sets-nothing at text
 
 -- a report that has room
 pub put-whole : {old new text : List ℕ} {size : ℕ} → Put old new 0 text size → size ≤ length old
@@ -35,7 +35,7 @@ pub put-whole : {old new text : List ℕ} {size : ℕ} → Put old new 0 text si
 unfolding fitted
 put-whole {old} {new} {text} {size} p h =
     let fits : length text ≤ length old = omega (arith, p .wide) in
-    rw (le-ltb (length old) (length text) fits) (write-gave (rw (p .wide)) (p .stored ∙ sets-over text old fits))
+    rw (le-ltb (length old) (length text) fits) (write-gave (rw (p .wide)) (p .put ∙ sets-over text old fits))
 
 -- a report that is answered with 0 is whole
 pub record Whole (text new : List ℕ) (size : ℕ) : Type 0 where

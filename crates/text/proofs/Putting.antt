@@ -32,19 +32,19 @@ sets-over text out h = sets-eq text out 0 (omega arith) ∙ rw zero-add
 
 -- an output keeps its length
 pub put-long : {old new text : List ℕ} {at width : ℕ} → Put old new at text width → length new ≡ length old
-put-long {old} {text = text} {at = at} p = ap length (p .stored) ∙ length-sets old at text
+put-long {old} {text = text} {at = at} p = ap length (p .put) ∙ length-sets old at text
 
 pub put-nothing : {old : List ℕ} {at : ℕ} → Put old old at [] 0
-put-nothing = record { stored = refl; wide = refl }
+put-nothing = record { put = refl; wide = refl }
 
 pub put-one : {old new : List ℕ} {at x : ℕ} → new ≡ set old at x → Put old new at (x ∷ []) 1
-put-one e = record { stored = e; wide = refl }
+put-one e = record { put = e; wide = refl }
 
 -- one text after the other
 pub put-both : {old mid new x y : List ℕ} {at i j : ℕ} → Put old mid at x i → Put mid new (at + i) y j → Put old new at (x ++ y) (i + j)
 put-both {old} {mid} {new} {x} {y} {at} {i} {j} f g =
     record {
-      stored = g .stored ∙ rw (f .stored, f .wide) (sym (sets-append x y old at));
+      put = g .put ∙ rw (f .put, f .wide) (sym (sets-append x y old at));
       wide = omega (arith, f .wide, g .wide, length-append x y);
     }
 
@@ -58,10 +58,10 @@ put-first {i = i} f g = put-both f (rw zero-add g)
 pub record Left (old : List ℕ) (start : ℕ) (whole new : List ℕ) (at : ℕ) (rest : List ℕ) : Type 0 where
   pub ends : at + length rest ≡ start + length whole
   pub same : length new ≡ length old
-  pub stored : sets new at rest ≡ sets old start whole
+  pub put : sets new at rest ≡ sets old start whole
 
 pub left-all : {old : List ℕ} {start : ℕ} {whole : List ℕ} → Left old start whole old start whole
-left-all = record { ends = refl; same = refl; stored = refl }
+left-all = record { ends = refl; same = refl; put = refl }
 
 -- one text more is put
 pub left-next : {old whole mid new x y : List ℕ} {start at k : ℕ}
@@ -70,7 +70,7 @@ left-next {mid = mid} {x = x} {y = y} {at = at} f p =
     record {
       ends = omega (arith, f .ends, p .wide, length-append x y);
       same = put-long p ∙ f .same;
-      stored = rw (p .stored, p .wide) (sym (sets-append x y mid at) ∙ f .stored);
+      put = rw (p .put, p .wide) (sym (sets-append x y mid at) ∙ f .put);
     }
 
 -- what is being put comes after a text that is put already
@@ -80,12 +80,12 @@ left-after {old} {x = x} {y = y} {start = start} p f =
     record {
       ends = omega (arith, f .ends, p .wide, length-append x y);
       same = f .same ∙ put-long p;
-      stored = f .stored ∙ rw (p .stored, p .wide) (sym (sets-append x y old start));
+      put = f .put ∙ rw (p .put, p .wide) (sym (sets-append x y old start));
     }
 
 -- nothing is left
 pub left-done : {old whole new : List ℕ} {start at k : ℕ} → Left old start whole new at [] → at ≡ start + k → Put old new start whole k
-left-done f e = record { stored = f .stored; wide = omega (arith, f .ends) }
+left-done f e = record { put = f .put; wide = omega (arith, f .ends) }
 
 -- the last text is put
 pub left-last : {old whole mid new x : List ℕ} {start at k n : ℕ}

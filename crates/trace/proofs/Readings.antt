@@ -7,20 +7,20 @@ use native.Mathlib.Omega.{arith}
 use lib.ListN.{length, drop}
 use borrow.Author.Tests.{lt-ltb, le-ltb, eq-eqb, ne-eqb}
 use Rattle.model.specs.declared.Scan.{Scan}
-use Rattle.model.specs.Readings.{scanOf, scanFails, headOf, Body, bodyOf, trace, traceOf, Lists, room, stored, scanGave, scannedOf}
+use Rattle.model.specs.Readings.{scanFails, headOf, Body, bodyOf, trace, traceOf, Lists, room, stored, scanGave, scannedOf}
 use Rattle.model.proofs.Tests.{if-eq}
-use Rattle.trace.specs.declared.steps.Tally.the-variants.{Steps, Fault}
-use Rattle.trace.specs.Passes.{tallyOf}
+use Rattle.trace.specs.declared.steps.Counted.the-variants.{Steps, Fault}
+use Rattle.trace.specs.Passes.{countedOf, scanFound}
 use Rattle.grammar.proofs.Heads.{trace-refused, trace-events, trace-fault}
 
 -- What the count says of a body
 
-pub record Counted (b : Body) (count : ℕ) : Type 0 where
+pub record Whole (b : Body) (count : ℕ) : Type 0 where
   pub whole : b .fault ≡ 0
   pub many : length (b .events) ≡ count
 
-pub tally-steps : (b : Body) (count : ℕ) → tallyOf b ≡ Steps count → Counted b count
-tally-steps b count e =
+pub counted-steps : (b : Body) (count : ℕ) → countedOf b ≡ Steps count → Whole b count
+counted-steps b count e =
     if-eq (b .fault) 0
     (λ z.
     let s : Steps (length (b .events)) ≡ Steps count = simp (eq-eqb (b .fault) 0 z) at e in
@@ -35,8 +35,8 @@ pub record Faulty (b : Body) (code line : ℕ) : Type 0 where
   pub named : code ≡ 14
   pub here : b .fault ≡ line
 
-pub tally-fault : (b : Body) (code line : ℕ) → tallyOf b ≡ Fault code line → Faulty b code line
-tally-fault b code line e =
+pub counted-fault : (b : Body) (code line : ℕ) → countedOf b ≡ Fault code line → Faulty b code line
+counted-fault b code line e =
     if-eq (b .fault) 0
     (λ z.
     let s : Steps (length (b .events)) ≡ Fault code line = simp (eq-eqb (b .fault) 0 z) at e in
@@ -57,17 +57,19 @@ module _ (text : List ℕ) (l : Lists) (h : Scan) (e : headOf text ≡ h) where
     says : body .fault ≡ 0 → traceOf text ≡ trace (h .line) (h .parameters) (body .events)
     says z = rw rest at (trace-events text h e read (rw rest z))
 
-    pub scan-fault : (code line : ℕ) → tallyOf body ≡ Fault code line → scannedOf text l ≡ scanGave (scanFails code line) l
+    pub scan-fault : (code line : ℕ) → countedOf body ≡ Fault code line
+        → scannedOf text l ≡ scanGave (scanFound (h .line) (h .parameters) (countedOf body)) l
     unfolding scannedOf
     scan-fault code line t =
-        let f = tally-fault body code line t in
-        rw (trace-fault text h e read (rw rest (f .broken)), rest, f .named, f .here)
+        let f = counted-fault body code line t in
+        rw (t, trace-fault text h e read (rw rest (f .broken)), rest, f .named, f .here)
 
-    module _ (count : ℕ) (t : tallyOf body ≡ Steps count) where
+    module _ (count : ℕ) (t : countedOf body ≡ Steps count) where
       pub scan-full : room l < count → scannedOf text l ≡ scanGave (scanFails 16 0) l
       unfolding scannedOf
-      scan-full g = let c = tally-steps body count t in rw (says (c .whole), c .many, lt-ltb (room l) count g)
+      scan-full g = let c = counted-steps body count t in rw (says (c .whole), c .many, lt-ltb (room l) count g)
 
-      pub scan-stored : count ≤ room l → scannedOf text l ≡ scanGave (scanOf (h .line) (h .parameters) count) (stored (body .events) l)
+      pub scan-stored : count ≤ room l
+          → scannedOf text l ≡ scanGave (scanFound (h .line) (h .parameters) (countedOf body)) (stored (body .events) l)
       unfolding scannedOf
-      scan-stored g = let c = tally-steps body count t in rw (says (c .whole), c .many, le-ltb (room l) count g)
+      scan-stored g = let c = counted-steps body count t in rw (t, says (c .whole), c .many, le-ltb (room l) count g)

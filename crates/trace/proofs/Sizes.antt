@@ -18,7 +18,7 @@ pub left-nothing : {old whole new : List ℕ} {start at : ℕ}
     → Left old start whole new at [] → at ≤ textLimit → PutSized old new start whole (Bytes at)
 left-nothing {whole = whole} {start = start} {at = at} f h =
     let e : start + length whole ≡ at = omega (arith, f .ends) in
-    record { sized = rw e (rw (le-ltb textLimit at h)); same = f .same; stored = λ _. f .stored }
+    record { sized = rw e (rw (le-ltb textLimit at h)); same = f .same; put = λ _. f .put }
 
 pub left-long : {old whole new rest : List ℕ} {start at : ℕ}
     → Left old start whole new at rest → textLimit < at → PutSized old new start whole Long
@@ -26,7 +26,7 @@ left-long {whole = whole} {start = start} f h =
     record {
       sized = rw (lt-ltb textLimit (start + length whole) (omega (arith, f .ends)));
       same = f .same;
-      stored = λ (s : start + length whole ≤ textLimit). absurd (omega (arith, f .ends));
+      put = λ (s : start + length whole ≤ textLimit). absurd (omega (arith, f .ends));
     }
 
 -- the rest is put
@@ -36,7 +36,7 @@ left-rest {whole = whole} {start = start} f p =
     record {
       sized = rw (f .ends) at (p .sized);
       same = p .same ∙ f .same;
-      stored = λ (h : start + length whole ≤ textLimit). p .stored (omega (arith, f .ends)) ∙ f .stored;
+      put = λ (h : start + length whole ≤ textLimit). p .put (omega (arith, f .ends)) ∙ f .put;
     }
 
 -- a text at the start, and one after it

@@ -7,16 +7,23 @@ use mathlib.Core.List.{List}
 use lib.Dec.{ltb, eqb}
 use lib.ListN.{length}
 use lib.Seq.{sets}
+use Rattle.model.specs.declared.Parameters.{Parameters}
+use Rattle.model.specs.declared.Scan.{Scan}
 use Rattle.model.specs.Texts.{textLimit}
-use Rattle.model.specs.Readings.{Body}
-use Rattle.trace.specs.declared.steps.Tally.{Tally}
-use Rattle.trace.specs.declared.steps.Tally.the-variants.{Steps, Fault}
+use Rattle.model.specs.Readings.{scanOf, scanFails, Body}
+use Rattle.trace.specs.declared.steps.Counted.{Counted}
+use Rattle.trace.specs.declared.steps.Counted.the-variants.{Steps, Fault}
 use Rattle.trace.specs.declared.texts.Size.{Size}
 use Rattle.trace.specs.declared.texts.Size.the-variants.{Bytes, Long}
 
--- how many steps there are, or the refusal of the first line that is none
-abbrev pub tallyOf : Body → Tally
-tallyOf b = cond (eqb (b .fault) 0) (Steps (length (b .events))) (Fault 14 (b .fault))
+-- [21.100] how many steps there are, or the refusal of the first line that is none
+abbrev pub countedOf : Body → Counted
+countedOf b = cond (eqb (b .fault) 0) (Steps (length (b .events))) (Fault 14 (b .fault))
+
+-- [21.100] what is found of a text whose first lines are read
+abbrev pub scanFound : ℕ → Parameters → Counted → Scan
+scanFound first k (Steps count) = scanOf first k count
+scanFound first k (Fault code line) = scanFails code line
 
 -- how many bytes there are, up to 65,536
 abbrev pub sizeOf : ℕ → Size
@@ -27,4 +34,4 @@ sizeOf k = cond (ltb textLimit k) Long (Bytes k)
 pub record PutSized (old new : List ℕ) (at : ℕ) (text : List ℕ) (size : Size) : Type 0 where
   pub sized : size ≡ sizeOf (at + length text)
   pub same : length new ≡ length old
-  pub stored : at + length text ≤ textLimit → new ≡ sets old at text
+  pub put : at + length text ≤ textLimit → new ≡ sets old at text

@@ -7,8 +7,9 @@ mod texts;
 use crate::lines::first_line;
 use crate::lines::head_of;
 use crate::lines::scan_fails;
-use crate::steps::Tally;
+use crate::steps::Counted;
 use crate::steps::count_events;
+use crate::steps::scan_found;
 use crate::steps::store_events;
 use crate::texts::Size;
 use crate::texts::formless;
@@ -37,25 +38,18 @@ pub fn scan(text: &[u8], times: &mut [u64], processes: &mut [u64], actions: &mut
     }
     let at = head.size;
     let first = head.line;
+    let parameters = head.parameters;
     let body = &text[at..];
     let counted = count_events(body, first);
-    match counted {
-        Tally::Fault(code, line) => scan_fails(code, line),
-        Tally::Steps(count) => {
-            let room = least(times.len(), least(processes.len(), actions.len()));
-            if room < count {
-                return scan_fails(16, 0);
-            }
-            store_events(body, first, times, processes, actions);
-            let parameters = head.parameters;
-            Scan {
-                code: 0,
-                line: first,
-                parameters: parameters,
-                size: count,
-            }
-        }
+    let Counted::Steps(count) = counted else {
+        return scan_found(first, parameters, counted);
+    };
+    let room = least(times.len(), least(processes.len(), actions.len()));
+    if room < count {
+        return scan_fails(16, 0);
     }
+    let stored = store_events(body, first, times, processes, actions);
+    scan_found(first, parameters, stored)
 }
 
 // [6.110] The line in the answer, of the line that a refusal is reported at.

@@ -5,13 +5,13 @@ use mathlib.Core.List.{List}
 use native.Mathlib.Omega.{arith}
 use lib.ListN.{length, drop}
 use Rattle.model.specs.declared.Scan.{Scan}
-use Rattle.model.specs.Readings.{scanOf, headOf, Body, bodyOf, Lists, lists, room, scanGave}
+use Rattle.model.specs.Readings.{headOf, Body, bodyOf, Lists, lists, room, scanGave}
 use Rattle.model.proofs.Lists.{part-is}
 use Rattle.grammar.proofs.Fields.{took-le}
 use Rattle.grammar.proofs.Heads.{HeadTook, head-was, head-line}
-use Rattle.trace.specs.declared.steps.Tally.the-variants.{Steps}
-use Rattle.trace.specs.Passes.{tallyOf}
-use Rattle.trace.proofs.Readings.{scan-refused, scan-fault, scan-full, scan-stored, tally-steps}
+use Rattle.trace.specs.declared.steps.Counted.the-variants.{Steps}
+use Rattle.trace.specs.Passes.{countedOf, scanFound}
+use Rattle.trace.proofs.Readings.{scan-refused, scan-fault, scan-full, scan-stored, counted-steps}
 use borrow.Author.Needs.{needs}
 use Rattle.trace.proofs.scan.Statement.{statement}
 use Rattle.trace.proofs.scan.Tie as tie
@@ -49,18 +49,21 @@ body c = bodyOf (head c .line) (drop (head c .size) (text c))
 
 -- Where they are counted
 
-abbrev read : tie.After-known-told2 → tie.Else1
-read c = c .before .before .before .before .before
+counted-of : (c : tie.After-count-events) → c .count-events .result ≡ countedOf (body (c .before .before .before))
+counted-of c = rw part-is at (c .count-events .ensures)
 
-abbrev count : tie.After-known-told2 → ℕ
-count c = c .before .counted2 .given .0 .0
+abbrev read : tie.After-known-told → tie.Else1
+read c = c .before .before .before .before .before .before
 
-counted : (c : tie.After-known-told2) → tallyOf (body (read c)) ≡ Steps (count c)
-counted c = rw part-is at (sym (c .before .before .before .count-events .ensures) ∙ c .before .counted2 .given .1)
+abbrev count : tie.After-known-told → ℕ
+count c = c .before .counted .given .0 .0
+
+counted : (c : tie.After-known-told) → countedOf (body (read c)) ≡ Steps (count c)
+counted c = sym (counted-of (c .before .before .before)) ∙ c .before .counted .given .1
 
 -- Where the lists are measured
 
-abbrev tallied : tie.After-least2 → tie.After-known-told2
+abbrev tallied : tie.After-least2 → tie.After-known-told
 tallied c = c .before .before
 
 room-is : (c : tie.After-least2) → c .least2 .result ≡ room (given (read (tallied c)))
@@ -86,25 +89,32 @@ returns c =
     rw (scan-refused (a .text .now) l (h .result) (sym (h .ensures)) (c .before .if1 .taken), c .scan-fails .ensures)
 
 sub-body : tie.Need-sub-body
-sub-body c = head-fits c
+sub-body c = head-fits (c .before)
 
 part-body-start : tie.Need-part-body-start
-part-body-start c = head-fits c
+part-body-start c = head-fits (c .before)
 
 part-body-end : tie.Need-part-body-end
 part-body-end c = search needs
 
 count-events-requires : tie.Need-count-events-requires
-count-events-requires c κs = (line-some (c .before), line-fits (c .before))
+count-events-requires c κs = (line-some (c .before .before), line-fits (c .before .before))
 
 enum-known-counted : tie.Need-enum-known-counted
 enum-known-counted c = search needs
 
-scan-fails-requires-2 : tie.Need-scan-fails-requires-2
-scan-fails-requires-2 c κs = search needs
+enum-told : tie.Need-enum-told
+enum-told c = search needs
 
-enum-known-counted-2 : tie.Need-enum-known-counted-2
-enum-known-counted-2 c = search needs
+scan-found-requires : tie.Need-scan-found-requires
+scan-found-requires c κs = search needs
+
+returns-2 : tie.Need-returns-2
+returns-2 c =
+    let k = c .before .before .before .before .before .before in
+    let e = counted-of (c .before .before .before) in
+    let f = sym e ∙ c .before .enum-told .given .1 in
+    rw (scan-fault (text k) (given k) (head k) (head-read k) (k .if1 .left) (body k) refl _ _ f, ← e, c .scan-found .ensures)
 
 least-requires : tie.Need-least-requires
 least-requires c κs = search needs
@@ -112,27 +122,24 @@ least-requires c κs = search needs
 least-requires-2 : tie.Need-least-requires-2
 least-requires-2 c κs = search needs
 
-scan-fails-requires-3 : tie.Need-scan-fails-requires-3
-scan-fails-requires-3 c κs = search needs
+scan-fails-requires-2 : tie.Need-scan-fails-requires-2
+scan-fails-requires-2 c κs = search needs
 
-returns-2 : tie.Need-returns-2
-returns-2 c =
+returns-3 : tie.Need-returns-3
+returns-3 c =
     let t = tallied (c .before .before) in
     let k = read t in
-    rw (scan-full (text k) (given k) (head k) (head-read k) (k .if1 .left) (body k) refl (count t) (counted t) (full (c .before)), c .scan-fails3 .ensures)
+    rw (scan-full (text k) (given k) (head k) (head-read k) (k .if1 .left) (body k) refl (count t) (counted t) (full (c .before)), c .scan-fails2 .ensures)
 
 store-events-requires : tie.Need-store-events-requires
 store-events-requires c κs =
     let e = c .before .before .before in
     let t = tallied (e .before) in
-    let many = tally-steps (body (read t)) (count t) (counted t) .many in
-    (line-fits (read t), rw (part-is, many) (free e))
+    let many = counted-steps (body (read t)) (count t) (counted t) .many in
+    (line-some (read t), (line-fits (read t), rw (part-is, many) (free e)))
 
-returns-3 : tie.Need-returns-3
-returns-3 c =
-    let k = c .before .before .before .before .before .before in
-    let f = rw part-is at (sym (c .before .before .before .before .count-events .ensures) ∙ c .before .before .counted .given .1) in
-    rw (scan-fault (text k) (given k) (head k) (head-read k) (k .if1 .left) (body k) refl _ _ f, c .scan-fails2 .ensures)
+scan-found-requires-2 : tie.Need-scan-found-requires-2
+scan-found-requires-2 c κs = search needs
 
 same-length : tie.Need-same-length
 same-length c = search needs
@@ -148,9 +155,9 @@ returns-4 c =
     let e = c .before .before .before .before .before .before .before .before .before .before .before in
     let t = tallied (e .before) in
     let k = read t in
-    let stored = rw part-is at (c .before .before .before .before .before .before .before .store-events .ensures) in
-    rw (scan-stored (text k) (given k) (head k) (head-read k) (k .if1 .left) (body k) refl (count t) (counted t) (free e))
-    (ap (λ (l : Lists). scanGave (scanOf (head k .line) (head k .parameters) (count t)) l) stored)
+    let s = rw part-is at (c .before .before .before .before .before .before .before .store-events .ensures) in
+    rw (scan-stored (text k) (given k) (head k) (head-read k) (k .if1 .left) (body k) refl (count t) (counted t) (free e), c .scan-found2 .ensures, s .0)
+    (ap (λ (l : Lists). scanGave (scanFound (head k .line) (head k .parameters) (countedOf (body k))) l) (s .1))
 
 pub scan-spec : {M : Type 1} → statement M
 scan-spec =
@@ -164,14 +171,15 @@ scan-spec =
     part-body-end
     count-events-requires
     enum-known-counted
-    scan-fails-requires-2
-    enum-known-counted-2
+    enum-told
+    scan-found-requires
+    returns-2
     least-requires
     least-requires-2
-    scan-fails-requires-3
-    returns-2
-    store-events-requires
+    scan-fails-requires-2
     returns-3
+    store-events-requires
+    scan-found-requires-2
     same-length
     same-length-2
     same-length-3

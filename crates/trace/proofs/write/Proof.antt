@@ -62,6 +62,10 @@ size : (c : tie.After-known-told)
     (c .before .measured .given .0 .0 ≡ length text) × (length text ≤ textLimit)
 size c = size-bytes (rw (c .before .measured .given .1) at (c .before .before .before .before .before .put-trace .ensures))
 
+-- past the last test, the output has room
+fits : (c : tie.Else4) → (let w = whole (c .before .before .before .before .before .before) in length (textOf w) ≤ length (w .out))
+fits c = omega (arith, size (c .before) .0, ap length (untouched (c .before .before .before .before .before .before)), c .if4 .left)
+
 count-stands-requires : tie.Need-count-stands-requires
 count-stands-requires c κs = search needs
 
@@ -153,13 +157,13 @@ same-length-3 c = search needs
 finished : (c : tie.After-put-trace2)
     → let w = whole (c .before .before .before .before .before .before .before .before) in
     length (textOf w) ≤ textLimit → c .put-trace2 .last .0 ≡ sets (w .out) 0 (textOf w)
-finished c h = rw (untouched (c .before .before .before .before .before .before .before .before)) at (c .put-trace2 .ensures .stored (omega arith))
+finished c h = rw (untouched (c .before .before .before .before .before .before .before .before)) at (c .put-trace2 .ensures .put (omega arith))
 
 returns-6 : tie.Need-returns-6
 returns-6 c =
     let p = c .before .before .before .before .before .before .before .before .before .before .before in
     let s = size (c .before .before .before .before .before .before) in
-    rw (write-done (sound p) (s .1) (omega (arith, s .0, ap length (untouched p), c .before .before .before .before .before .if4 .left)))
+    rw (write-done (sound p) (s .1) (fits (c .before .before .before .before .before)))
     (write-gave (rw (s .0) at (c .answer-with6 .ensures)) (finished (c .before .before .before) (s .1)))
 
 pub write-spec : {M : Type 1} → statement M

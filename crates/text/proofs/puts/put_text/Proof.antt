@@ -50,7 +50,7 @@ returns : tie.Need-returns Inv-loop μ-loop
 returns c =
     let v = c .before .loop in
     let e = drop-end (c .before .before .before .before .args .text .now) (v .i) (c .loop-test .left) (v .inv .0) in
-    record { stored = rw e at (v .inv .2); wide = omega arith }
+    record { put = rw e at (v .inv .2); wide = omega arith }
 
 pub put-text-spec : {M : Type 1} → statement M
 put-text-spec =

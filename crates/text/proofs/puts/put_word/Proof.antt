@@ -1,12 +1,26 @@
 -- `puts::put_word` meets its contract: the cell of an act holds its word. Assumes nothing.
-use mathlib.Core.List.{[]}
+use Prim.Native.Nat.{ℕ}
+use mathlib.Core.Path.{refl}
+use mathlib.Core.List.{List, [], _∷_}
 use native.Mathlib.Omega.{arith}
 use lib.ListN.{List·getD-eq-default}
-use Rattle.model.specs.Texts.{words, wordText}
-use Rattle.text.proofs.Cells.{cell}
+use Rattle.model.specs.Texts.{bytes, words, wordText}
+use Rattle.model.specs.Readings.{startsWith}
+use Rattle.text.proofs.Cells.{Tabled, cell}
 use borrow.Author.Needs.{needs}
 use Rattle.text.proofs.puts.put_word.Statement.{statement}
 use Rattle.text.proofs.puts.put_word.Tie as tie
+
+-- the constants of `words`
+abbrev cells : List ℕ
+cells = bytes "wait\n try\n  test\n set\n  check\ncrit\n exit\n reset\nrem\n  "
+
+abbrev widths : List ℕ
+widths = 5 ∷ 4 ∷ 5 ∷ 4 ∷ 6 ∷ 5 ∷ 5 ∷ 6 ∷ 4 ∷ []
+
+tabled : Tabled cells widths
+unfolding startsWith
+tabled = record { all = refl }
 
 slice-aggregate-put-text : tie.Need-slice-aggregate-put-text
 slice-aggregate-put-text c = search needs
@@ -31,7 +45,7 @@ array-read-to : tie.Need-array-read-to
 array-read-to c = search needs
 
 add-to : tie.Need-add-to
-add-to c = omega (arith, cell (c .before .before .args .action) (c .if1 .left) .fits)
+add-to c = omega (arith, cell tabled (c .before .before .args .action) (c .if1 .left) .fits)
 
 sub-put-text : tie.Need-sub-put-text
 sub-put-text c = search needs
@@ -40,7 +54,7 @@ part-put-text-start : tie.Need-part-put-text-start
 part-put-text-start c = search needs
 
 part-put-text-end : tie.Need-part-put-text-end
-part-put-text-end c = omega (arith, cell (c .before .before .before .before .args .action) (c .before .before .if1 .left) .fits)
+part-put-text-end c = omega (arith, cell tabled (c .before .before .before .before .args .action) (c .before .before .if1 .left) .fits)
 
 put-text-requires-2 : tie.Need-put-text-requires-2
 put-text-requires-2 c κs = search needs
@@ -52,7 +66,7 @@ returns-2 : tie.Need-returns-2
 unfolding wordText
 returns-2 c =
     let a = c .before .before .before .before .before .before .before .before .args in
-    rw (cell (a .action) (c .before .before .before .before .before .before .if1 .left) .holds) at (c .before .before .put-text2 .ensures)
+    rw (cell tabled (a .action) (c .before .before .before .before .before .before .if1 .left) .holds) at (c .before .before .put-text2 .ensures)
 
 pub put-word-spec : {M : Type 1} → statement M
 put-word-spec =

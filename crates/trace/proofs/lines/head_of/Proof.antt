@@ -8,7 +8,7 @@ use borrow.Author.Tests.{lt-ltb, le-ltb, eq-eqb, ne-eqb, not-true, not-false}
 use lib.ListN.{length, drop, length-drop}
 use Rattle.model.specs.declared.Line.{Line}
 use Rattle.model.specs.States.{countStands, limitsStand}
-use Rattle.model.specs.Texts.{valueNames}
+use Rattle.model.specs.Texts.{valueNames, textLimit}
 use Rattle.model.specs.Readings.{startsWith, numbersAt, afterValues, ofValues, headOf}
 use Rattle.model.proofs.Lists.{part-is}
 use Rattle.grammar.proofs.Fields.{took-le, starts-took}
@@ -16,6 +16,11 @@ use Rattle.grammar.proofs.Lines.{values-was}
 use borrow.Author.Needs.{needs}
 use Rattle.trace.proofs.lines.head_of.Statement.{statement}
 use Rattle.trace.proofs.lines.head_of.Tie as tie
+
+-- Past the test of the length
+
+short : (c : tie.Else1) → length (c .before .before .args .text .now) ≤ textLimit
+short c = omega (arith, c .if1 .left)
 
 -- Past line 1
 
@@ -30,7 +35,7 @@ after-names c = took-le (starts-took valueNames (text2 c) (named c))
 
 head2 : (c : tie.Else2) → headOf (text2 c) ≡ ofValues (text2 c) (numbersAt 2 3 (drop 14 (text2 c)))
 unfolding headOf
-head2 c = rw (le-ltb _ _ (c .before .before .before .if1 .left), named c)
+head2 c = rw (le-ltb _ _ (short (c .before .before .before)), named c)
 
 -- Past line 2: as it was read, and then its parameters
 
@@ -86,7 +91,7 @@ returns-2 : tie.Need-returns-2
 unfolding headOf
 returns-2 c =
     c .scan-fails2 .ensures
-    ∙ rw (le-ltb _ _ (c .before .before .before .before .if1 .left), sym (c .before .before .starts-with .ensures) ∙ not-true _ (c .before .if2 .taken))
+    ∙ rw (le-ltb _ _ (short (c .before .before .before .before)), sym (c .before .before .starts-with .ensures) ∙ not-true _ (c .before .if2 .taken))
 
 sub-numbers-at : tie.Need-sub-numbers-at
 sub-numbers-at c = after-names c

@@ -4,13 +4,12 @@ use mathlib.Core.Path.{_≡_, sym, _∙_}
 use mathlib.Core.List.{List}
 use native.Mathlib.Omega.{arith}
 use borrow.Author.Needs.{needs}
-use borrow.Author.Tests.{ne-eqb}
 use lib.ListN.{length, drop}
 use Rattle.model.specs.declared.Row.the-variants.{Step}
 use Rattle.model.specs.Readings.{eventAt}
 use Rattle.model.proofs.Lists.{part-is}
-use Rattle.grammar.proofs.Bodies.{Along, along-start, along-step, along-more, along-inside, along-end, along-fault}
-use Rattle.trace.proofs.Rows.{row-refused}
+use Rattle.grammar.proofs.Bodies.{Along, along-start, along-step, along-more, along-inside}
+use Rattle.trace.proofs.Rows.{answer-steps, answer-fault}
 use Rattle.trace.proofs.steps.count_events.Statement.{statement}
 use Rattle.trace.proofs.steps.count_events.Tie as tie
 
@@ -85,18 +84,15 @@ enum-known-row-2 c = search needs
 returns : tie.Need-returns Inv-loop μ-loop
 returns c =
     let v = c .before .before .before .before .before .before .loop in
-    let a = c .before .before .before .before .before .before .before .before .args in
+    let p = c .before .before .before .before .before .before .before .before in
     let e = rw part-is at (sym (c .before .before .before .event-at .ensures) ∙ c .before .row2 .given .1) in
-    let f = along-fault (a .s .now) (a .first) (v .at) (v .count) (v .inv) _ _ (c .before .before .before .before .before .loop-test .taken) e in
-    let r = row-refused _ _ _ _ e in
-    rw (r .0, r .1, f .1) (simp (ne-eqb (a .first + v .count) 0 (λ (z : a .first + v .count ≡ 0). omega arith)))
+    answer-fault (p .args .s .now) (p .args .first) (v .at) (v .count) (v .inv) (p .pre .0) _ _ (c .before .before .before .before .before .loop-test .taken) e
 
 returns-2 : tie.Need-returns-2 Inv-loop μ-loop
 returns-2 c =
     let v = c .before .loop in
     let a = c .before .before .before .args in
-    let e = along-end (a .s .now) (a .first) (v .at) (v .count) (v .inv) (c .loop-test .left) in
-    rw (e .1, e .0)
+    answer-steps (a .s .now) (a .first) (v .at) (v .count) (v .inv) (c .loop-test .left)
 
 pub count-events-spec : {M : Type 1} → statement M
 count-events-spec =

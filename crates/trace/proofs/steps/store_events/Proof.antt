@@ -10,6 +10,7 @@ use Rattle.model.specs.declared.Row.the-variants.{Step, Unread}
 use Rattle.model.specs.Readings.{eventAt, lists, room}
 use Rattle.model.proofs.Lists.{part-is}
 use Rattle.grammar.proofs.Bodies.{along-more, along-inside}
+use Rattle.trace.proofs.Rows.{answer-steps, answer-fault}
 use Rattle.trace.proofs.Stores.{Storing, storing-start, storing-step, storing-place, storing-end, storing-fault}
 use Rattle.trace.proofs.steps.store_events.Statement.{statement}
 use Rattle.trace.proofs.steps.store_events.Tie as tie
@@ -55,14 +56,14 @@ place : (c : tie.After-known-told Inv-loop μ-loop)
 place c = storing-place (turn c .loop .inv) _ _ _ (width c) (more c) (step-read c)
 
 -- the line that is no step
-fault : (c : tie.After-enum-told Inv-loop μ-loop)
-    → (let v = c .before .before .before .before .before .loop in
-    let a = c .before .before .before .before .before .before .before .before .before .before .args in
-    eventAt (a .first + v .i) (drop (v .at) (a .s .now)) ≡ Unread (c .enum-told .given .0 .0) (c .enum-told .given .0 .1 .0))
-fault c = rw part-is at (sym (c .before .before .event-at .ensures) ∙ c .enum-told .given .1)
+fault : (c : tie.After-known-told2 Inv-loop μ-loop)
+    → (let v = c .before .before .before .before .before .before .loop in
+    let a = c .before .before .before .before .before .before .before .before .before .before .before .args in
+    eventAt (a .first + v .i) (drop (v .at) (a .s .now)) ≡ Unread (c .before .row2 .given .0 .0) (c .before .row2 .given .0 .1 .0))
+fault c = rw part-is at (sym (c .before .before .before .event-at .ensures) ∙ c .before .row2 .given .1)
 
 loop-holds : tie.Need-loop-holds Inv-loop μ-loop
-loop-holds c = storing-start _ _ _ (c .before .before .before .before .pre .1)
+loop-holds c = storing-start _ _ _ (c .before .before .before .before .pre .1 .1)
 
 add-line : tie.Need-add-line Inv-loop μ-loop
 add-line c = omega (arith, c .before .loop .inv .along .fewer)
@@ -81,21 +82,6 @@ event-at-requires c κs = search needs
 
 enum-known-row : tie.Need-enum-known-row Inv-loop μ-loop
 enum-known-row c = search needs
-
-enum-told : tie.Need-enum-told Inv-loop μ-loop
-enum-told c = search needs
-
-same-length : tie.Need-same-length Inv-loop μ-loop
-same-length c = c .before .before .before .before .before .loop .inv .times .long
-
-same-length-2 : tie.Need-same-length-2 Inv-loop μ-loop
-same-length-2 c = c .before .before .before .before .before .loop .inv .processes .long
-
-same-length-3 : tie.Need-same-length-3 Inv-loop μ-loop
-same-length-3 c = c .before .before .before .before .before .loop .inv .actions .long
-
-returns : tie.Need-returns Inv-loop μ-loop
-returns c = storing-fault (c .before .before .before .before .before .loop .inv) _ _ (c .before .before .before .before .loop-test .taken) (fault c)
 
 mul-times : tie.Need-mul-times Inv-loop μ-loop
 mul-times c = omega (arith, place c, turn c .loop .inv .times .long, turn c .before .before .before .before .before .good)
@@ -127,6 +113,27 @@ loop-less c = omega (arith, along-more (text c) (first c) (start c) (past c) _ _
 loop-again : tie.Need-loop-again Inv-loop μ-loop
 loop-again c = storing-step (turn c .loop .inv) _ _ _ (width c) (more c) (step-read c)
 
+enum-known-row-2 : tie.Need-enum-known-row-2 Inv-loop μ-loop
+enum-known-row-2 c = search needs
+
+same-length : tie.Need-same-length Inv-loop μ-loop
+same-length c = c .before .before .before .before .before .before .loop .inv .times .long
+
+same-length-2 : tie.Need-same-length-2 Inv-loop μ-loop
+same-length-2 c = c .before .before .before .before .before .before .loop .inv .processes .long
+
+same-length-3 : tie.Need-same-length-3 Inv-loop μ-loop
+same-length-3 c = c .before .before .before .before .before .before .loop .inv .actions .long
+
+returns : tie.Need-returns Inv-loop μ-loop
+returns c =
+    let v = c .before .before .before .before .before .before .loop in
+    let p = c .before .before .before .before .before .before .before .before .before .before .before in
+    let h = c .before .before .before .before .before .loop-test .taken in (
+      answer-fault (p .args .s .now) (p .args .first) (v .at) (v .i) (v .inv .along) (p .pre .0) _ _ h (fault c),
+      storing-fault (v .inv) _ _ h (fault c),
+    )
+
 same-length-4 : tie.Need-same-length-4 Inv-loop μ-loop
 same-length-4 c = c .before .loop .inv .times .long
 
@@ -137,7 +144,10 @@ same-length-6 : tie.Need-same-length-6 Inv-loop μ-loop
 same-length-6 c = c .before .loop .inv .actions .long
 
 returns-2 : tie.Need-returns-2 Inv-loop μ-loop
-returns-2 c = storing-end (c .before .loop .inv) (c .loop-test .left)
+returns-2 c =
+    let v = c .before .loop in
+    let a = c .before .before .before .before .before .before .args in
+    (answer-steps (a .s .now) (a .first) (v .at) (v .i) (v .inv .along) (c .loop-test .left), storing-end (v .inv) (c .loop-test .left))
 
 pub store-events-spec : {M : Type 1} → statement M
 store-events-spec =
@@ -152,11 +162,6 @@ store-events-spec =
     part-event-at-end
     event-at-requires
     enum-known-row
-    enum-told
-    same-length
-    same-length-2
-    same-length-3
-    returns
     mul-times
     slice-write-times
     mul-processes
@@ -167,6 +172,11 @@ store-events-spec =
     add-i
     loop-less
     loop-again
+    enum-known-row-2
+    same-length
+    same-length-2
+    same-length-3
+    returns
     same-length-4
     same-length-5
     same-length-6
