@@ -11,8 +11,8 @@ use Rattle.model.specs.Texts.{Event, traceText}
 use Rattle.model.specs.Readings.{Lists, over, Read, readGave, readOf}
 use Rattle.model.specs.Writings.{eventsOf, Written, writeGave, writeOf}
 use Rattle.grammar.specs.RoundTrips.{rewritten, rereading}
-use Rattle.grammar.specs.Successes.{Readable}
-use Rattle.grammar.proofs.Successes.{read-tells, read-iff, write-tells, write-iff}
+use Rattle.grammar.specs.Answers.{Readable}
+use Rattle.grammar.proofs.Answers.{read-is, read-iff, write-is, write-iff}
 use Rattle.grammar.proofs.RoundTrips.{read-then-write, same-events}
 use Rattle.round_trips.specs.Trips.{rewriteOf, notRead, rereadOf, ComesBack, StepsComeBack}
 
@@ -31,17 +31,17 @@ ReadHeld r = r .reading .answer .code ≡ 0 → Held (r .reading .answer .time) 
 over-long : (f : Event → ℕ) (events : List Event) (l : List ℕ) → length events ≤ length (over (map f events) l)
 over-long f events l = omega (arith, length-append (map f events) (drop (length (map f events)) l), length-map events f)
 
-held-of : (text : List ℕ) (l : Lists) → Readable text l → ReadHeld (readOf text l)
-held-of text l r =
-    rw (read-tells text (r .line) (r .k) (r .events) l (r .says) (r .fits))
+held-of : (text : List ℕ) (l : Lists) (line : ℕ) (k : Parameters) (events : List Event) → Readable text l line k events → ReadHeld (readOf text l)
+held-of text l line k events r =
+    rw (read-is text l line k events r)
     (λ _. record {
-      times = over-long (λ (e : Event). e .time) (r .events) (l .times);
-      processes = over-long (λ (e : Event). e .process) (r .events) (l .processes);
-      actions = over-long (λ (e : Event). e .action) (r .events) (l .actions);
+      times = over-long (λ (e : Event). e .time) events (l .times);
+      processes = over-long (λ (e : Event). e .process) events (l .processes);
+      actions = over-long (λ (e : Event). e .action) events (l .actions);
     })
 
 pub held : (text : List ℕ) (l : Lists) {r : Read} → r ≡ readOf text l → r .reading .answer .code ≡ 0 → Held (r .reading .answer .time) (r .kept)
-held text l e = subst ReadHeld (sym e) (λ z. held-of text l (read-iff text l .0 z) z)
+held text l e = subst ReadHeld (sym e) (λ z. let r = read-iff text l .0 z in held-of text l (r .0) (r .1) (r .2) (r .3) z)
 
 module _ (r : Read) (out : List ℕ) where
   pub rewrite-refused : r .reading .answer .code ≢ 0 → rewriteOf r out ≡ writeGave (r .reading .answer) out
@@ -67,7 +67,7 @@ write-held : (k : Parameters) (events : List Event) (out : List ℕ) → WriteHe
 write-held k events out e =
     let f = write-iff k events out .0 e in
     let text = traceText k events in
-    rw (write-tells k events out (f .0) (f .1)) (omega (arith, length-append text (drop (length text) out)))
+    rw (write-is k events out (f .0) (f .1)) (omega (arith, length-append text (drop (length text) out)))
 
 pub written-held : (k : Parameters) (events : List Event) (out : List ℕ) {w : Written} → w ≡ writeOf k events out
     → w .answer .code ≡ 0 → w .answer .time ≤ length (w .out)

@@ -13,7 +13,7 @@ use Rattle.model.specs.Answers.{answerOf}
 use Rattle.model.specs.Texts.{Event, firstLine, traceText, textLimit}
 use Rattle.model.specs.Writings.{formlessFrom, Written, unwritten, fitted, writeOf}
 use Rattle.model.proofs.Tests.{and-true-iff}
-use Rattle.grammar.proofs.Successes.{write-tells}
+use Rattle.grammar.proofs.Answers.{write-is}
 use Rattle.text.proofs.Putting.{sets-over}
 
 -- what is to be written, and the lent bytes
@@ -70,5 +70,5 @@ module _ {t : Task} (s : Sound t) where
         → done t ≡ record { answer = answerOf 0 0 (length (textOf t)); out = sets (t .out) 0 (textOf t) }
     write-done h =
         rw (sets-over (textOf t) (t .out) h)
-        (write-tells (t .parameters) (t .events) (t .out)
+        (write-is (t .parameters) (t .events) (t .out)
         (record { stand = and-true-iff (countStands (t .parameters)) _ .1 (s .counted, s .limited); forms = s .formed; short = short }) h)
