@@ -10,6 +10,9 @@ use rules::actions::REM;
 use rules::actions::TRY;
 use rules::actions::WAIT;
 use std::num::wrapping_add_u64;
+ghost use mathlib.Core.Path.{_≡_};
+ghost use Prim.Native.Nat.{_≤_};
+ghost use Rattle.workload.specs.Work.{caseOf, sizeIn, cameAt, startIn, turnIn, actIn};
 
 // The cases. NONE makes no step: what it costs is taken off the others. 1, 2 and 3 are accepted acts of 2, 24 and 96 processes.
 const NONE: u64 = 0;
@@ -32,11 +35,10 @@ struct Act {
     time: u64,
 }
 
-// The case that the program's argument names by a digit.
-pub fn chosen() -> u64 {
-    let mut word = [b'0'; 8];
-    os::arg(1, &mut word);
-    let digit = word[0];
+// The case that a digit names.
+fn case_of(digit: u8) -> u64
+    ensures { λ r. ⌜ r ≡ caseOf digit ⌝ }
+{
     match digit {
         b'1' => 1,
         b'2' => 2,
@@ -50,7 +52,18 @@ pub fn chosen() -> u64 {
     }
 }
 
-fn count_of(case: u64) -> u64 {
+// The case that the program's argument names by a digit. Which one it is comes from the operating system.
+pub fn chosen() -> u64
+    ensures { λ r. ⌜ r ≤ 8 ⌝ }
+{
+    let mut word = [b'0'; 8];
+    os::arg(1, &mut word);
+    case_of(word[0])
+}
+
+fn count_of(case: u64) -> u64
+    ensures { λ r. ⌜ r ≡ sizeIn case ⌝ }
+{
     match case {
         1 => 2,
         2 => 24,
@@ -59,7 +72,9 @@ fn count_of(case: u64) -> u64 {
 }
 
 // The process whose round it is: each of them in turn.
-fn turn_of(case: u64, round: u64) -> u64 {
+fn turn_of(case: u64, round: u64) -> u64
+    ensures { λ r. ⌜ r ≡ turnIn case round ⌝ }
+{
     match case {
         1 => round % 2 + 1,
         2 => round % 24 + 1,
@@ -67,11 +82,16 @@ fn turn_of(case: u64, round: u64) -> u64 {
     }
 }
 
-fn came_at(time: u64) -> Process {
+fn came_at(time: u64) -> Process
+    ensures { λ r. ⌜ r ≡ cameAt time ⌝ }
+{
     entry_at(Location::Testing(time))
 }
 
-pub fn state_of(case: u64) -> State {
+// The state that a case starts from.
+pub fn state_of(case: u64) -> State
+    ensures { λ r. ⌜ r ≡ startIn case ⌝ }
+{
     let made = machine::fresh(Parameters {
         n: count_of(case),
         a: 5,
@@ -95,7 +115,9 @@ pub fn state_of(case: u64) -> State {
 }
 
 // Rounds of the eight actions of one process after the other, all accepted; or one act again and again, which is refused.
-fn act_of(case: u64, i: u64) -> Act {
+fn act_of(case: u64, i: u64) -> Act
+    ensures { λ r. ⌜ r ≡ actIn case i ⌝ }
+{
     let turn = i % 16000;
     let round = turn / 8;
     let place = turn % 8;
