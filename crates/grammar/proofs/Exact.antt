@@ -9,14 +9,14 @@ use native.Mathlib.Omega.{arith}
 use lib.Dec.{eqb}
 use lib.ListN.{length, drop, length-append, length-drop}
 use lib.Seq.{drop-append-seam}
-use borrow.Author.Tests.{eqb-true, eqb-false, ne-eqb}
+use borrow.Author.Tests.{eqb-true, eqb-false}
 use Rattle.model.specs.declared.Row.{Row}
 use Rattle.model.specs.declared.Row.the-variants.{Step, Unread}
 use Rattle.model.specs.declared.Parameters.{Parameters}
 use Rattle.model.specs.declared.Scan.{Scan}
 use Rattle.model.specs.States.{parametersStand}
 use Rattle.model.specs.Texts.{Event, event, eventText, headText, firstLine, eventsText, traceText, hasForm, textLimit}
-use Rattle.model.specs.Readings.{eventAt, scanOf, scanFails, headOf, Body, bodyIn, bodyOf, Trace, refused, trace, ofBody, ofHead, traceOf, scannedOf, readOf}
+use Rattle.model.specs.Readings.{eventAt, scanOf, scanFails, headOf, Body, bodyIn, bodyOf, Trace, refused, trace, ofBody, ofHead, traceOf}
 use Rattle.model.specs.Writings.{formlessFrom}
 use Rattle.grammar.specs.Exact.{Formed, Says, ReadExactly, WordForEachAct}
 use Rattle.grammar.specs.Digits.{HasForm}

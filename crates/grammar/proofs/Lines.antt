@@ -184,10 +184,15 @@ few : (v : ℕ) → (v < numberBound) ↔ (digitsOf v ≤ 8)
 few = bounds-are-digits .number
 
 pub short-values : (k : Parameters) → Below k → Short k
-short-values k h = record { n = few _ .0 (h .n); a = few _ .0 (h .a); b = few _ .0 (h .b); c = few _ .0 (h .c) }
+short-values k h = omega (arith, few (k .n) .0 (h .n), few (k .a) .0 (h .a), few (k .b) .0 (h .b), few (k .c) .0 (h .c))
 
 values-below : (k : Parameters) → Short k → Below k
-values-below k h = record { n = few _ .1 (h .n); a = few _ .1 (h .a); b = few _ .1 (h .b); c = few _ .1 (h .c) }
+values-below k h = record {
+  n = few (k .n) .1 (omega arith);
+  a = few (k .a) .1 (omega arith);
+  b = few (k .b) .1 (omega arith);
+  c = few (k .c) .1 (omega arith);
+}
 
 module _ (line : ℕ) (s : List ℕ) (l : Line) (e : numbersAt line 3 s ≡ l) (z : l .code ≡ 0) where
   pub values-was : Took s (valuesText (parametersIn (l .numbers))) (l .size)
