@@ -1,5 +1,5 @@
 // Printing the report of a text on standard output.
-// That the bytes printed are the report is a contract, that they arrive is the operating system's.
+// That the bytes made ready are the report is a contract, `render`'s; that they are handed on, and arrive, no contract can say.
 use libc::STDOUT_FILENO;
 ghost use mathlib.Core.Path.{_≡_};
 ghost use lib.ListN.{length, take, replicate};
