@@ -21,7 +21,7 @@ use Rattle.model.specs.Reports.{reportText}
 use Rattle.grammar.specs.Exact.{Formed}
 use Rattle.grammar.specs.Faults.{Fault, long, names, values, count, limits, steps, step}
 use Rattle.grammar.specs.Answers.{Readable, ReadTells, ReadIff, TellsLine, of-count, of-limits, of-names, of-line, of-text}
-use Rattle.grammar.specs.Answers.{Unreadable, Unread, UnreadExactly, Wrote, WriteTells, WriteIff, ReportTells, ReportIff}
+use Rattle.grammar.specs.Answers.{Unreadable, RefusedRead, ReadRefusedExactly, Wrote, WriteTells, WriteIff, ReportTells, ReportIff}
 use Rattle.model.proofs.Tests.{by-cond, and-true-iff, tests}
 use Rattle.grammar.proofs.Faults.{fault-some}
 use Rattle.grammar.proofs.Exact.{TraceTells, trace-tells, read-exactly, refused-when}
@@ -78,17 +78,17 @@ told-line of-line = refl
 told-line of-text = refl
 
 -- all that a refused reading gives back
-unread : (l : Lists) (code line : ℕ) → code ≢ 0 → Unread l code (lineTold code line) (readGave (readingFrom (scanFails code line)) l)
-unread l code line some = simp (ne-eqb code 0 some) (record { answer = refl; parameters = refl; lists-stay = refl })
+refused-read : (l : Lists) (code line : ℕ) → code ≢ 0 → RefusedRead l code (lineTold code line) (readGave (readingFrom (scanFails code line)) l)
+refused-read l code line some = simp (ne-eqb code 0 some) (record { answer = refl; parameters = refl; lists-stay = refl })
 
 module _ (text : List ℕ) (l : Lists) (code time : ℕ) (some : code ≢ 0) where
   abbrev Why : Scanned → Type 0
-  Why r = Unread l code time (readGave (readingFrom (r .scan)) (r .kept)) → Unreadable text l code time
+  Why r = RefusedRead l code time (readGave (readingFrom (r .scan)) (r .kept)) → Unreadable text l code time
 
   why : (t : Trace) → TraceTells text t → Why (into l t)
   why (refused c line) told = λ u.
       let n : c ≢ 0 = λ (q : c ≡ 0). omega (arith, fault-some told) in
-      let same = sym (unread l c line n .answer) ∙ u .answer in
+      let same = sym (refused-read l c line n .answer) ∙ u .answer in
       subst₂ (Unreadable text l) (ap (λ (r : Answer). r .code) same) (ap (λ (r : Answer). r .time) same) (Unreadable.faulty told (fault-line told))
   why (trace line k events) told =
       by-cond Why (ltb (room l) (length events))
@@ -98,16 +98,16 @@ module _ (text : List ℕ) (l : Lists) (code time : ℕ) (some : code ≢ 0) whe
       (Unreadable.no-room line k events told (ltb-true (room l) (length events) t)))
       (λ t u. absurd (some (sym (ap (λ (r : Answer). r .code) (u .answer)))))
 
-so : {text : List ℕ} {l : Lists} {code time : ℕ} → Unreadable text l code time → Unread l code time (readOf text l)
+so : {text : List ℕ} {l : Lists} {code time : ℕ} → Unreadable text l code time → RefusedRead l code time (readOf text l)
 unfolding readOf scannedOf
 so {l = l} (Unreadable.faulty {code} {line} f t) =
-    rw (refused-when f, ← told-line t) (unread l code line (λ (q : code ≡ 0). omega (arith, fault-some f)))
+    rw (refused-when f, ← told-line t) (refused-read l code line (λ (q : code ≡ 0). omega (arith, fault-some f)))
 so {text} {l} (Unreadable.no-room line k events says h) =
     rw (read-exactly text line k events .1 says, lt-ltb (room l) (length events) h) (record { answer = refl; parameters = refl; lists-stay = refl })
 
-pub unread-exactly : UnreadExactly
+pub read-refused-exactly : ReadRefusedExactly
 unfolding readOf scannedOf
-unread-exactly text l code time some = (why text l code time some (traceOf text) (trace-tells text), so)
+read-refused-exactly text l code time some = (why text l code time some (traceOf text) (trace-tells text), so)
 
 -- Writings
 

@@ -55,14 +55,14 @@ pub data Unreadable (text : List ℕ) (l : Lists) : ℕ → ℕ → Type 0 where
   no-room : (line : ℕ) (k : Parameters) (events : List Event) → Says text line k events → room l < length events → Unreadable text l 16 0
 
 -- [6.110] [6.140] what a refused reading gives back: its answer, 0 for each parameter, and the lists as they were lent
-pub record Unread (l : Lists) (code time : ℕ) (r : Read) : Type 0 where
+pub record RefusedRead (l : Lists) (code time : ℕ) (r : Read) : Type 0 where
   pub answer : r .reading .answer ≡ answerOf code 0 time
   pub parameters : r .reading .parameters ≡ parametersOf 0 0 0 0
   pub lists-stay : r .kept ≡ l
 
 -- [6.90] [6.110] [6.133] [6.140] [6.195] a reading is refused exactly so
-abbrev pub UnreadExactly : Type 0
-UnreadExactly = (text : List ℕ) (l : Lists) (code time : ℕ) → code ≢ 0 → Unread l code time (readOf text l) ↔ Unreadable text l code time
+abbrev pub ReadRefusedExactly : Type 0
+ReadRefusedExactly = (text : List ℕ) (l : Lists) (code time : ℕ) → code ≢ 0 → RefusedRead l code time (readOf text l) ↔ Unreadable text l code time
 
 -- Writings and reports
 

@@ -1,5 +1,5 @@
 -- Section 6 of the specification, digits from a second side: how many a number has is told by the text that is written for it, and the
--- bounds that reader and writer share are those counts. Assumes nothing.
+-- bounds that reader and writer share are those counts; so it is told which steps can be written. Assumes nothing.
 use Prim.Native.Nat.{ℕ, _≤_, _<_, _^_}
 use mathlib.Core.Path.{_≡_}
 use mathlib.Core.Logic.{_↔_}

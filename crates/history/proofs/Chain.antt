@@ -7,16 +7,16 @@ use Rattle.model.specs.declared.Recorded.{Recorded}
 use Rattle.model.specs.Answers.{freshOf}
 use Rattle.model.specs.Facts.{Accepted}
 use Rattle.model.specs.Texts.{Event}
-use Rattle.model.specs.Summaries.{beside}
+use Rattle.model.specs.Summaries.{newStatistics, beside}
 use Rattle.model.specs.Folds.{endBy, resultsBy, itself}
-use Rattle.model.specs.Calls.{Call, callOf, tableOf, handedOn, resultsOf}
+use Rattle.model.specs.Calls.{Call, callOf, handedOn, resultsOf}
 use Rattle.lists.specs.Demand3.{Demand3}
 use Rattle.tallies.specs.Tallies.{recordNext, recordsOf, startOf}
 use Rattle.model.proofs.Tests.{by-test}
 use Rattle.theory.proofs.Soundness.{fresh-is-plain, fresh-is}
 use Rattle.lists.proofs.Demand3.{every-list}
 use Rattle.tallies.proofs.Tallies.{every-tally}
-use Rattle.history.specs.Chains.{Chained, lastOf, Made, Chain, NotStuck, EveryChain, SomeStart, SomeChain, callOn, MadeOn}
+use Rattle.history.specs.Chains.{Chained, lastOf, Made, NotStuck, EveryChain, SomeStart, SomeChain, callOn, MadeOn}
 use Rattle.history.specs.Chains.{SomeRecordedChain, EveryRecordedChain}
 use Rattle.history.proofs.RecordedTurns.{fresh-starts}
 
@@ -56,7 +56,7 @@ every-chain k o ds rs h accepted ch =
     record { demand3 = holds; not-stuck = not-stuck holds }
 
 pub some-start : SomeStart
-some-start k stand = (freshOf k, refl, fresh-is-plain k .accepted .1 stand)
+some-start k stand = (freshOf k, newStatistics, refl, fresh-is-plain k .accepted .1 stand, refl)
 
 -- Every list has a chain
 

@@ -123,9 +123,9 @@ EveryChain = (k : Parameters) (o : Outcome) (ds : List Call) (rs : List Recorded
 
 -- The premises are not empty ones
 
--- [8.10] `fresh` may answer 0 for whatever parameters stand
+-- [8.10] [5.120] `fresh` may answer 0 for whatever parameters stand, and `new_statistics` may give a summary
 abbrev pub SomeStart : Type 0
-SomeStart = (k : Parameters) → ParametersStand k → (o : Outcome) × Starts k o × Accepted o
+SomeStart = (k : Parameters) → ParametersStand k → (o : Outcome) × (x : Statistics) × Starts k o × Accepted o × StartsSummary x
 
 -- [8.20] [8.135] and every list of calls has a chain, whatever table it starts from
 abbrev pub SomeChain : Type 0

@@ -7,14 +7,16 @@ use mathlib.Core.List.{List}
 use native.Mathlib.Omega.{arith}
 use lib.ListN.{length, getD, set}
 use lib.Seq.{getD-take}
+use borrow.Author.Tests.{eq-eqb, le-ltb}
 use Rattle.model.specs.declared.Parameters.{Parameters}
 use Rattle.model.specs.declared.State.{State}
 use Rattle.model.specs.declared.Outcome.{Outcome}
-use Rattle.model.specs.Answers.{answerOf}
+use Rattle.model.specs.Answers.{answerOf, freshOf}
 use Rattle.model.specs.Readings.{over}
 use Rattle.model.specs.Summaries.{refusedCounted}
 use Rattle.model.specs.Calls.{Call}
-use Rattle.layout.specs.Encodings.{tableIn, summaryLength, statisticsNumbers, statisticsIn, summaryIn}
+use Rattle.theory.specs.Soundness.{ParametersStand}
+use Rattle.layout.specs.Encodings.{tableLength, tableIn, summaryLength, statisticsNumbers, statisticsIn, summaryIn}
 use Rattle.model.proofs.Lists.{over-set}
 use Rattle.layout.proofs.Numbers.{length-summary}
 use Rattle.lists.proofs.Calls.{Called, called}
@@ -22,7 +24,7 @@ use Rattle.theory.proofs.Soundness.{fresh-is-plain}
 use Rattle.theory.proofs.RecordedSteps.{judged, refused-counted}
 use Rattle.theory.proofs.Summaries.{recorded-is-plain}
 use Rattle.layout.proofs.Encodings.{sound-is-table, numbers-come-back, summary-numbers-come-back}
-use Rattle.layout.specs.Interface.{Lent, LentSummary, LentBoth}
+use Rattle.layout.specs.Interface.{Lent, lentFresh, LentSummary, lentSummary, LentBoth}
 use Rattle.layout.specs.Guarantees.{RefusedFreshStays, RefusedStepStays, RefusedSummaryStays, RefusedRecordStays}
 use Rattle.layout.specs.Guarantees.{SummaryStays, RefusedIsCounted, LentSuccesses, LentCall, lentCall, callLent}
 use Rattle.layout.proofs.LentSteps.{FreshGiven, fresh-given, NewGiven, new-given, RecordGiven, record-given}
@@ -52,8 +54,31 @@ refused-fresh-stays k table = fresh-stays (fresh-given k table)
 pub refused-summary-stays : RefusedSummaryStays
 refused-summary-stays summary = new-stays (new-given summary)
 
+-- where they succeed
+
+fresh-was : {k : Parameters} {table : List ℕ} {r : Lent} → FreshGiven k table r → r .answer .code ≡ 0
+    → ParametersStand k × (tableLength ≤ length table)
+fresh-was (FreshGiven.refused n) e = absurd (n e)
+fresh-was {k} (FreshGiven.made accepted fits) e = (fresh-is-plain k .accepted .0 accepted, fits)
+
+fresh-succeeds : (k : Parameters) (table : List ℕ) → ParametersStand k → tableLength ≤ length table → lentFresh k table .answer .code ≡ 0
+unfolding lentFresh
+fresh-succeeds k table stand fits =
+    let accepted = fresh-is-plain k .accepted .1 stand in
+    rw (eq-eqb (freshOf k .answer .code) 0 accepted, le-ltb (length table) tableLength fits) accepted
+
+new-was : {summary : List ℕ} {r : LentSummary} → NewGiven summary r → r .answer .code ≡ 0 → summaryLength ≤ length summary
+new-was NewGiven.refused e = absurd (omega arith)
+new-was (NewGiven.made fits) e = fits
+
+new-succeeds : (summary : List ℕ) → summaryLength ≤ length summary → lentSummary summary .answer .code ≡ 0
+unfolding lentSummary
+new-succeeds summary fits = rw (le-ltb (length summary) summaryLength fits)
+
 pub lent-successes : LentSuccesses
 lent-successes = record {
+  fresh-iff = λ k table. (fresh-was (fresh-given k table), λ h. fresh-succeeds k table (h .0) (h .1));
+  new-summary-iff = λ summary. (new-was (new-given summary), new-succeeds summary);
   fresh = λ k table. fresh-answers (fresh-given k table);
   new-summary = λ summary. new-answers (new-given summary);
 }

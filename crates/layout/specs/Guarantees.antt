@@ -1,5 +1,6 @@
--- Section 9 of the specification, from a second side: a refusal leaves the lent numbers, an act writes its own places only, a list of
--- calls on lent numbers is the list of calls of demand 3, and one summary lent to all tells their tally. Assumes nothing.
+-- Section 9 of the specification, from a second side: a refusal leaves the lent numbers, a call that is lent only an output succeeds where
+-- it has room, an act writes its own places only, a list of calls on lent numbers is the list of calls of demand 3, after which nobody is
+-- stuck, and one summary lent to all tells their tally. Assumes nothing.
 use Prim.Native.Nat.{ℕ, _+_, _*_, _-_, _≤_, _<_}
 use mathlib.Core.Path.{_≡_}
 use mathlib.Core.Logic.{_≢_, _↔_}
@@ -23,6 +24,7 @@ use Rattle.model.specs.Folds.{endBy, resultsBy, itself}
 use Rattle.model.specs.Calls.{Call}
 use Rattle.model.specs.Texts.{Event}
 use Rattle.model.specs.Tallies.{logOf}
+use Rattle.theory.specs.Soundness.{ParametersStand}
 use Rattle.lists.specs.Demand3.{Demand3}
 use Rattle.tallies.specs.Tallies.{recordAll, recordsOf, Tallied, startOf}
 use Rattle.layout.specs.Interface.{LentBoth, recordGave, lentFresh, lentStep, lentSummary, lentRecord}
@@ -62,8 +64,12 @@ RefusedIsCounted = (table summary : List ℕ) (act p m : ℕ)
 
 -- Successes
 
--- [4.70] [9.50] [9.70] what the two calls that are lent only an output answer; what they write is `FreshIsPlain` in numbers, and zeros
+-- [4.70] [9.50] [9.70] when the two calls that are lent only an output succeed, and what they then answer; what they write is `FreshIsPlain`
+-- in numbers, and zeros
 pub record LentSuccesses : Type 0 where
+  pub fresh-iff : (k : Parameters) (table : List ℕ)
+      → (lentFresh k table .answer .code ≡ 0) ↔ (ParametersStand k × (tableLength ≤ length table))
+  pub new-summary-iff : (summary : List ℕ) → (lentSummary summary .answer .code ≡ 0) ↔ (summaryLength ≤ length summary)
   pub fresh : (k : Parameters) (table : List ℕ) → lentFresh k table .answer .code ≡ 0 → lentFresh k table .answer ≡ answerOf 0 0 0
   pub new-summary : (summary : List ℕ) → lentSummary summary .answer .code ≡ 0 → lentSummary summary .answer ≡ answerOf 0 0 0
 

@@ -1,18 +1,19 @@
 -- Section 8 of the specification: its statements hold of every list of calls from a fresh table. Assumes nothing.
 use Prim.Native.Nat.{ℕ}
-use mathlib.Core.Path.{refl}
+use mathlib.Core.Path.{_≡_, refl}
 use mathlib.Core.List.{List, [], _∷_}
 use native.Mathlib.Omega.{arith}
 use Rattle.model.specs.declared.Parameters.{Parameters}
 use Rattle.model.specs.declared.State.{State}
 use Rattle.model.specs.declared.Outcome.{Outcome}
 use Rattle.model.specs.Facts.{Accepted}
-use Rattle.model.specs.Folds.{resultsBy}
+use Rattle.model.specs.Folds.{endBy, resultsBy}
 use Rattle.model.specs.Calls.{Call, callOf, handedOn, runOf, resultsOf}
-use Rattle.lists.specs.Demand3.{Span, OwedWithin, owedWait, OneCritical, NamesTheOnly, EachNames, EveryList, EveryTableSound}
+use Rattle.lists.specs.Demand3.{Span, OwedWithin, owedWait, OneCritical, NamesTheOnly, EachNames, EveryList}
+use Rattle.lists.specs.Demand3.{SoundIsNotEnough, EveryTableSound}
 use Rattle.model.proofs.Tests.{if-eq}
 use Rattle.model.proofs.Folds.{end-append}
-use Rattle.theory.proofs.Soundness.{sound-iff-plain}
+use Rattle.theory.proofs.Soundness.{sound-iff-plain, two-critical-may-be-sound}
 use Rattle.theory.proofs.Lowest.{accepted-tells}
 use Rattle.lists.proofs.Exclusion.{one-owner}
 use Rattle.lists.proofs.Wait.{Room}
@@ -74,6 +75,14 @@ every-list s fresh ds =
       waits = waits-unless-due (runOf s ds) (g′ .reached .sound);
       acts = due-may-act (runOf s ds) (g′ .reached .sound);
     }
+
+pub sound-is-not-enough : SoundIsNotEnough
+unfolding endBy
+sound-is-not-enough every =
+    let witness = two-critical-may-be-sound in
+    let one : OneCritical (witness .0) = every (witness .0) (sound-iff-plain (witness .0) .1 (witness .1 .sound)) [] .one in
+    let same : _≡_ {A = ℕ} 1 2 = one 1 2 (witness .1 .first) (witness .1 .second) in
+    omega arith
 
 pub every-table-sound : EveryTableSound
 every-table-sound s fresh ds = sound-iff-plain (runOf s ds) .1 (run-reached ds (fresh-reached fresh) .sound)

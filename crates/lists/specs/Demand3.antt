@@ -94,6 +94,10 @@ pub record Demand3 (s : State) (ds : List Call) (rs : List Recorded) (t : State)
 abbrev pub EveryList : Type 0
 EveryList = (s : State) → IsFresh s → (ds : List Call) → Demand3 s ds (resultsOf s ds) (runOf s ds)
 
+-- [2.135] [8.90] that the table is sound would not be enough: two processes may be critical in it
+abbrev pub SoundIsNotEnough : Type 0
+SoundIsNotEnough = ((s : State) → soundOf s ≡ true → (ds : List Call) → Demand3 s ds (resultsOf s ds) (runOf s ds)) → ⊥
+
 -- [8.140] of every table that a list reaches
 abbrev pub EveryTableSound : Type 0
 EveryTableSound = (s : State) → IsFresh s → (ds : List Call) → soundOf (runOf s ds) ≡ true

@@ -93,7 +93,7 @@ pub fn fresh(parameters: Parameters) -> Outcome
 
 // The entry of a process; the first where there is no such process, so that it may be read before the process is judged.
 pub fn slot_of(process: u64) -> usize
-    ensures { λ r. ⌜ (r < 96) × (process ≤ 96 → r ≡ process - 1) ⌝ }
+    ensures { λ r. ⌜ (r < 96) × (process ≤ 96 → r ≡ process - 1) × (96 < process → r ≡ 0) ⌝ }
 {
     if process == 0 {
         return 0;

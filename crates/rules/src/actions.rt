@@ -3,6 +3,8 @@ use crate::stages::REMAINDER;
 use model::Location;
 use model::Transition;
 ghost use mathlib.Core.Path.{_≡_};
+ghost use Rattle.model.specs.declared.Location.the-variants.{Remainder};
+ghost use Rattle.model.specs.Stages.{remainder};
 ghost use Rattle.model.specs.Actions.{«row», afterTest, afterCheck};
 
 // [3.0]
@@ -49,7 +51,9 @@ pub fn row(from: u64, to: Location, word: u64) -> Transition
 }
 
 // For an act that has no row: a wait, which leaves no place, and an unknown one, which is refused.
-pub fn no_row(word: u64) -> Transition {
+pub fn no_row(word: u64) -> Transition
+    ensures { λ r. ⌜ r ≡ «row» remainder Remainder word ⌝ }
+{
     row(REMAINDER, Location::Remainder, word)
 }
 

@@ -1,4 +1,4 @@
--- `soundOf` tells the sound states, and `freshOf` gives a fresh table exactly for the parameters that stand.
+-- `soundOf` tells the sound states, two may be critical in one, and `freshOf` gives a fresh table exactly for the parameters that stand.
 -- Assumes nothing.
 use Prim.Native.Nat.{ℕ, zero, suc, _+_, _-_, _≤_, _<_}
 use mathlib.Core.Path.{_≡_, refl, ap, subst}

@@ -1,5 +1,5 @@
 -- Section 2 of the specification: what a sound state is, in plain facts, and that `soundOf` tells it and the step answers 1 to all
--- others; what a fresh table is, and that `freshOf` gives it. Assumes nothing.
+-- others; that two may be critical in a sound state; what a fresh table is, and that `freshOf` gives it. Assumes nothing.
 use Prim.Native.Nat.{ℕ, _≤_, _<_}
 use mathlib.Core.Path.{_≡_}
 use mathlib.Core.Logic.{_↔_, _≢_}

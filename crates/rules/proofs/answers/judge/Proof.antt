@@ -1,4 +1,4 @@
--- `rules::answers::judge` meets its contract. `past1`, `past2`, .. say at the place behind each test what is left of the
+-- `rules::answers::judge` meets its contract. `past3`, `past5`, .. say at the place behind a test what is left of the
 -- definition there, so that each exit computes one condition. Assumes nothing.
 use Prim.Native.Nat.{_+_, _-_}
 use mathlib.Core.Path.{_≡_, sym, _∙_}
