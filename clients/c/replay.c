@@ -42,10 +42,14 @@ static bool write_report(size_t length)
     for (size_t done = 0; done < length;) {
         ssize_t taken = write(STDOUT_FILENO, report + done, length - done);
 
-        if (taken > 0)
+        if (taken > 0) {
             done += (size_t)taken;
-        else if (taken == 0 || errno != EINTR)
+        } else if (taken == 0) {
+            errno = EIO; /* a write that takes nothing says nothing of why */
             return false;
+        } else if (errno != EINTR) {
+            return false;
+        }
     }
     return close(STDOUT_FILENO) == 0;
 }
