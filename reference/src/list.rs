@@ -95,23 +95,27 @@ fn call(line: &Numbers) -> Call {
 // What comes of it
 
 /// What comes of the list, beside what comes of the same acts with one summary, new at the start and lent to every step: of each
-/// call both answers and the summary that it leaves, then the last table; and then the one summary and its last table.
+/// call the answer, the summary that it leaves and the whole table, and the same with the one summary; before them, those of the
+/// fresh table.
 pub fn outcome(list: &List) -> String {
+    let n = list.values.n;
     let (answer, mut table) = fresh(list.values);
     let (mut one, mut one_table) = (Summary::new(), table);
-    let mut lines = answer_line("fresh", answer);
+    let mut lines = answer_line("fresh", answer) + &table_line(n, &table);
+    lines += &came("fresh", answer, n, &one, &one_table);
     for call in &list.calls {
         let mut call = call.clone();
         let (answer, one_answer);
         (answer, table) = make(table, &mut call);
         (one_answer, one_table) = recorded_step(one_table, &mut one, call.act, call.window, call.moment);
-        lines += &answer_line("call", answer);
-        lines += &answer_line("one", one_answer);
-        lines += &summary_line(list.values.n, &call.summary);
+        lines += &came("call", answer, n, &call.summary, &table);
+        lines += &came("one", one_answer, n, &one, &one_table);
     }
-    lines += &table_line(list.values.n, &table);
-    lines += &summary_line(list.values.n, &one);
-    lines + &table_line(list.values.n, &one_table)
+    lines
+}
+
+fn came(name: &str, answer: Answer, n: u64, summary: &Summary, table: &Table) -> String {
+    answer_line(name, answer) + &summary_line(n, summary) + &table_line(n, table)
 }
 
 fn answer_line(name: &str, answer: Answer) -> String {
@@ -123,11 +127,12 @@ fn summary_line(n: u64, summary: &Summary) -> String {
     line("summary", &[&counts(summary), &summary.try_moments[..shown(n)]].concat())
 }
 
-/// The clock, the word, and place and arrival of the windows 1 to n.
-fn table_line(n: u64, table: &Table) -> String {
-    let places = table.places[..shown(n)].iter();
+/// n, a, b, c, the clock, the word, and place and arrival of the windows 1 to the n that was asked for.
+fn table_line(asked: u64, table: &Table) -> String {
+    let Values { n, a, b, c } = table.values;
+    let places = table.places[..shown(asked)].iter();
     let numbers = places.flat_map(|&place| [number_of(place), place.arrival().unwrap_or(0)]);
-    line("table", &[table.clock, table.word].into_iter().chain(numbers).collect::<Vec<u64>>())
+    line("table", &[n, a, b, c, table.clock, table.word].into_iter().chain(numbers).collect::<Vec<u64>>())
 }
 
 /// How many windows are shown of a table that was asked for with that n.

@@ -171,12 +171,15 @@ fn a_list_is_read_as_it_was_written() {
     assert_eq!(list::read(""), None);
 }
 
+/// Those of `store_outputs`.
+fn stored_lists() -> impl Iterator<Item = list::List> {
+    (0..10).map(|index| generate_list(64, 48, index))
+}
+
 #[test]
 fn the_stored_lists_have_every_answer_of_a_recorded_step() {
     let mut numbers = [0; 17];
-    // those of `store_outputs`
-    for index in 0..10 {
-        let list = generate_list(48, 1, index);
+    for list in stored_lists() {
         let (_, mut table) = fresh(list.values);
         for mut call in list.calls {
             let answer;
@@ -187,5 +190,22 @@ fn the_stored_lists_have_every_answer_of_a_recorded_step() {
     assert_eq!(numbers[1], 0);
     for number in [0, 2, 3, 4, 5, 6, 7, 8, 9, 10] {
         assert!(numbers[number] > 0, "no answer {number}");
+    }
+}
+
+#[test]
+fn each_stored_list_comes_to_an_entry() {
+    for list in stored_lists() {
+        let (_, mut table) = fresh(list.values);
+        let (mut one, mut one_table) = (Summary::new(), table);
+        let mut entries = 0;
+        for mut call in list.calls {
+            let answer;
+            (answer, table) = list::make(table, &mut call);
+            (_, one_table) = recorded_step(one_table, &mut one, call.act, call.window, call.moment);
+            let is_entry = call.act == CRIT && answer.number == ACCEPTED;
+            entries += u64::from(call.recorded && is_entry);
+        }
+        assert!(entries > 0 && one.entries > 0);
     }
 }

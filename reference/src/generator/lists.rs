@@ -9,34 +9,43 @@ use crate::machine::*;
 use crate::recording::Step;
 use crate::summary::{Summary, SUMMARY_END};
 
-/// A list of so many calls.
+/// A list of so many calls. An act that its summary has refused is tried again, so that most lists come to an entry, whatever the
+/// summaries are.
 pub fn list(random: &mut Random, count: u64) -> List {
-    let values = match random.below(4) {
-        0 => small_values(random, 1, 2),
+    let values = match random.below(8) {
+        0 => small_values(random, 1, 1),
         1 => small_values(random, 90, 96),
-        _ => small_values(random, 2, 6),
+        _ => small_values(random, 2, 5),
     };
-    let start = if random.chance(15) { CLOCK_END - random.below(60) } else { 0 };
-    let wild = random.pick(&[2, 10, 40]);
+    let start = if random.chance(10) { CLOCK_END - random.between(20, 60) } else { random.below(4) };
+    let wild = random.pick(&[3, 8, 20]);
     let (_, mut table) = fresh(values);
     let mut left = Summary::new();
+    let mut next = Some(Step::wait(start));
     let mut calls = Vec::new();
-    for place in 0..count {
-        let mut walk = Walk { random, table, focus: values.n.min(4), pause: 3 };
-        let mut step = if place == 0 { Step::wait(start) } else { walk.step(wild) };
-        if random.chance(3) {
-            exceed(random, &mut step);
-        }
+    for _ in 0..count {
+        let step = next.unwrap_or_else(|| walked(random, table, wild));
         let (recorded, summary) = lent(random, table.clock, &left, wild);
         let mut call = Call { recorded, act: step.act, window: step.window, moment: step.time, summary };
         calls.push(call.clone());
         let answer;
         (answer, table) = make(table, &mut call);
-        if recorded && !matches!(answer.number, NO_SUMMARY | SUMMARY_FULL) {
+        let unusable = matches!(answer.number, NO_SUMMARY | SUMMARY_FULL);
+        if recorded && !unusable {
             left = call.summary;
         }
+        next = unusable.then_some(step);
     }
     List { values, calls }
+}
+
+/// A step of a walk at that table, or now and then one that no recording has.
+fn walked(random: &mut Random, table: Table, wild: u64) -> Step {
+    let mut step = Walk { random, table, focus: table.values.n.min(3), pause: 3 }.step(wild);
+    if random.chance(3) {
+        exceed(random, &mut step);
+    }
+    step
 }
 
 /// A number that no step of a recording can have.

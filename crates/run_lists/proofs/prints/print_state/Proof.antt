@@ -1,6 +1,5 @@
 -- `prints::print_state` is safe and ends: the measure is how many entries are left. Assumes nothing.
 use Prim.Native.Nat.{_-_, _≤_}
-use native.Mathlib.Omega.{arith}
 use borrow.Author.Needs.{needs}
 use Rattle.run_lists.proofs.prints.print_state.Statement.{statement}
 use Rattle.run_lists.proofs.prints.print_state.Tie as tie
@@ -17,6 +16,9 @@ slice-aggregate-write-all c = search needs
 write-all-requires : tie.Need-write-all-requires Inv-loop μ-loop
 write-all-requires c κs = search needs
 
+print-parameters-requires : tie.Need-print-parameters-requires Inv-loop μ-loop
+print-parameters-requires c κs = search needs
+
 print-number-requires : tie.Need-print-number-requires Inv-loop μ-loop
 print-number-requires c κs = search needs
 
@@ -24,7 +26,7 @@ print-number-requires-2 : tie.Need-print-number-requires-2 Inv-loop μ-loop
 print-number-requires-2 c κs = search needs
 
 loop-holds : tie.Need-loop-holds Inv-loop μ-loop
-loop-holds c = omega arith
+loop-holds c = search needs
 
 mul-print-process : tie.Need-mul-print-process Inv-loop μ-loop
 mul-print-process c = search needs
@@ -61,6 +63,7 @@ print-state-spec =
     μ-loop
     slice-aggregate-write-all
     write-all-requires
+    print-parameters-requires
     print-number-requires
     print-number-requires-2
     loop-holds

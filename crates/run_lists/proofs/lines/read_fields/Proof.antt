@@ -1,20 +1,20 @@
--- `lines::first_line` meets its contract. The invariant: the line so far lies within the text, and has no more fields than bytes.
+-- `lines::read_fields` meets its contract. The invariant: the line so far lies within the text, and has no more fields than bytes.
 -- Assumes nothing.
 use Prim.Native.Nat.{_-_, _≤_}
-use native.Mathlib.Omega.{arith}
+use mathlib.Core.Path.{_≡_}
 use lib.ListN.{length}
 use borrow.Author.Needs.{needs}
-use Rattle.run_lists.proofs.lines.first_line.Statement.{statement}
-use Rattle.run_lists.proofs.lines.first_line.Tie as tie
+use Rattle.run_lists.proofs.lines.read_fields.Statement.{statement}
+use Rattle.run_lists.proofs.lines.read_fields.Tie as tie
 
 abbrev Inv-loop : tie.InvT-loop
-Inv-loop text line₀ field₀ i₀ line field i = (i ≤ length text) × (field ≤ i)
+Inv-loop text from numbers₀ field₀ i₀ numbers field i = (i ≤ length text) × (field ≤ i) × (length numbers ≡ length numbers₀)
 
 abbrev μ-loop : tie.MeasureT-loop
-μ-loop text line₀ field₀ i₀ line field i = length text - i
+μ-loop text from numbers₀ field₀ i₀ numbers field i = length text - i
 
 loop-holds : tie.Need-loop-holds Inv-loop μ-loop
-loop-holds c = omega arith
+loop-holds c = search needs
 
 shared-slice-read-byte : tie.Need-shared-slice-read-byte Inv-loop μ-loop
 shared-slice-read-byte c = search needs
@@ -31,8 +31,8 @@ loop-less c = search needs
 loop-again : tie.Need-loop-again Inv-loop μ-loop
 loop-again c = search needs
 
-with-digit-requires : tie.Need-with-digit-requires Inv-loop μ-loop
-with-digit-requires c κs = search needs
+put-digit-requires : tie.Need-put-digit-requires Inv-loop μ-loop
+put-digit-requires c κs = search needs
 
 loop-less-2 : tie.Need-loop-less-2 Inv-loop μ-loop
 loop-less-2 c = search needs
@@ -40,14 +40,20 @@ loop-less-2 c = search needs
 loop-again-2 : tie.Need-loop-again-2 Inv-loop μ-loop
 loop-again-2 c = search needs
 
+same-length : tie.Need-same-length Inv-loop μ-loop
+same-length c = search needs
+
 returns : tie.Need-returns Inv-loop μ-loop
 returns c = search needs
+
+same-length-2 : tie.Need-same-length-2 Inv-loop μ-loop
+same-length-2 c = search needs
 
 returns-2 : tie.Need-returns-2 Inv-loop μ-loop
 returns-2 c = search needs
 
-pub first-line-spec : {M : Type 1} → statement M
-first-line-spec =
+pub read-fields-spec : {M : Type 1} → statement M
+read-fields-spec =
     tie.close
     (tie.spec
     Inv-loop
@@ -58,8 +64,10 @@ first-line-spec =
     add-field
     loop-less
     loop-again
-    with-digit-requires
+    put-digit-requires
     loop-less-2
     loop-again-2
+    same-length
     returns
+    same-length-2
     returns-2)
