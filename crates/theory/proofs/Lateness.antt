@@ -138,7 +138,7 @@ pub missed-first : (s : State) (m : ℕ) → missed (firstDeadline s) m ≡ true
     → FirstMissed s m (firstDeadline s .process) (firstDeadline s .time)
 missed-first s m e =
     let h = simp tests at e in
-    record { first = first-is-first s .some (h .0); missed = h .1 }
+    record { first = first-is-first s .some (h .0); missed = omega (arith, h .1) }
 
 -- it is the only one
 first-unique : {s : State} {p d i e : ℕ} → IsFirst s p d → IsFirst s i e → due p d ≡ due i e
