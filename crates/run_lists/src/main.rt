@@ -5,11 +5,9 @@ mod lines;
 mod prints;
 mod reads;
 
-use crate::prints::print_last;
-use crate::prints::print_left;
+use crate::prints::print_call;
 use crate::prints::print_line;
-use crate::prints::print_state;
-use crate::prints::print_statistics;
+use crate::prints::print_recorded;
 use crate::reads::read_acts;
 use crate::reads::read_calls;
 use crate::reads::read_head;
@@ -17,49 +15,17 @@ use model::Parameters;
 use streams::kept;
 use streams::open_argument;
 use streams::read_text;
-ghost use mathlib.Core.Path.{_≡_};
 ghost use Prim.Native.Nat.{_≤_};
-ghost use lib.ListN.{length, replicate};
-
-// Room for 64 calls, all zeros.
-fn call_rows() -> [[u64; 4]; 64]
-    ensures size { λ r. ⌜ 64 ≡ length r ⌝ }
-    ensures zeros { λ r. ⌜ r ≡ replicate 64 (replicate 4 0) ⌝ }
-{
-    [[0; 4]; 64]
-}
-
-fn counts_rows() -> [[u64; 5]; 64]
-    ensures size { λ r. ⌜ 64 ≡ length r ⌝ }
-    ensures zeros { λ r. ⌜ r ≡ replicate 64 (replicate 5 0) ⌝ }
-{
-    [[0; 5]; 64]
-}
-
-fn tries_rows() -> [[u64; 96]; 64]
-    ensures size { λ r. ⌜ 64 ≡ length r ⌝ }
-    ensures zeros { λ r. ⌜ r ≡ replicate 64 (replicate 96 0) ⌝ }
-{
-    [[0; 96]; 64]
-}
-
-// Of acts, and of answers.
-fn triples() -> [[u64; 3]; 64]
-    ensures size { λ r. ⌜ 64 ≡ length r ⌝ }
-    ensures zeros { λ r. ⌜ r ≡ replicate 64 (replicate 3 0) ⌝ }
-{
-    [[0; 3]; 64]
-}
 
 // Runs the first calls of a text, and prints the answer to the last of them, the summary that it left and the table; or nothing, and
 // answers false, where the text has fewer.
 fn run_first(parameters: Parameters, text: &[u8], wanted: usize) -> bool
     requires { ⌜ wanted ≤ 64 ⌝ }
 {
-    let mut calls = call_rows();
-    let mut counts = counts_rows();
-    let mut tries = tries_rows();
-    let mut answers = triples();
+    let mut calls = [[0; 4]; 64];
+    let mut counts = [[0; 5]; 64];
+    let mut tries = [[0; 96]; 64];
+    let mut answers = [[0; 3]; 64];
     let count = read_calls(text, wanted, &mut calls, &mut counts, &mut tries);
     if count < wanted {
         return false;
@@ -71,9 +37,7 @@ fn run_first(parameters: Parameters, text: &[u8], wanted: usize) -> bool
         &mut tries,
         &mut answers,
     );
-    print_last(b"call", outcome.answer, &answers, count);
-    print_left(parameters.n, &counts, &tries, count);
-    print_state(parameters.n, outcome.state);
+    print_call(parameters.n, outcome, &answers, &counts, &tries, count);
     true
 }
 
@@ -81,14 +45,11 @@ fn run_first(parameters: Parameters, text: &[u8], wanted: usize) -> bool
 fn record_first(parameters: Parameters, text: &[u8], wanted: usize)
     requires { ⌜ wanted ≤ 64 ⌝ }
 {
-    let mut acts = triples();
-    let mut answers = triples();
+    let mut acts = [[0; 3]; 64];
+    let mut answers = [[0; 3]; 64];
     let count = read_acts(text, wanted, &mut acts);
     let recorded = history::run_recorded(parameters, &acts[..count], &mut answers);
-    let outcome = recorded.outcome;
-    print_last(b"one", outcome.answer, &answers, count);
-    print_statistics(parameters.n, recorded.statistics);
-    print_state(parameters.n, outcome.state);
+    print_recorded(parameters.n, recorded, &answers, count);
 }
 
 fn run_list(parameters: Parameters, text: &[u8]) {

@@ -1,15 +1,16 @@
 // What comes of a list of calls, printed: numbers between commas.
+use history::rows::summary_in;
 use history::rows::tuple_of;
 use libc::STDOUT_FILENO;
 use model::Answer;
-use model::Parameters;
+use model::Outcome;
 use model::Process;
+use model::Recorded;
 use model::State;
 use model::Statistics;
 use rules::stages::since_of;
 use rules::stages::stage_of;
 use values::answer_row;
-ghost use Prim.Native.Nat.{_≤_};
 
 pub(crate) fn print_line(text: &[u8]) {
     io::write_all(STDOUT_FILENO, text);
@@ -21,9 +22,13 @@ fn print_number(number: u64) {
     io::print_decimal(STDOUT_FILENO, number);
 }
 
-fn print_numbers(numbers: &[u64]) {
+// The first numbers of a list, at most so many.
+fn print_numbers(numbers: &[u64], most: u64) {
     let mut i: usize = 0;
     while i < numbers.len() {
+        if most <= (i as u64) {
+            return;
+        }
         print_number(numbers[i]);
         i += 1;
     }
@@ -31,12 +36,12 @@ fn print_numbers(numbers: &[u64]) {
 
 fn print_answer(name: &[u8], answer: [u64; 3]) {
     io::write_all(STDOUT_FILENO, name);
-    print_numbers(&answer);
+    print_numbers(&answer, 3);
     io::write_all(STDOUT_FILENO, b"\n");
 }
 
 // The answer to the last of so many calls, or to the fresh table where there is none.
-pub(crate) fn print_last(name: &[u8], fresh: Answer, answers: &[[u64; 3]], count: usize) {
+fn print_last(name: &[u8], fresh: Answer, answers: &[[u64; 3]], count: usize) {
     if count == 0 {
         print_answer(b"fresh", answer_row(fresh));
         return;
@@ -46,24 +51,18 @@ pub(crate) fn print_last(name: &[u8], fresh: Answer, answers: &[[u64; 3]], count
     }
 }
 
-// How many processes are shown: those of the table that was asked for.
-fn shown_of(n: u64) -> usize
-    ensures { λ r. ⌜ r ≤ 96 ⌝ }
-{
-    if n < 96 { n as usize } else { 96 }
-}
-
-// The counts and the longest wait, and the try moments of the processes that are shown.
-fn print_summary(n: u64, counts: [u64; 5], tries: [u64; 96]) {
+// The counts and the longest wait, and the try moments of processes 1 to n.
+fn print_summary(n: u64, summary: Statistics) {
+    let counts = tuple_of(summary.counts);
+    let tries = summary.tries;
     io::write_all(STDOUT_FILENO, b"summary");
-    print_numbers(&counts);
-    let count = shown_of(n);
-    print_numbers(&tries[..count]);
+    print_numbers(&counts, 5);
+    print_numbers(&tries, n);
     io::write_all(STDOUT_FILENO, b"\n");
 }
 
 // The summary that the last of so many calls left, if there is one.
-pub(crate) fn print_left(n: u64, counts: &[[u64; 5]], tries: &[[u64; 96]], count: usize) {
+fn print_left(n: u64, counts: &[[u64; 5]], tries: &[[u64; 96]], count: usize) {
     if count == 0 {
         return;
     }
@@ -74,20 +73,7 @@ pub(crate) fn print_left(n: u64, counts: &[[u64; 5]], tries: &[[u64; 96]], count
     if tries.len() <= last {
         return;
     }
-    print_summary(n, counts[last], tries[last]);
-}
-
-pub(crate) fn print_statistics(n: u64, statistics: Statistics) {
-    let counts = tuple_of(statistics.counts);
-    let tries = statistics.tries;
-    print_summary(n, counts, tries);
-}
-
-fn print_parameters(parameters: Parameters) {
-    print_number(parameters.n);
-    print_number(parameters.a);
-    print_number(parameters.b);
-    print_number(parameters.c);
+    print_summary(n, summary_in(counts[last], tries[last]));
 }
 
 fn print_process(process: Process) {
@@ -96,16 +82,47 @@ fn print_process(process: Process) {
     print_number(since_of(location));
 }
 
-// n, a, b, c, the clock, the word, and place and arrival of the processes that are shown.
-pub(crate) fn print_state(n: u64, state: State) {
-    io::write_all(STDOUT_FILENO, b"table");
-    print_parameters(state.parameters);
-    print_number(state.clock);
-    print_number(state.word);
+fn print_processes(n: u64, processes: [Process; 96]) {
     for i in 0..96 {
         if (i as u64) < n {
-            print_process(state.processes[i]);
+            print_process(processes[i]);
         }
     }
+}
+
+// n, a, b, c, the clock, the word, and place and arrival of processes 1 to the n that was asked for.
+fn print_state(n: u64, state: State) {
+    let parameters = state.parameters;
+    let processes = state.processes;
+    io::write_all(STDOUT_FILENO, b"table");
+    print_number(parameters.n);
+    print_number(parameters.a);
+    print_number(parameters.b);
+    print_number(parameters.c);
+    print_number(state.clock);
+    print_number(state.word);
+    print_processes(n, processes);
     io::write_all(STDOUT_FILENO, b"\n");
+}
+
+// What came of the last of so many calls: its answer, the summary that it left, and the table.
+pub(crate) fn print_call(
+    n: u64,
+    outcome: Outcome,
+    answers: &[[u64; 3]],
+    counts: &[[u64; 5]],
+    tries: &[[u64; 96]],
+    count: usize,
+) {
+    print_last(b"call", outcome.answer, answers, count);
+    print_left(n, counts, tries, count);
+    print_state(n, outcome.state);
+}
+
+// The same with one summary for all.
+pub(crate) fn print_recorded(n: u64, recorded: Recorded, answers: &[[u64; 3]], count: usize) {
+    let outcome = recorded.outcome;
+    print_last(b"one", outcome.answer, answers, count);
+    print_summary(n, recorded.statistics);
+    print_state(n, outcome.state);
 }
