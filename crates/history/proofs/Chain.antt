@@ -8,32 +8,18 @@ use Rattle.model.specs.Answers.{freshOf}
 use Rattle.model.specs.Facts.{Accepted}
 use Rattle.model.specs.Texts.{Event}
 use Rattle.model.specs.Summaries.{newStatistics, beside}
-use Rattle.model.specs.Folds.{endBy, resultsBy, itself}
+use Rattle.model.specs.Folds.{lastOf, itself}
 use Rattle.model.specs.Calls.{Call, callOf, handedOn, resultsOf}
 use Rattle.lists.specs.Demand3.{Demand3}
 use Rattle.tallies.specs.Tallies.{recordNext, recordsOf, startOf}
 use Rattle.model.proofs.Tests.{by-test}
+use Rattle.model.proofs.Folds.{chain-results, chain-last, list-chain}
 use Rattle.theory.proofs.Soundness.{fresh-is-plain, fresh-is}
 use Rattle.lists.proofs.Demand3.{every-list}
 use Rattle.tallies.proofs.Tallies.{every-tally}
-use Rattle.history.specs.Chains.{Chained, lastOf, Made, NotStuck, EveryChain, SomeStart, SomeChain, callOn, MadeOn}
+use Rattle.history.specs.Chains.{Made, NotStuck, EveryChain, SomeStart, SomeChain, callOn, MadeOn}
 use Rattle.history.specs.Chains.{SomeRecordedChain, EveryRecordedChain}
 use Rattle.history.proofs.RecordedTurns.{fresh-starts}
-
--- Where one result alone is allowed, a chain is the list of calls
-
-module _ {S D R : Type 0} {Allows : S → D → R → Type 0} {gives : S → D → R} (next : R → S)
-    (only : (s : S) (d : D) (r : R) → Allows s d r → r ≡ gives s d) where
-  chain-results : {s : S} {ds : List D} {rs : List R} → Chained Allows next s ds rs → rs ≡ resultsBy gives next s ds
-  unfolding resultsBy
-  chain-results Chained.ended = refl
-  chain-results (Chained.made {s} {d} {ds} {r} m ch) =
-      λ i. only s d r m i ∷ (chain-results ch ∙ ap (λ (q : R). resultsBy gives next (next q) ds) (only s d r m)) i
-
-  chain-last : {s : S} {ds : List D} {rs : List R} → Chained Allows next s ds rs → lastOf next s rs ≡ endBy gives next s ds
-  unfolding endBy
-  chain-last Chained.ended = refl
-  chain-last (Chained.made {s} {d} {ds} {r} m ch) = chain-last ch ∙ ap (λ (q : R). endBy gives next (next q) ds) (only s d r m)
 
 -- Demand 3
 
@@ -72,13 +58,6 @@ callable s d = by-test (d .recorded)
       allowed = rw k;
     }))
     (λ k. Made.by-step k (rw k) (rw k))
-
--- where each call has a result that is allowed, so has each list
-module _ {S D R : Type 0} {Allows : S → D → R → Type 0} (gives : S → D → R) (next : R → S) (some : (s : S) (d : D) → Allows s d (gives s d)) where
-  list-chain : (s : S) (ds : List D) → Chained Allows next s ds (resultsBy gives next s ds)
-  unfolding resultsBy
-  list-chain s [] = Chained.ended
-  list-chain s (d ∷ ds) = Chained.made (some s d) (list-chain (next (gives s d)) ds)
 
 pub some-chain : SomeChain
 some-chain s ds = (resultsOf s ds, list-chain callOf handedOn callable s ds)

@@ -11,9 +11,9 @@ use Rattle.model.specs.declared.Recorded.{Recorded}
 use Rattle.model.specs.Readings.{over}
 use Rattle.model.specs.Answers.{freshOf}
 use Rattle.model.specs.Facts.{Accepted}
-use Rattle.model.specs.Folds.{resultsBy, itself}
+use Rattle.model.specs.Folds.{resultsBy, itself, logBy}
 use Rattle.model.specs.Summaries.{newStatistics, beside}
-use Rattle.model.specs.Tallies.{Attempt, logOnto}
+use Rattle.model.specs.Tallies.{Attempt, attempted}
 use Rattle.model.proofs.Lists.{row-at, rows-snoc}
 use Rattle.model.proofs.Folds.{Going, count-going, long-going, moves-on, end-reached, all-written}
 use Rattle.theory.proofs.Soundness.{fresh-is-plain, fresh-is}
@@ -69,9 +69,9 @@ ends r g h = λ j. recordedRunGave (started r (end-reached g h j)) (all-written 
 
 -- the acts, and the answers that are left in their rows, tell the log of the list
 log-onto : (log : List Attempt) (r : Recorded) (acts answers : List Tuple)
-    → logOnto log (map eventInRow acts) (map codeIn (answered (recordsOf r (eventsInRows acts answers)) answers))
-    ≡ logOnto log (eventsInRows acts answers) (map codeOf (recordsOf r (eventsInRows acts answers)))
-unfolding resultsBy logOnto
+    → logBy attempted log (map eventInRow acts) (map codeIn (answered (recordsOf r (eventsInRows acts answers)) answers))
+    ≡ logBy attempted log (eventsInRows acts answers) (map codeOf (recordsOf r (eventsInRows acts answers)))
+unfolding resultsBy logBy
 log-onto log r [] [] = refl
 log-onto log r [] (b ∷ bs) = refl
 log-onto log r (e ∷ es) [] = refl

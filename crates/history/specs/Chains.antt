@@ -23,7 +23,7 @@ use Rattle.model.specs.States.{lastTime}
 use Rattle.model.specs.Facts.{Accepted, HasDeadline}
 use Rattle.model.specs.Texts.{Event}
 use Rattle.model.specs.Summaries.{beside}
-use Rattle.model.specs.Folds.{itself}
+use Rattle.model.specs.Folds.{Chained, lastOf, itself}
 use Rattle.model.specs.Calls.{Call, handedOn}
 use Rattle.model.specs.Tallies.{logOf}
 use Rattle.theory.specs.Soundness.{ParametersStand}
@@ -78,17 +78,6 @@ pub record Records (s : State) (x : Statistics) (a p t : ℕ) (r : Recorded) : T
   pub allowed : RecordsStep lifetimes s lent a p t (r .outcome) left
 
 -- Chains
-
--- [8.40] a result for each call, one of those that `Allows` has for it, where the result before it led
-pub data Chained {S D R : Type 0} (Allows : S → D → R → Type 0) (next : R → S) : S → List D → List R → Type 0 where
-  ended : {s : S} → Chained Allows next s [] []
-  made : {s : S} {d : D} {ds : List D} {r : R} {rs : List R} → Allows s d r → Chained Allows next (next r) ds rs
-      → Chained Allows next s (d ∷ ds) (r ∷ rs)
-
--- helper: where the last result leads, or the start where there is none
-abbrev pub lastOf : {S R : Type 0} → (R → S) → S → List R → S
-lastOf next s [] = s
-lastOf next s (r ∷ rs) = lastOf next (next r) rs
 
 -- [8.20] [8.30] [8.135] a result of one call, by any of the three functions
 pub data Made (s : State) (d : Call) (r : Recorded) : Type 0 where

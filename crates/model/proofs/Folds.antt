@@ -1,5 +1,5 @@
--- Laws of a list of calls, whatever is called: of two lists one after the other, of one call more, how many results there are, and the
--- loop that makes the calls and writes down what they give back. Assumes nothing.
+-- Laws of a list of calls, whatever is called: of two lists one after the other, of one call more, how many results there are, the loop
+-- that makes the calls and writes down what they give back, and chains. Assumes nothing.
 use Prim.Native.Nat.{ℕ, suc, _+_, _≤_, _<_}
 use mathlib.Core.Path.{_≡_, refl, sym, ap, _∙_}
 use mathlib.Core.List.{List, [], _∷_, _++_, map}
@@ -7,7 +7,7 @@ use native.Mathlib.Numerals.{add-one}
 use native.Mathlib.Omega.{arith}
 use lib.ListN.{length, getD, take}
 use lib.Seq.{length-take-le, take-suc, take-all}
-use Rattle.model.specs.Folds.{endBy, resultsBy}
+use Rattle.model.specs.Folds.{endBy, resultsBy, Chained, lastOf}
 use Rattle.model.specs.Readings.{over}
 use Rattle.model.proofs.Lists.{rows-long}
 
@@ -115,3 +115,26 @@ module _ {S D R A L : Type 0} {gives : S → D → R} {next : R → S} {read : A
 
     pub all-written : n ≤ i → m ≡ write (resultsBy gives next s (read a l)) l
     all-written h = g .written ∙ ap (λ (rs : List R). write rs l) (results-made (g .made) (omega (arith, g .all)))
+
+-- Chains
+
+-- where one result alone is allowed, a chain is the list of calls
+module _ {S D R : Type 0} {Allows : S → D → R → Type 0} {gives : S → D → R} (next : R → S)
+    (only : (s : S) (d : D) (r : R) → Allows s d r → r ≡ gives s d) where
+  pub chain-results : {s : S} {ds : List D} {rs : List R} → Chained Allows next s ds rs → rs ≡ resultsBy gives next s ds
+  unfolding resultsBy
+  chain-results Chained.ended = refl
+  chain-results (Chained.made {s} {d} {ds} {r} m ch) =
+      λ i. only s d r m i ∷ (chain-results ch ∙ ap (λ (q : R). resultsBy gives next (next q) ds) (only s d r m)) i
+
+  pub chain-last : {s : S} {ds : List D} {rs : List R} → Chained Allows next s ds rs → lastOf next s rs ≡ endBy gives next s ds
+  unfolding endBy
+  chain-last Chained.ended = refl
+  chain-last (Chained.made {s} {d} {ds} {r} m ch) = chain-last ch ∙ ap (λ (q : R). endBy gives next (next q) ds) (only s d r m)
+
+-- where each call has a result that is allowed, so has each list
+module _ {S D R : Type 0} {Allows : S → D → R → Type 0} (gives : S → D → R) (next : R → S) (some : (s : S) (d : D) → Allows s d (gives s d)) where
+  pub list-chain : (s : S) (ds : List D) → Chained Allows next s ds (resultsBy gives next s ds)
+  unfolding resultsBy
+  list-chain s [] = Chained.ended
+  list-chain s (d ∷ ds) = Chained.made (some s d) (list-chain (next (gives s d)) ds)

@@ -81,13 +81,21 @@ oneEntry k wait = countsOf (k .accepted + 1) (k .refused) (k .entries + 1) (k .e
 abbrev pub oneExit : Counts → Counts
 oneExit k = countsOf (k .accepted + 1) (k .refused) (k .entries) (k .exits + 1) (k .longest)
 
+-- [5.90] the wait that a crit at the time m ends, of a process with the try time `tried`
+abbrev pub waitFrom : ℕ → ℕ → ℕ
+waitFrom tried m = m - tried
+
 -- [5.70] [5.90] the counts after an accepted action at the time m of a process with the try time `tried`
 abbrev pub countsAfter : Counts → ℕ → ℕ → ℕ → Counts
-countsAfter k act m tried = cond (eqb act critAct) (oneEntry k (m - tried)) (cond (eqb act exitAct) (oneExit k) (oneAccepted k))
+countsAfter k act m tried = cond (eqb act critAct) (oneEntry k (waitFrom tried m)) (cond (eqb act exitAct) (oneExit k) (oneAccepted k))
 
 -- [5.10] the try time of process p
 abbrev pub triedAt : Statistics → ℕ → ℕ
 triedAt x p = getD (x .tries) (p - 1) 0
+
+-- [5.90] [10.200] the wait that a crit of process p at the time m ends, beside the summary before it
+abbrev pub waitOf : Statistics → ℕ → ℕ → ℕ
+waitOf x p m = waitFrom (triedAt x p) m
 
 -- [5.80] the try time of the acting process after its action
 abbrev pub triedAfter : ℕ → ℕ → ℕ → ℕ

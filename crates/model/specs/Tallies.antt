@@ -11,6 +11,7 @@ use Rattle.model.specs.Stages.{critical}
 use Rattle.model.specs.States.{stageOf}
 use Rattle.model.specs.Summaries.{countsOf}
 use Rattle.model.specs.Texts.{Event}
+use Rattle.model.specs.Folds.{logBy}
 
 -- [5.120] an action, and the code of the answer to it
 pub record Attempt : Type 0 where
@@ -23,15 +24,13 @@ pub record Attempt : Type 0 where
 abbrev pub attempt : ℕ → ℕ → ℕ → ℕ → Attempt
 attempt act p m code = record { action = act; process = p; time = m; code = code }
 
--- [5.120] the log of these acts, answered with these codes, before an earlier log: the last act stands first, and it ends with the shorter
-unfoldable pub logOnto : List Attempt → List Event → List ℕ → List Attempt
-logOnto log [] codes = log
-logOnto log (e ∷ es) [] = log
-logOnto log (e ∷ es) (code ∷ codes) = logOnto (attempt (e .action) (e .process) (e .time) code ∷ log) es codes
+-- [5.120] an act that was answered with a code
+abbrev pub attempted : Event → ℕ → Attempt
+attempted e code = attempt (e .action) (e .process) (e .time) code
 
 -- [5.120] the log of a list of acts from its start
 abbrev pub logOf : List Event → List ℕ → List Attempt
-logOf es codes = logOnto [] es codes
+logOf es codes = logBy attempted [] es codes
 
 -- Kinds of attempts
 
@@ -67,10 +66,14 @@ unfoldable pub lastTry : ℕ → List Attempt → ℕ
 lastTry p [] = 0
 lastTry p (e ∷ es) = cond (isTry p e) (e .time) (lastTry p es)
 
--- [5.125] the longest time from an entry back to the last try of its process before it
+-- [5.125] [10.220] the wait that an entry of process p at the time m ends, after the attempts of a log
+abbrev pub waitAfter : List Attempt → ℕ → ℕ → ℕ
+waitAfter log p m = m - lastTry p log
+
+-- [5.125] the longest wait that an entry ended
 unfoldable pub longestWait : List Attempt → ℕ
 longestWait [] = 0
-longestWait (e ∷ es) = cond (isEntry e) (max (longestWait es) (e .time - lastTry (e .process) es)) (longestWait es)
+longestWait (e ∷ es) = cond (isEntry e) (max (longestWait es) (waitAfter es (e .process) (e .time))) (longestWait es)
 
 -- [5.120] [5.125] what is worked out
 abbrev pub tallyOf : List Attempt → Counts

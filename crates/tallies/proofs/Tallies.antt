@@ -18,9 +18,9 @@ use Rattle.model.specs.Acts.{waitAct}
 use Rattle.model.specs.States.{trying, soundOf, entryOf}
 use Rattle.model.specs.Answers.{stepOf, freshOf}
 use Rattle.model.specs.Facts.{Accepted, IsFresh, IsTrying}
-use Rattle.model.specs.Folds.{endBy, resultsBy}
+use Rattle.model.specs.Folds.{endBy, resultsBy, logBy}
 use Rattle.model.specs.Summaries.{newStatistics, triedAt, acceptedCounted, refusedCounted, answerCounted}
-use Rattle.model.specs.Tallies.{Attempt, attempt, logOnto, countOf, lastTry, longestWait, criticalCount}
+use Rattle.model.specs.Tallies.{Attempt, attempt, attempted, countOf, lastTry, longestWait, criticalCount}
 use Rattle.theory.specs.Acceptance.{Allowed, Changed}
 use Rattle.tallies.specs.Tallies.{recordNext, recordAll, recordsOf, codeOf, Tallied, startOf, EveryTally}
 use Rattle.theory.specs.Summaries.{CountsSound, NotFull}
@@ -145,8 +145,8 @@ module _ {log : List Attempt} {s : State} {x : Statistics} (along : Along log s 
 -- The list
 
 along-all : (log : List Attempt) (r : Recorded) (es : List Event) → Along log (r .outcome .state) (r .statistics)
-    → Along (logOnto log es (map codeOf (recordsOf r es))) (recordAll r es .outcome .state) (recordAll r es .statistics)
-unfolding logOnto resultsBy endBy
+    → Along (logBy attempted log es (map codeOf (recordsOf r es))) (recordAll r es .outcome .state) (recordAll r es .statistics)
+unfolding logBy resultsBy endBy
 along-all log r [] h = h
 along-all log r (e ∷ es) h = along-all _ (recordNext r e) es
     (along-judged h (e .action) (e .process) (e .time)

@@ -1,0 +1,5 @@
+pub mod Boards
+pub mod Encodings
+pub mod Facts
+pub mod Lists
+pub mod Tellings
