@@ -86,10 +86,11 @@ boardGave r board = record { answer = r; board = board }
 abbrev pub emptied : ℕ → List ℕ → List ℕ
 emptied w board = over (w ∷ 0 ∷ 0 ∷ 0 ∷ []) board
 
--- [10.130] [4.16] [4.17] `set_up`: 17 comes with a board that no call accepts; too short a list stays, and 16 comes last
+-- [10.130] [4.16] [4.17] `set_up`: too short a list stays, and 16 comes last; otherwise the header is that of the board, one that no call
+-- accepts with 17
 unfoldable pub lentSetUp : ℕ → List ℕ → LentBoard
 lentSetUp w board =
-    cond (ltb (length board) boardLength) (boardGave (cond (widthStands w) (answerOf 16 0 0) (answerOf 17 0 0)) board)
+    cond (not (leb boardLength (length board))) (boardGave (cond (widthStands w) (answerOf 16 0 0) (answerOf 17 0 0)) board)
     (boardGave (setUpOf w .answer) (emptied (setUpOf w .board .width) board))
 
 -- [10.55] how many of the kept entries count at the time t

@@ -3,3 +3,4 @@ pub mod Encodings
 pub mod Facts
 pub mod Lists
 pub mod Tellings
+pub mod Looking

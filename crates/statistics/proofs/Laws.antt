@@ -69,10 +69,11 @@ module _ (clock : ℕ) (x : Statistics) where
 pub not-one-sound : (s : State) (act p m : ℕ) → stepOf s act p m .answer .code ≢ 1 → soundOf s ≡ true
 not-one-sound s act p m n = by-test (soundOf s) (λ e. e) (λ e. absurd (n (unsound-iff-one s act p m .1 e)))
 
--- the try moments have a place for the process of an accepted act, and none of them is after its time
-pub record Countable (x : Statistics) (p m : ℕ) : Type 0 where
-  pub most : p ≤ 96
-  pub tried : (k : ℕ) → getD (x .tries) k 0 ≤ m
+-- the try moments have a place for the process of an accepted act
+pub accepted-named : (s : State) (act p m : ℕ) → Accepted (stepOf s act p m) → p ≤ 96
+accepted-named s act p m a =
+    let sound = not-one-sound s act p m (omega arith) in
+    omega (arith, turn-named (accepted-iff-allowed s sound act p m .0 a .turn), sound-numbers s sound .count)
 
 module _ (s : State) (x : Statistics) (act p m : ℕ) where
   -- where 2 or 3 applies, unless 1 does
@@ -86,15 +87,6 @@ module _ (s : State) (x : Statistics) (act p m : ℕ) where
       (λ e. simp e)
 
   module _ (room : HasRoom (s .clock) x) where
-    pub accepted-countable : Accepted (stepOf s act p m) → Countable x p m
-    accepted-countable a =
-        let sound = not-one-sound s act p m (omega arith) in
-        let allowed = accepted-iff-allowed s sound act p m .0 a in
-        record {
-          most = omega (arith, turn-named (allowed .turn), sound-numbers s sound .count);
-          tried = λ k. omega (arith, room .sound .tries k, allowed .forward);
-        }
-
     -- what is given back, by the answer: a summary y beside the outcome o of the step
     module _ {o : Outcome} (e : o ≡ stepOf s act p m) where
       tells : RecordedTells s x act p m (recordedOf s x act p m)

@@ -1,10 +1,11 @@
 // A summary that is not full after one more act: the counts, and the try moment of the acting window.
+use crate::wait_from;
 use model::Counts;
 use rules::actions::CRIT;
 use rules::actions::EXIT;
 use rules::actions::TRY;
+use values::greater;
 ghost use mathlib.Core.Path.{_≡_};
-ghost use Prim.Native.Nat.{_≤_, max};
 ghost use Rattle.model.specs.Summaries.{oneRefused, oneAccepted, oneEntry, oneExit, countsAfter, triedAfter};
 ghost use Rattle.statistics.specs.Countings.{Room};
 
@@ -24,12 +25,6 @@ fn with_accepted(mut counts: Counts) -> Counts
 {
     counts.accepted += 1;
     counts
-}
-
-fn greater(a: u64, b: u64) -> u64
-    ensures { λ r. ⌜ r ≡ max a b ⌝ }
-{
-    if a < b { b } else { a }
 }
 
 // [5.70] [5.90] A crit, and the wait that it ends.
@@ -56,11 +51,10 @@ fn with_exit(mut counts: Counts) -> Counts
 // [5.70] [5.90] The counts after an accepted act of a window that tried at `tried`.
 pub(crate) fn counts_after(counts: Counts, action: u64, time: u64, tried: u64) -> Counts
     requires { ⌜ Room counts ⌝ }
-    requires { ⌜ tried ≤ time ⌝ }
     ensures { λ r. ⌜ r ≡ countsAfter counts action time tried ⌝ }
 {
     if action == CRIT {
-        return with_entry(counts, time - tried);
+        return with_entry(counts, wait_from(tried, time));
     }
     if action == EXIT {
         return with_exit(counts);

@@ -21,7 +21,7 @@ ghost use mathlib.Core.Path.{_≡_};
 ghost use mathlib.Core.Bool.{cond};
 ghost use Rattle.model.specs.States.{soundOf};
 ghost use Rattle.model.specs.Answers.{answers};
-ghost use Rattle.model.specs.Summaries.{newStatistics, beside, recordedOf};
+ghost use Rattle.model.specs.Summaries.{newStatistics, waitFrom, beside, recordedOf};
 
 // [5.20] [21.110]
 pub fn new_statistics() -> Statistics
@@ -37,6 +37,16 @@ pub fn new_statistics() -> Statistics
         },
         tries: [0; 96],
     }
+}
+
+// [5.90] The wait that a crit ends, of a process with a try time. It is worked out here alone.
+pub fn wait_from(tried: u64, time: u64) -> u64
+    ensures { λ r. ⌜ r ≡ waitFrom tried time ⌝ }
+{
+    if time < tried {
+        return 0;
+    }
+    time - tried
 }
 
 // The refusal 2 or 3, or 1 before it: whether the state is sound is told by a wait at its own clock, which changes nothing.

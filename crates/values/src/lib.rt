@@ -1,8 +1,9 @@
-// Small values that the step machine and the recordings share: an answer, parameters and which of them stand, the lesser of two sizes.
+// Small values that the step machine and the recordings share: an answer, parameters and which of them stand, the lesser of two sizes,
+// the greater of two numbers.
 use model::Answer;
 use model::Parameters;
 ghost use mathlib.Core.Path.{_≡_};
-ghost use Prim.Native.Nat.{min};
+ghost use Prim.Native.Nat.{min, max};
 ghost use Rattle.model.specs.States.{noParameters, countStands, limitsStand, parametersStand, limitIn};
 ghost use Rattle.model.specs.Answers.{answerOf, answerNumbers};
 
@@ -83,4 +84,10 @@ pub fn least(a: usize, b: usize) -> usize
     ensures { λ r. ⌜ r ≡ min a b ⌝ }
 {
     if a < b { a } else { b }
+}
+
+pub fn greater(a: u64, b: u64) -> u64
+    ensures { λ r. ⌜ r ≡ max a b ⌝ }
+{
+    if a < b { b } else { a }
 }

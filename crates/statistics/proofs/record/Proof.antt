@@ -6,7 +6,7 @@ use Rattle.model.specs.declared.Counts.{Counts}
 use Rattle.model.specs.Summaries.{statisticsOf, beside}
 use Rattle.theory.specs.Summaries.{HasRoom}
 use Rattle.statistics.specs.Countings.{faultBy, Room}
-use Rattle.statistics.proofs.Laws.{faultOf, no-fault-room, counts-room, Countable, recorded-fault, accepted-countable}
+use Rattle.statistics.proofs.Laws.{faultOf, no-fault-room, counts-room, recorded-fault, accepted-named}
 use Rattle.statistics.proofs.Laws.{gives-unsound, gives-accepted, gives-refused, counted-at}
 use Rattle.statistics.proofs.record.Statement.{statement}
 use Rattle.statistics.proofs.record.Tie as tie
@@ -45,11 +45,10 @@ room c = let a = c .before .before .before .before .before .args in counts-room 
 step-requires : tie.Need-step-requires
 step-requires c κs = search needs
 
-countable : (c : tie.Then2)
-    → (let a = c .before .before .before .before .before .before .before .before .before .args in Countable (a .t2) (a .process) (a .time))
-countable c =
+named : (c : tie.Then2) → c .before .before .before .before .before .before .before .before .before .args .process ≤ 96
+named c =
     let a = c .before .before .before .before .before .before .before .before .before .args in
-    accepted-countable (a .state) (a .t2) (a .action) (a .process) (a .time) (has-room (c .before .before .before .before))
+    accepted-named (a .state) (a .action) (a .process) (a .time)
     (rw (c .before .before .before .step .ensures) at (c .if2 .taken))
 
 -- An accepted act
@@ -64,7 +63,7 @@ element-copy-out-tried : tie.Need-element-copy-out-tried
 element-copy-out-tried c = search needs
 
 counts-after-requires : tie.Need-counts-after-requires
-counts-after-requires c κs = (room (c .before .before .before .before .before .before), countable (c .before .before) .tried _)
+counts-after-requires c κs = room (c .before .before .before .before .before .before)
 
 tried-after-requires : tie.Need-tried-after-requires
 tried-after-requires c κs = search needs
@@ -85,10 +84,9 @@ with-refused-requires c κs = room (c .before .before .before .before .before .b
 returns-2 : tie.Need-returns-2
 returns-2 c =
     let a = c .before .before .before .before .before .before .before .before .before .before .before .before .before .args in
-    let t = countable (c .before .before .before .before) in
     gives-accepted (a .state) (a .t2) (a .action) (a .process) (a .time) (has-room (c .before .before .before .before .before .before .before .before))
     (c .before .before .before .before .before .before .before .step .ensures) (c .before .before .before .before .if2 .taken)
-    (counted-at (a .t2) (a .action) (a .process) (a .time) (c .before .before .before .slot-of .ensures .1 (t .most))
+    (counted-at (a .t2) (a .action) (a .process) (a .time) (c .before .before .before .slot-of .ensures .1 (named (c .before .before .before .before)))
     (c .before .counts-after .ensures) (c .tried-after .ensures))
 
 returns-3 : tie.Need-returns-3
