@@ -1,5 +1,6 @@
 -- `statistics::record` meets its contract: past the refusals 2 and 3 there is room to count, and each exit after the step is what the
 -- recorded step comes to by its answer. Assumes nothing.
+use Prim.Native.Nat.{_≤_}
 use mathlib.Core.Path.{_≡_, sym, ap, _∙_}
 use borrow.Author.Needs.{needs}
 use Rattle.model.specs.declared.Counts.{Counts}
