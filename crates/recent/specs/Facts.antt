@@ -1,16 +1,16 @@
 -- Section 10 of the specification from a second side: a sound board, each refusal and each success in plain facts, and what becomes of the
 -- numbers of a lent board. Assumes nothing.
-use Prim.Native.Nat.{ℕ, _+_, _*_, _≤_, _<_}
+use Prim.Native.Nat.{ℕ, _+_, _*_, _-_, _≤_, _<_}
 use mathlib.Core.Path.{_≡_}
 use mathlib.Core.Logic.{_≢_, _↔_}
-use mathlib.Core.Bool.{true}
+use mathlib.Core.Bool.{true, false}
 use mathlib.Core.List.{List, [], _∷_, _++_}
 use lib.ListN.{length, getD}
 use Rattle.model.specs.States.{lastTime}
 use Rattle.model.specs.Answers.{answerOf}
 use Rattle.recent.specs.Boards.{Entry, entryOf, Board, boardOf, mostWidth, mostKept, boardSound, setUpOf, addOf, showOf}
 use Rattle.recent.specs.Encodings.{lastPlace, firstPlace, countPlace, headerLength, entryPlace, boardLength, nextAt}
-use Rattle.recent.specs.Encodings.{isBoard, boardIn, lentSetUp, lentAdd, lentShow}
+use Rattle.recent.specs.Encodings.{isBoard, boardIn, boardGave, lentSetUp, lentAdd, lentShow}
 
 -- A sound board
 
@@ -37,8 +37,8 @@ BoardSoundIffPlain = (b : Board) → (boardSound b ≡ true) ↔ SoundBoard b
 
 -- What is left after a call
 
--- [10.40] [10.55] `left` are the entries of `kept` that count at the time t, in their order; `many` are they, and `longest` is the longest wait
--- among them
+-- [10.40] [10.55] `left` are the entries of `kept` that count at the time t, in their order; `many` says how many they are, and `longest` is
+-- the longest wait among them
 pub data Left (w t : ℕ) : List Entry → List Entry → ℕ → ℕ → Type 0 where
   none : Left w t [] [] 0 0
   expired : {e : Entry} {kept left : List Entry} {many longest : ℕ} → e .time + w ≤ t → Left w t kept left many longest
@@ -108,16 +108,52 @@ pub record SetUp (w : ℕ) : Type 0 where
   pub answer : setUpOf w .answer .code ≡ 0 → setUpOf w .answer ≡ answerOf 0 0 0
   pub board : setUpOf w .answer .code ≡ 0 → setUpOf w .board ≡ boardOf w 0 []
   pub refused : setUpOf w .answer .code ≢ 0 → setUpOf w .answer ≡ answerOf 17 0 0
-  pub nobody : setUpOf w .answer .code ≢ 0 → setUpOf w .board ≡ boardOf 0 0 []
+  pub no-board : setUpOf w .answer .code ≢ 0 → setUpOf w .board ≡ boardOf 0 0 []
 
 -- [10.60] [10.65]
 abbrev pub EverySetUp : Type 0
 EverySetUp = (w : ℕ) → SetUp w
 
+-- [10.145] what is sound stays sound
+pub record BoardStaysSound : Type 0 where
+  pub set-up : (w : ℕ) → setUpOf w .answer .code ≡ 0 → SoundBoard (setUpOf w .board)
+  pub add : (b : Board) (t p wait : ℕ) → SoundBoard b → SoundBoard (addOf b t p wait .board)
+  pub show : (b : Board) (t : ℕ) → SoundBoard b → SoundBoard (showOf b t .board)
+
 -- Lent numbers
 
--- [10.120] [10.130] a lent board is long enough and its first place is one; on such a list a call gives back the answer of the call on the
--- board that the list tells, and the list then tells the board of that call
+-- [10.110] [10.120] when a list tells a board
+abbrev pub BoardToldIff : Type 0
+BoardToldIff = (l : List ℕ) → (isBoard l ≡ true) ↔ ((3_076 ≤ length l) × (getD l 2 0 < 1_024))
+
+-- [10.110] [10.115] the board that it tells: W, the last time told, and as many entries as the fourth number says, the entry i of them at the
+-- place k that is i after the first, around the end
+pub record RingIsPlain (l : List ℕ) : Type 0 where
+  pub width : boardIn l .width ≡ getD l 0 0
+  pub last : boardIn l .last ≡ getD l 1 0
+  pub count : length (boardIn l .kept) ≡ getD l 3 0
+  pub before-the-end : (i k : ℕ) → i < getD l 3 0 → k ≡ getD l 2 0 + i → k < 1_024
+      → Stands (entryOf (getD l (4 + 3 * k) 0) (getD l (4 + 3 * k + 1) 0) (getD l (4 + 3 * k + 2) 0)) i (boardIn l .kept)
+  pub around-the-end : (i k : ℕ) → i < getD l 3 0 → k + 1_024 ≡ getD l 2 0 + i
+      → Stands (entryOf (getD l (4 + 3 * k) 0) (getD l (4 + 3 * k + 1) 0) (getD l (4 + 3 * k + 2) 0)) i (boardIn l .kept)
+
+-- [10.110] [10.115]
+abbrev pub EveryRing : Type 0
+EveryRing = (l : List ℕ) → isBoard l ≡ true → RingIsPlain l
+
+-- [10.120] a list that tells no board
+pub record NoBoard : Type 0 where
+  pub add : (l : List ℕ) (t p wait : ℕ) → isBoard l ≡ false → lentAdd l t p wait ≡ boardGave (answerOf 2 0 0) l
+  pub show : (l : List ℕ) (t : ℕ) → isBoard l ≡ false → lentShow l t ≡ boardGave (answerOf 2 0 0) l
+
+-- [10.130] [4.16] [4.17] the answers of setting up on a list
+pub record LentSetUps : Type 0 where
+  pub accepted : (w : ℕ) (l : List ℕ) → (lentSetUp w l .answer .code ≡ 0) ↔ (WidthStands w × (boardLength ≤ length l))
+  pub no-width : (w : ℕ) (l : List ℕ) → (WidthStands w → ⊥) → lentSetUp w l .answer ≡ answerOf 17 0 0
+  pub short : (w : ℕ) (l : List ℕ) → WidthStands w → length l < boardLength → lentSetUp w l .answer ≡ answerOf 16 0 0
+
+-- [10.130] [10.140] [10.145] on a list that tells a board a call gives back the answer of the call on that board, and the list then tells
+-- the board of that call
 pub record NumbersFollow : Type 0 where
   pub add : (l : List ℕ) (t p wait : ℕ) → isBoard l ≡ true
       → (lentAdd l t p wait .answer ≡ addOf (boardIn l) t p wait .answer)
