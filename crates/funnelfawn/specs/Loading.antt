@@ -5,16 +5,19 @@ use mathlib.Core.Path.{_≡_}
 use mathlib.Core.Logic.{_≢_}
 use mathlib.Core.Bool.{Bool, true, false, cond, _&&_, _||_}
 use mathlib.Core.List.{List, [], _∷_}
-use lib.ListN.{drop, set}
+use lib.ListN.{length, getD, drop, set}
 use lib.Dec.{eqb, ltb}
+use Rattle.model.specs.declared.Answer.{Answer}
 use Rattle.model.specs.declared.Process.{Process}
 use Rattle.model.specs.declared.State.{State}
 use Rattle.model.specs.declared.Counts.{Counts}
 use Rattle.model.specs.declared.Statistics.{Statistics}
 use Rattle.model.specs.States.{stageOf, sinceOf, soundOf, entryOf}
-use Rattle.model.specs.Summaries.{triedAt}
-use Rattle.layout.specs.Encodings.{headerLength, stride, clockPlace, wordPlace, areEntries, stateIn, countsLength}
+use Rattle.model.specs.Answers.{answerOf}
+use Rattle.model.specs.Summaries.{triedAt, waitFrom}
+use Rattle.layout.specs.Encodings.{headerLength, stride, clockPlace, wordPlace, areEntries, stateIn, countsLength, summaryLength}
 use Rattle.funnelfawn.specs.declared.tables.Loaded.{Loaded}
+use Rattle.funnelfawn.specs.declared.Told.{Told}
 
 -- Reading a table
 
@@ -52,3 +55,15 @@ countsPut numbers k =
 unfoldable pub counted : List ℕ → Statistics → ℕ → List ℕ
 counted numbers x p =
     cond (eqb p 0 || ltb 96 p) (countsPut numbers (x .counts)) (set (countsPut numbers (x .counts)) (countsLength + (p - 1)) (triedAt x p))
+
+-- Reading a wait
+
+-- a list that is too short has none, nor has a number that is no process
+unfoldable pub waitIn : List ℕ → ℕ → ℕ → ℕ
+waitIn numbers p m =
+    cond (ltb (length numbers) summaryLength || (eqb p 0 || ltb 96 p)) 0 (waitFrom (getD numbers (countsLength + (p - 1)) 0) m)
+
+-- Where the board is told nothing
+
+abbrev pub aloneWith : Answer → Told
+aloneWith r = record { step = r; board = answerOf 0 0 0 }

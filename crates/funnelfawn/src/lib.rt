@@ -11,6 +11,7 @@ use model::Answer;
 use model::Parameters;
 use model::Reading;
 use report::report;
+use rules::actions::CRIT;
 use statistics::record;
 use values::answer_with;
 ghost use mathlib.Core.Path.{_≡_};
@@ -19,6 +20,9 @@ ghost use Rattle.model.specs.Readings.{lent, readGave, readOf};
 ghost use Rattle.model.specs.Writings.{eventsOf, writeGave, writeOf};
 ghost use Rattle.model.specs.Reports.{reportOf};
 ghost use Rattle.layout.specs.Interface.{lentGave, lentFresh, lentStep, recordGave, lentRecord, summaryGave, lentSummary};
+ghost use Rattle.recent.specs.Encodings.{boardGave, lentSetUp, lentAdd, lentShow};
+ghost use Rattle.recent.specs.Tellings.{toldGave, lentTell};
+ghost use Rattle.funnelfawn.specs.Loading.{aloneWith};
 
 // The parameters that a call is handed as numbers.
 fn parameters_of(n: u64, a: u64, b: u64, c: u64) -> Parameters
@@ -154,4 +158,74 @@ pub extern "C" fn funnelfawn_replay(text: &[u8], out: &mut [u8]) -> Answer
     ensures { λ r. ⌜ writeGave r (now (out .exit)) ≡ reportOf (now (text .entry)) (now (out .entry)) ⌝ }
 {
     report(text, out)
+}
+
+// [10.60] [10.130] [21.110] An empty board of a width, in the lent numbers.
+#[no_mangle]
+pub extern "C" fn funnelfawn_set_up_board(width: u64, board: &mut [u64]) -> Answer
+    ensures { λ r. ⌜ boardGave r (now (board .exit)) ≡ lentSetUp width (now (board .entry)) ⌝ }
+{
+    recent::set_up(width, board)
+}
+
+// [10.70] [10.140] [21.110] An entry more, in the lent board.
+#[no_mangle]
+pub extern "C" fn funnelfawn_add_to_board(board: &mut [u64], time: u64, process: u64, wait: u64) -> Answer
+    ensures { λ r. ⌜ boardGave r (now (board .exit)) ≡ lentAdd (now (board .entry)) time process wait ⌝ }
+{
+    recent::add(board, time, process, wait)
+}
+
+// [10.80] [10.140] [21.110] The figures of the lent board at a clock.
+#[no_mangle]
+pub extern "C" fn funnelfawn_show_board(board: &mut [u64], clock: u64) -> Answer
+    ensures { λ r. ⌜ boardGave r (now (board .exit)) ≡ lentShow (now (board .entry)) clock ⌝ }
+{
+    recent::show(board, clock)
+}
+
+// [10.200] The answer of a recorded step, and that of the board.
+#[repr(C)]
+pub struct Told {
+    pub step: Answer,
+    pub board: Answer,
+}
+
+// [10.205] The board was told nothing.
+fn alone(step: Answer) -> Told
+    ensures { λ r. ⌜ r ≡ aloneWith step ⌝ }
+{
+    Told {
+        step: step,
+        board: answer_with(0, 0, 0),
+    }
+}
+
+// [10.200] [10.205] [21.110] One act, in the lent table, counted in the lent summary; the lent board is told of an accepted crit. The wait is
+// read first, as the step clears the try moment that it comes from.
+#[no_mangle]
+pub extern "C" fn funnelfawn_record_and_tell(
+    table: &mut [u64],
+    summary: &mut [u64],
+    board: &mut [u64],
+    action: u64,
+    process: u64,
+    time: u64,
+) -> Told
+    ensures { λ r. ⌜ toldGave (recordGave (r .step) (now (table .exit)) (now (summary .exit))) (boardGave (r .board) (now (board .exit)))
+        ≡ lentTell (now (table .entry)) (now (summary .entry)) (now (board .entry)) action process time ⌝ }
+{
+    let wait = summaries::wait_in(summary, process, time);
+    let step = funnelfawn_record(table, summary, action, process, time);
+    if step.code != 0 {
+        return alone(step);
+    }
+    if action != CRIT {
+        return alone(step);
+    }
+    let told = recent::add(board, time, process, wait);
+    Told {
+        step: step,
+        board: told,
+    }
 }

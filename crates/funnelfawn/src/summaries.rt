@@ -1,11 +1,12 @@
 // A summary in lent numbers: accepted, refused, entries, exits, the longest wait, and then the 96 try moments.
 use model::Counts;
 use model::Statistics;
+use statistics::wait_from;
 ghost use mathlib.Core.Path.{_≡_};
 ghost use lib.ListN.{length};
 ghost use Rattle.layout.specs.Encodings.{statisticsIn, statisticsNumbers, summaryLength};
 ghost use Rattle.model.specs.Summaries.{newStatistics};
-ghost use Rattle.funnelfawn.specs.Loading.{countsPut, counted};
+ghost use Rattle.funnelfawn.specs.Loading.{countsPut, counted, waitIn};
 
 // [9.30] the numbers before the try moments
 const COUNTS: usize = 5;
@@ -74,4 +75,21 @@ pub(crate) fn store(summary: &mut [u64], statistics: Statistics, process: u64)
     }
     let i = (process - 1) as usize;
     summary[COUNTS + i] = statistics.tries[i];
+}
+
+// [5.90] [10.200] The wait that a crit of a process at a time ends, by a list for a summary; 0 where the list has no try moment of it.
+pub(crate) fn wait_in(summary: &[u64], process: u64, time: u64) -> u64
+    ensures { λ r. ⌜ r ≡ waitIn (now (summary .entry)) process time ⌝ }
+{
+    if summary.len() < SUMMARY {
+        return 0;
+    }
+    if process == 0 {
+        return 0;
+    }
+    if 96 < process {
+        return 0;
+    }
+    let i = (process - 1) as usize;
+    wait_from(summary[COUNTS + i], time)
 }

@@ -98,7 +98,7 @@ SummaryWritesItsOwn = (table summary : List ℕ) (act p m k : ℕ)
     → countsLength ≤ k → (1 ≤ p → k ≢ countsLength + (p - 1))
     → getD (lentRecord table summary act p m .summary) k 0 ≡ getD summary k 0
 
--- [9.130] of every function that is lent numbers
+-- [9.130] of every function that is lent a table or a summary
 pub record LengthsStay : Type 0 where
   pub fresh : (k : Parameters) (table : List ℕ) → length (lentFresh k table .table) ≡ length table
   pub step : (table : List ℕ) (act p m : ℕ) → length (lentStep table act p m .table) ≡ length table
