@@ -170,7 +170,12 @@ pub extern "C" fn funnelfawn_set_up_board(width: u64, board: &mut [u64]) -> Answ
 
 // [10.70] [10.140] [21.110] An entry more, in the lent board.
 #[no_mangle]
-pub extern "C" fn funnelfawn_add_to_board(board: &mut [u64], time: u64, process: u64, wait: u64) -> Answer
+pub extern "C" fn funnelfawn_add_to_board(
+    board: &mut [u64],
+    time: u64,
+    process: u64,
+    wait: u64,
+) -> Answer
     ensures { λ r. ⌜ boardGave r (now (board .exit)) ≡ lentAdd (now (board .entry)) time process wait ⌝ }
 {
     recent::add(board, time, process, wait)

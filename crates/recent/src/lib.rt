@@ -81,7 +81,13 @@ pub fn add(board: &mut [u64], time: u64, process: u64, wait: u64) -> Answer
         return answer_with(18, 0, 0);
     }
     put_header(board, time, seen.first, seen.count + 1);
-    put_entry(board, wrapped_place(seen.first + seen.count), time, process, wait);
+    put_entry(
+        board,
+        wrapped_place(seen.first + seen.count),
+        time,
+        process,
+        wait,
+    );
     answer_with(0, (seen.count + 1) as u64, greater(seen.longest, wait))
 }
 
