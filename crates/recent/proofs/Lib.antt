@@ -1,2 +1,5 @@
 pub mod Figures
 pub mod Calls
+pub mod Places
+pub mod Passes
+pub mod Resting

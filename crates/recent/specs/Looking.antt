@@ -29,14 +29,18 @@ pub record SameFigures (w clock : ℕ) (es ds : List Entry) : Type 0 where
   pub many : howMany w clock es ≡ howMany w clock ds
   pub longest : longestAt w clock es ≡ longestAt w clock ds
 
--- of the n entries from place k on those before `since` are gone
+-- of the n entries from place k on those ahead of place `first`, the last of them at `time`, are gone; `count` are left
+pub record Resting (l : List ℕ) (k n since first count time : ℕ) : Type 0 where
+  pub inside : first < mostKept
+  pub fewer : count ≤ n
+  pub first-is : first ≡ wrapped (k + (n - count))
+  pub order : inOrder 0 (ringFrom l k n) ≡ inOrder time (ringFrom l first count)
+  pub latest-is : latest 0 (ringFrom l k n) ≡ latest time (ringFrom l first count)
+  pub figures : (w clock : ℕ) → clock + 1 - w ≡ since → SameFigures w clock (ringFrom l k n) (ringFrom l first count)
+
+-- they are all that are before `since`, where none is before the one ahead of it
 pub record Rested (l : List ℕ) (k n since : ℕ) (r : Rest) : Type 0 where
-  pub fewer : r .count ≤ n
-  pub first-is : r .first ≡ wrapped (k + (n - r .count))
-  pub order : inOrder 0 (ringFrom l k n) ≡ inOrder (r .time) (ringFrom l (r .first) (r .count))
-  pub latest-is : latest 0 (ringFrom l k n) ≡ latest (r .time) (ringFrom l (r .first) (r .count))
-  pub figures : (w clock : ℕ) → clock + 1 - w ≡ since
-      → SameFigures w clock (ringFrom l k n) (ringFrom l (r .first) (r .count))
+  pub resting : Resting l k n since (r .first) (r .count) (r .time)
   pub counts-first : 0 < r .count → since ≤ entryAt l (r .first) .time
 
 pub record Rests (l : List ℕ) (k n since : ℕ) (r : Rest) : Type 0 where
