@@ -3,3 +3,4 @@ pub mod Calls
 pub mod Places
 pub mod Passes
 pub mod Resting
+pub mod Lists
