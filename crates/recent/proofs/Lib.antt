@@ -4,3 +4,4 @@ pub mod Places
 pub mod Passes
 pub mod Resting
 pub mod Lists
+pub mod Tellings
