@@ -5,3 +5,7 @@ pub mod Passes
 pub mod Resting
 pub mod Lists
 pub mod Tellings
+pub mod Expiry
+pub mod Writes
+pub mod Soundness
+pub mod Numbers

@@ -2,11 +2,12 @@
 -- Assumes nothing.
 use Prim.Native.Nat.{ℕ, zero, suc, _+_, _-_, _≤_, _<_, min}
 use mathlib.Core.Path.{_≡_, refl, sym, ap, _∙_}
+use mathlib.Core.Logic.{_≢_}
 use mathlib.Core.List.{List, [], _∷_, _++_, append-nil}
 use native.Mathlib.Omega.{arith}
 use native.Mathlib.Numerals.{add-one}
 use borrow.Author.Tests.{lt-ltb, le-ltb}
-use lib.ListN.{length, getD, length-append}
+use lib.ListN.{length, getD, drop, length-append}
 use lib.Seq.{ext-getD}
 use Rattle.model.proofs.Tests.{if-lt}
 use Rattle.recent.specs.Boards.{Entry, mostKept}
@@ -36,6 +37,15 @@ wrapped-on k i h =
     (λ b. ap (λ (p : ℕ). wrapped (p + i)) (wrapped-inside k b))
     (λ b. ap (λ (p : ℕ). wrapped (p + i)) (wrapped-past k b) ∙ wrapped-inside (k - mostKept + i) (omega arith)
     ∙ omega (arith, wrapped-past (k + i) (omega arith)))
+
+-- places that are less than once around apart are two
+pub wrapped-apart : (k i j : ℕ) → k < mostKept → i < j → j < mostKept → wrapped (k + i) ≢ wrapped (k + j)
+wrapped-apart k i j h b g e =
+    if-lt (k + j) mostKept
+    (λ c. omega (arith, wrapped-inside (k + i) (omega arith), wrapped-inside (k + j) c))
+    (λ c. if-lt (k + i) mostKept
+    (λ d. omega (arith, wrapped-inside (k + i) d, wrapped-past (k + j) c))
+    (λ d. omega (arith, wrapped-past (k + i) d, wrapped-past (k + j) c)))
 
 -- Entries in straight places
 
@@ -123,3 +133,15 @@ ring-snoc l k (suc n) h g =
     let next = wrapped-below (k + 1) (omega arith) in
     ring-next l k (suc n) h g
     ∙ rw (← add-one n, ring-snoc l (wrapped (k + 1)) n next (omega arith), ring-next l k n h (omega arith), on, add-one n)
+
+-- without its first entries it begins as many places on
+pub ring-drop : (l : List ℕ) (k n d : ℕ) → k < mostKept → d ≤ n → n ≤ mostKept → drop d (ringFrom l k n) ≡ ringFrom l (wrapped (k + d)) (n - d)
+ring-drop l k n zero h b g = let here : wrapped (k + 0) ≡ k = wrapped-inside (k + 0) (omega arith) ∙ omega arith in
+    let all : n - 0 ≡ n = omega arith in
+    rw (here, all)
+ring-drop l k zero (suc d) h b g = absurd (omega arith)
+ring-drop l k (suc n) (suc d) h b g =
+    let on : wrapped (wrapped (k + 1) + d) ≡ wrapped (k + suc d) = wrapped-on (k + 1) d (omega arith) ∙ ap wrapped (omega arith) in
+    ap (drop (suc d)) (ap (ringFrom l k) (sym (add-one n)) ∙ ring-next l k n h (omega arith))
+    ∙ ring-drop l (wrapped (k + 1)) n d (wrapped-below (k + 1) (omega arith)) (omega arith) (omega arith)
+    ∙ let less : suc n - suc d ≡ n - d = omega arith in rw (on, less)

@@ -1,0 +1,272 @@
+-- The numbers of a lent board follow the board that they tell: after a call they tell the board of that call. Assumes nothing.
+use Prim.Native.Nat.{ℕ, _+_, _-_, _≤_, _<_}
+use mathlib.Core.Path.{_≡_, refl, sym, ap, _∙_}
+use mathlib.Core.Logic.{_≢_}
+use mathlib.Core.Bool.{true, not}
+use mathlib.Core.List.{List, [], _∷_, _++_, append-nil}
+use native.Mathlib.Omega.{arith}
+use lib.Dec.{leb, ltb, eqb}
+use lib.ListN.{length, getD}
+use lib.Seq.{getD-set-same, getD-set-other, lt-length-set}
+use borrow.Author.Tests.{eq-eqb, ne-eqb, eqb-false, leb-true, ltb-true, le-leb, lt-ltb, not-false}
+use Rattle.model.specs.declared.Answer.{Answer}
+use Rattle.model.specs.Answers.{answerOf, beyond}
+use Rattle.model.proofs.Tests.{by-cond, and-true-iff}
+use Rattle.model.proofs.Lists.{length-over}
+use Rattle.recent.specs.Boards.{Entry, entryOf, Board, boardOf, mostKept, boardSound, widthStands, howMany, counting}
+use Rattle.recent.specs.Boards.{Told, told, keeps, inTime, isProcess, setUpOf, addOf, showOf}
+use Rattle.recent.specs.Encodings.{widthPlace, lastPlace, firstPlace, countPlace, boardLength, wrapped, entryAt, ringFrom, boardIn, isBoard}
+use Rattle.recent.specs.Encodings.{LentBoard, boardGave, stillAt, firstAt, nextAt, headed, placed, shown, added, onNumbers}
+use Rattle.recent.specs.Encodings.{emptied, lentSetUp, lentAdd, lentShow}
+use Rattle.recent.specs.Facts.{NumbersFollow}
+use Rattle.recent.proofs.Figures.{howMany-most}
+use Rattle.recent.proofs.Soundness.{sound-parts}
+use Rattle.recent.proofs.Expiry.{counting-last}
+use Rattle.recent.proofs.Places.{wrapped-below, wrapped-on, wrapped-apart, ring-length, ring-none, ring-same, ring-snoc, ring-drop}
+use Rattle.recent.proofs.Writes.{headed-length, headed-other, headed-entry, placed-length, placed-other, placed-elsewhere, placed-there}
+
+-- Calls: a refusal leaves the board, and `good` comes of what is accepted
+
+pub data Came (b : Board) (Good : Type 0) (good : Told) : Told → Type 0 where
+  refused : {r : Answer} → r .code ≢ 0 → Came b Good good (told r b)
+  accepted : Good → Came b Good good good
+
+-- what has come about, with one fact more
+came-with : {b : Board} {Good More : Type 0} {good r : Told} → More → Came b Good good r → Came b (More × Good) good r
+came-with m (Came.refused n) = Came.refused n
+came-with m (Came.accepted g) = Came.accepted (m, g)
+
+came-in-time : (b : Board) (t : ℕ) {Good : Type 0} {good after : Told} → Came b Good good after
+    → Came b ((boardSound b ≡ true) × Good) good (inTime b t after)
+came-in-time b t {Good} {good} c =
+    by-cond (Came b ((boardSound b ≡ true) × Good) good) (not (boardSound b)) (λ e. Came.refused (λ z. omega arith))
+    (λ e. by-cond (Came b ((boardSound b ≡ true) × Good) good) (ltb t (b .last)) (λ _. Came.refused (λ z. omega arith))
+    (λ _. by-cond (Came b ((boardSound b ≡ true) × Good) good) (beyond t) (λ _. Came.refused (λ z. omega arith))
+    (λ _. came-with (not-false _ e) c)))
+
+pub show-came : (b : Board) (t : ℕ) → Came b ((boardSound b ≡ true) × Unit) (keeps b t []) (showOf b t)
+unfolding showOf
+show-came b t = came-in-time b t (Came.accepted tt)
+
+-- there is room
+pub add-came : (b : Board) (t p wait : ℕ)
+    → Came b ((boardSound b ≡ true) × (howMany (b .width) t (b .kept) ≢ mostKept)) (keeps b t (entryOf t p wait ∷ [])) (addOf b t p wait)
+unfolding addOf
+add-came b t p wait =
+    let Room : Type 0 = howMany (b .width) t (b .kept) ≢ mostKept in
+    let good = keeps b t (entryOf t p wait ∷ []) in
+    came-in-time b t
+    (by-cond (Came b Room good) (not (isProcess p)) (λ _. Came.refused (λ z. omega arith))
+    (λ _. by-cond (Came b Room good) (eqb (howMany (b .width) t (b .kept)) mostKept) (λ _. Came.refused (λ z. omega arith))
+    (λ e. Came.accepted (eqb-false _ _ e))))
+
+-- The same on numbers
+
+-- [10.130] what is given back on a list l that tells a board, where r is what is given back on the board
+pub record Follows (r : Told) (g : LentBoard) : Type 0 where
+  pub answer : g .answer ≡ r .answer
+  pub board : boardIn (g .board) ≡ r .board
+  pub tells : isBoard (g .board) ≡ true
+
+module _ (l after : List ℕ) (board : isBoard l ≡ true) {Good : Type 0} {good : Told} (fine : good .answer .code ≡ 0) where
+  follows : {r : Told} → Came (boardIn l) Good good r → (Good → (boardIn after ≡ good .board) × (isBoard after ≡ true))
+      → Follows r (onNumbers l (r .answer) after)
+  follows (Came.refused n) h = simp (board, ne-eqb _ _ n) (record { answer = refl; board = refl; tells = board })
+  follows (Came.accepted g) h = simp (board, eq-eqb _ _ fine) (record { answer = refl; board = h g .0; tells = h g .1 })
+
+-- What the numbers of a written header tell
+
+-- four numbers in front that tell a board
+record Heads (l : List ℕ) (w t k n : ℕ) : Type 0 where
+  fits : boardLength ≤ length l
+  width : getD l widthPlace 0 ≡ w
+  last : getD l lastPlace 0 ≡ t
+  first : getD l firstPlace 0 ≡ k
+  count : getD l countPlace 0 ≡ n
+
+module _ {l : List ℕ} {w t k n : ℕ} (h : Heads l w t k n) where
+  heads-board : k < mostKept → isBoard l ≡ true
+  unfolding isBoard
+  heads-board b = rw (h .first, le-leb _ _ (h .fits)) (lt-ltb _ _ b)
+
+  heads-in : boardIn l ≡ boardOf w t (ringFrom l k n)
+  unfolding boardIn
+  heads-in = rw (h .width, h .last, h .first, h .count)
+
+  -- an entry is written behind them
+  heads-placed : (j : ℕ) (e : Entry) → Heads (placed l j e) w t k n
+  heads-placed j e = record {
+    fits = omega (arith, h .fits, placed-length l j e);
+    width = placed-other l j e widthPlace (omega arith) ∙ h .width;
+    last = placed-other l j e lastPlace (omega arith) ∙ h .last;
+    first = placed-other l j e firstPlace (omega arith) ∙ h .first;
+    count = placed-other l j e countPlace (omega arith) ∙ h .count;
+  }
+
+heads-headed : (l : List ℕ) (t k n : ℕ) → boardLength ≤ length l → Heads (headed l t k n) (getD l widthPlace 0) t k n
+heads-headed l t k n fits =
+    let a : lastPlace < length l = omega arith in
+    let b : firstPlace < length l = omega arith in
+    let c : countPlace < length l = omega arith in
+    let x : lastPlace ≢ countPlace = λ e. omega arith in
+    let y : lastPlace ≢ firstPlace = λ e. omega arith in
+    let z : firstPlace ≢ countPlace = λ e. omega arith in
+    record {
+      fits = omega (arith, headed-length l t k n);
+      width = headed-other l t k n widthPlace (omega arith);
+      last = simp (getD-set-other, getD-set-same);
+      first = simp (getD-set-other, getD-set-same, lt-length-set);
+      count = simp (getD-set-same, lt-length-set);
+    }
+
+-- A board that is sound, and is told by numbers
+
+module _ (l : List ℕ) (t : ℕ) (board : isBoard l ≡ true) (sound : boardSound (boardIn l) ≡ true) where
+  abbrev first : ℕ
+  first = getD l firstPlace 0
+
+  abbrev count : ℕ
+  count = getD l countPlace 0
+
+  abbrev kept : List Entry
+  kept = ringFrom l first count
+
+  fits : boardLength ≤ length l
+  unfolding isBoard
+  fits = leb-true _ _ (and-true-iff (leb boardLength (length l)) _ .0 board .0)
+
+  first-fits : first < mostKept
+  unfolding isBoard
+  first-fits = ltb-true _ _ (and-true-iff (leb boardLength (length l)) _ .0 board .1)
+
+  count-fits : count ≤ mostKept
+  unfolding boardIn
+  count-fits = omega (arith, sound-parts (boardIn l) sound .room, ring-length l first count)
+
+  still-fits : stillAt l t ≤ count
+  unfolding boardIn
+  still-fits = omega (arith, howMany-most (getD l 0 0) t kept, ring-length l first count)
+
+  -- what counts is left, from its first place on
+  rest-is : ringFrom l (firstAt l t) (stillAt l t) ≡ counting (boardIn l .width) t (boardIn l .kept)
+  unfolding boardIn
+  rest-is =
+      let still = stillAt l t in
+      let rest : count - (count - still) ≡ still = omega (arith, still-fits) in
+      sym (
+      counting-last (getD l 0 0) t 0 kept (sound-parts (boardIn l) sound .order)
+      ∙ rw (ring-length l first count) (ring-drop l first count (count - still) first-fits (omega arith) count-fits)
+      ∙ ap (ringFrom l (firstAt l t)) rest
+      )
+
+  abbrev still : ℕ
+  still = stillAt l t
+
+  first-still : firstAt l t < mostKept
+  first-still = wrapped-below _ (omega (arith, first-fits, count-fits))
+
+  next-fits : nextAt l < mostKept
+  next-fits = wrapped-below _ (omega (arith, first-fits, count-fits))
+
+  -- the place after the last of those that count is that after the last kept one
+  next-is : wrapped (firstAt l t + still) ≡ nextAt l
+  next-is =
+      wrapped-on (first + (count - still)) still (omega (arith, first-fits, count-fits, still-fits))
+      ∙ ap wrapped (omega (arith, still-fits))
+
+  -- [10.140] the ring after a showing
+  shown-ring : ringFrom (shown l t) (firstAt l t) still ≡ counting (boardIn l .width) t (boardIn l .kept)
+  shown-ring =
+      ring-same (shown l t) l (firstAt l t) still first-still (omega (arith, still-fits, count-fits))
+      (λ i _. headed-entry l t (firstAt l t) still (wrapped (firstAt l t + i)))
+      ∙ rest-is
+
+  shown-heads : Heads (shown l t) (getD l widthPlace 0) t (firstAt l t) still
+  shown-heads = heads-headed l t (firstAt l t) still fits
+
+  shown-follows : (boardIn (shown l t) ≡ keeps (boardIn l) t [] .board) × (isBoard (shown l t) ≡ true)
+  unfolding boardIn
+  shown-follows = (
+    heads-in shown-heads ∙ ap (boardOf (getD l widthPlace 0) t) (shown-ring ∙ sym (append-nil _)),
+    heads-board shown-heads first-still,
+  )
+
+  -- [10.140] with room for one more, the ring after an adding
+  module _ (p wait : ℕ) (room : still ≢ mostKept) where
+    abbrev header : List ℕ
+    header = headed l t (firstAt l t) (still + 1)
+
+    abbrev entry : Entry
+    entry = entryOf t p wait
+
+    -- the new entry takes the place of none that counts
+    added-same : (i : ℕ) → i < still → entryAt (added l t p wait) (wrapped (firstAt l t + i)) ≡ entryAt l (wrapped (firstAt l t + i))
+    added-same i b =
+        placed-elsewhere header (nextAt l) entry (wrapped (firstAt l t + i))
+        (λ e. wrapped-apart (firstAt l t) i still first-still b (omega (arith, still-fits, count-fits)) (e ∙ sym next-is))
+        ∙ headed-entry l t (firstAt l t) (still + 1) (wrapped (firstAt l t + i))
+
+    added-there : entryAt (added l t p wait) (nextAt l) ≡ entry
+    added-there = placed-there header (nextAt l) entry (omega (arith, next-fits, fits, headed-length l t (firstAt l t) (still + 1)))
+
+    added-ring : ringFrom (added l t p wait) (firstAt l t) (still + 1) ≡ counting (boardIn l .width) t (boardIn l .kept) ++ (entry ∷ [])
+    added-ring =
+        let most : still + 1 ≤ mostKept = omega (arith, still-fits, count-fits) in
+        ring-snoc (added l t p wait) (firstAt l t) still first-still most
+        ∙ rw (next-is, added-there, ring-same (added l t p wait) l (firstAt l t) still first-still (omega arith) added-same, rest-is)
+
+    added-heads : Heads (added l t p wait) (getD l widthPlace 0) t (firstAt l t) (still + 1)
+    added-heads = heads-placed (heads-headed l t (firstAt l t) (still + 1) fits) (nextAt l) entry
+
+    added-follows : (boardIn (added l t p wait) ≡ keeps (boardIn l) t (entry ∷ []) .board) × (isBoard (added l t p wait) ≡ true)
+    unfolding boardIn
+    added-follows = (
+      heads-in added-heads ∙ ap (boardOf (getD l widthPlace 0) t) added-ring,
+      heads-board added-heads first-still,
+    )
+
+-- The calls
+
+show-follows : (l : List ℕ) (t : ℕ) → isBoard l ≡ true → Follows (showOf (boardIn l) t) (lentShow l t)
+unfolding lentShow
+show-follows l t board =
+    follows l (shown l t) board refl (show-came (boardIn l) t) (λ g. shown-follows l t board (g .0))
+
+add-follows : (l : List ℕ) (t p wait : ℕ) → isBoard l ≡ true → Follows (addOf (boardIn l) t p wait) (lentAdd l t p wait)
+unfolding lentAdd
+add-follows l t p wait board =
+    follows l (added l t p wait) board refl (add-came (boardIn l) t p wait) (λ g. added-follows l t board (g .0) p wait (g .1))
+
+heads-emptied : (w : ℕ) (l : List ℕ) → boardLength ≤ length l → Heads (emptied w l) w 0 0 0
+heads-emptied w l fits = record {
+  fits = omega (arith, length-over (w ∷ 0 ∷ 0 ∷ 0 ∷ []) l (omega arith));
+  width = refl;
+  last = refl;
+  first = refl;
+  count = refl;
+}
+
+empty-follows : (r : Answer) (w : ℕ) (l : List ℕ) → boardLength ≤ length l → Follows (told r (boardOf w 0 [])) (boardGave r (emptied w l))
+empty-follows r w l fits = record {
+  answer = refl;
+  board = heads-in (heads-emptied w l fits) ∙ ap (boardOf w 0) (ring-none (emptied w l) 0 (omega arith));
+  tells = heads-board (heads-emptied w l fits) (omega arith);
+}
+
+set-up-follows : (w : ℕ) (l : List ℕ) → boardLength ≤ length l → Follows (setUpOf w) (lentSetUp w l)
+unfolding lentSetUp setUpOf
+set-up-follows w l fits =
+    simp (le-leb _ _ fits)
+    (by-cond (λ (r : Told). Follows r (boardGave (r .answer) (emptied (r .board .width) l))) (widthStands w)
+    (λ _. empty-follows (answerOf 0 0 0) w l fits)
+    (λ _. empty-follows (answerOf 17 0 0) 0 l fits))
+
+follows-all : {r : Told} {g : LentBoard} → Follows r g → (g .answer ≡ r .answer) × (boardIn (g .board) ≡ r .board) × (isBoard (g .board) ≡ true)
+follows-all f = (f .answer, f .board, f .tells)
+
+pub numbers-follow : NumbersFollow
+numbers-follow = record {
+  add = λ l t p wait board. follows-all (add-follows l t p wait board);
+  show = λ l t board. follows-all (show-follows l t board);
+  set-up = λ w l fits. follows-all (set-up-follows w l fits);
+}

@@ -1,0 +1,91 @@
+-- What the calls write of the numbers that they are lent: the header and one entry, and nothing where they refuse. Assumes nothing.
+use Prim.Native.Nat.{ℕ, _+_, _≤_, _<_}
+use mathlib.Core.Path.{_≡_}
+use mathlib.Core.Logic.{_≢_}
+use mathlib.Core.List.{List}
+use native.Mathlib.Omega.{arith}
+use lib.Dec.{eqb}
+use lib.ListN.{length, getD, set, length-set}
+use lib.Seq.{getD-set-same, getD-set-other, lt-length-set}
+use borrow.Author.Tests.{eqb-true, lt-leb}
+use Rattle.model.specs.declared.Answer.{Answer}
+use Rattle.model.proofs.Tests.{by-test}
+use Rattle.recent.specs.Boards.{Entry, entryOf, addOf, showOf}
+use Rattle.recent.specs.Encodings.{entryPlace, entryAt, boardIn, isBoard}
+use Rattle.recent.specs.Encodings.{headed, placed, shown, added, onNumbers, lentSetUp, lentAdd, lentShow}
+use Rattle.recent.specs.Facts.{NotHead, NotEntry, RefusedBoardStays}
+
+-- The header
+
+module _ (l : List ℕ) (t k n : ℕ) where
+  pub headed-length : length (headed l t k n) ≡ length l
+  headed-length = simp length-set
+
+  pub headed-other : (i : ℕ) → NotHead i → getD (headed l t k n) i 0 ≡ getD l i 0
+  headed-other i h = simp (getD-set-other, h .not-last, h .not-first, h .not-count)
+
+  -- so are the entries
+  pub headed-entry : (j : ℕ) → entryAt (headed l t k n) j ≡ entryAt l j
+  headed-entry j =
+      let same : (i : ℕ) → 4 ≤ i → getD (headed l t k n) i 0 ≡ getD l i 0 =
+      λ i h. headed-other i (omega arith) in
+      rw (same (entryPlace j) (omega arith), same (entryPlace j + 1) (omega arith), same (entryPlace j + 2) (omega arith))
+
+-- An entry
+
+module _ (l : List ℕ) (k : ℕ) (e : Entry) where
+  pub placed-length : length (placed l k e) ≡ length l
+  placed-length = simp length-set
+
+  pub placed-other : (i : ℕ) → NotEntry k i → getD (placed l k e) i 0 ≡ getD l i 0
+  placed-other i h = simp (getD-set-other, h .not-time, h .not-process, h .not-wait)
+
+  -- no other entry has a number of this one
+  pub placed-elsewhere : (j : ℕ) → j ≢ k → entryAt (placed l k e) j ≡ entryAt l j
+  placed-elsewhere j n =
+      rw (
+        placed-other (entryPlace j) (omega arith),
+        placed-other (entryPlace j + 1) (omega arith),
+        placed-other (entryPlace j + 2) (omega arith),
+      )
+
+-- it is read where it was put
+module _ (l : List ℕ) (at : ℕ) (fits : at + 2 < length l) where
+  three-read : (x y z : ℕ) → (getD (set (set (set l at x) (at + 1) y) (at + 2) z) at 0 ≡ x)
+      × (getD (set (set (set l at x) (at + 1) y) (at + 2) z) (at + 1) 0 ≡ y)
+      × (getD (set (set (set l at x) (at + 1) y) (at + 2) z) (at + 2) 0 ≡ z)
+  three-read x y z =
+      let a : at ≢ at + 2 = λ e. omega arith in
+      let b : at ≢ at + 1 = λ e. omega arith in
+      let c : at + 1 ≢ at + 2 = λ e. omega arith in
+      let f : at < length l = omega arith in
+      let g : at + 1 < length l = omega arith in (
+        simp (getD-set-other, getD-set-same),
+        simp (getD-set-other, getD-set-same, lt-length-set),
+        simp (getD-set-same, lt-length-set),
+      )
+
+pub placed-there : (l : List ℕ) (k : ℕ) (e : Entry) → entryPlace k + 2 < length l → entryAt (placed l k e) k ≡ e
+placed-there l k e h =
+    let r = three-read l (entryPlace k) h (e .time) (e .process) (e .wait) in
+    λ i. entryOf (r .0 i) (r .1 i) (r .2 i)
+
+-- What a call gives back on numbers
+
+on-numbers : (P : List ℕ → Type 0) (l : List ℕ) (r : Answer) (after : List ℕ) → P l → P after → P (onNumbers l r after .board)
+on-numbers P l r after h g =
+    by-test (isBoard l) (λ b. by-test (eqb (r .code) 0) (λ e. simp (b, e) g) (λ e. simp (b, e) h)) (λ b. simp b h)
+
+refused-numbers : (l : List ℕ) (r : Answer) (after : List ℕ) → onNumbers l r after .answer .code ≢ 0 → onNumbers l r after .board ≡ l
+refused-numbers l r after n =
+    by-test (isBoard l)
+    (λ b. by-test (eqb (r .code) 0) (λ e. absurd (n (simp (b, e) (eqb-true _ _ e)))) (λ e. simp (b, e)))
+    (λ b. simp b)
+
+pub refused-board-stays : RefusedBoardStays
+unfolding lentAdd lentShow lentSetUp
+refused-board-stays = record {
+  add = λ l t p wait n. refused-numbers l (addOf (boardIn l) t p wait .answer) (added l t p wait) n;
+  show = λ l t n. refused-numbers l (showOf (boardIn l) t .answer) (shown l t) n;
+  set-up = λ w l h. simp (lt-leb _ _ h);
+}
