@@ -3,14 +3,14 @@ use Prim.Native.Nat.{ℕ, _+_, _-_, _≤_, _<_, max}
 use mathlib.Core.Path.{_≡_, refl, sym, ap, _∙_}
 use mathlib.Core.Logic.{_≢_}
 use mathlib.Core.Bool.{true, false, _&&_}
-use mathlib.Core.List.{List, [], _∷_, _++_}
+use mathlib.Core.List.{List, [], _∷_, _++_, append-nil}
 use native.Mathlib.Omega.{arith}
 use lib.Dec.{leb, ltb, eqb}
 use lib.ListN.{length, set, getD}
-use borrow.Author.Tests.{eq-eqb, ne-eqb, lt-ltb, le-ltb, le-leb, lt-leb}
+use borrow.Author.Tests.{ltb-true, leb-true, eq-eqb, ne-eqb, lt-ltb, le-ltb, le-leb, lt-leb}
 use Rattle.model.specs.declared.Answer.{Answer}
 use Rattle.model.specs.Answers.{answerOf, beyond}
-use Rattle.model.proofs.Tests.{by-test, if-lt, tests}
+use Rattle.model.proofs.Tests.{by-test, if-lt, and-true-iff, tests}
 use Rattle.recent.specs.declared.rings.Look.{Look}
 use Rattle.recent.specs.Boards.{Board, entryOf, widthStands, mostKept, boardSound, howMany, longestAt, figuresAt}
 use Rattle.recent.specs.Boards.{Told, told, keeps, inTime, isProcess, setUpOf, addOf, showOf}
@@ -18,6 +18,7 @@ use Rattle.recent.specs.Encodings.{firstPlace, countPlace, boardLength, 
 use Rattle.recent.specs.Encodings.{LentBoard, boardGave, emptied, lentSetUp, stillAt, firstAt, nextAt, headed, placed}
 use Rattle.recent.specs.Encodings.{shown, added, onNumbers, lentAdd, lentShow}
 use Rattle.recent.specs.Looking.{Looked, untimelyOf}
+use Rattle.recent.proofs.Places.{wrapped-inside, wrapped-past, wrapped-below, ring-length}
 use Rattle.recent.proofs.Figures.{howMany-most, figures-snoc}
 
 -- both parts of what a call gives back are equal
@@ -53,30 +54,136 @@ module _ (w : ℕ) (l : List ℕ) {r : Answer} where
     unfolding lentSetUp
     set-up-short e f = rw f (simp (lt-leb _ _ short, e))
 
--- Any call on a lent board
+-- The numbers of a sound board
 
-module _ (l new : List ℕ) {r : Answer} (board : isBoard l ≡ true) where
-  on-refused : r .code ≢ 0 → boardGave r l ≡ onNumbers l r new
-  on-refused n = simp (board, ne-eqb _ _ n)
+-- the place after s of n entries is that after the n, wherever the first n - s end
+pub wrapped-after : (k n s : ℕ) → k < mostKept → n ≤ mostKept → s ≤ n → wrapped (wrapped (k + (n - s)) + s) ≡ wrapped (k + n)
+wrapped-after k n s h g f =
+    if-lt (k + (n - s)) mostKept
+    (λ b. rw (wrapped-inside _ b) (let e : k + (n - s) + s ≡ k + n = omega arith in rw e))
+    (λ b. rw (wrapped-past _ b) (wrapped-inside (k + (n - s) - mostKept + s) (omega arith) ∙ omega (arith, wrapped-past (k + n) (omega arith))))
 
-  on-accepted : r .code ≡ 0 → boardGave r new ≡ onNumbers l r new
-  on-accepted e = simp (board, eq-eqb _ _ e)
+pub record Sized (l : List ℕ) : Type 0 where
+  pub long : boardLength ≤ length l
+  pub place : getD l firstPlace 0 < mostKept
+  pub width : 1 ≤ boardIn l .width
+  pub room : getD l countPlace 0 ≤ mostKept
+
+sized : (l : List ℕ) → isBoard l ≡ true → boardSound (boardIn l) ≡ true → Sized l
+unfolding isBoard boardSound boardIn
+sized l board sound =
+    let b = and-true-iff (leb boardLength (length l)) (ltb (getD l firstPlace 0) mostKept) .0 board in
+    let e = simp tests at sound in
+    let n = ring-length l (getD l firstPlace 0) (getD l countPlace 0) in
+    record {
+      long = leb-true boardLength (length l) (b .0);
+      place = ltb-true (getD l firstPlace 0) mostKept (b .1);
+      width = e .0 .0 .0 .0;
+      room = rw n at (e .0 .0 .1);
+    }
+
+-- what a look at a sound board tells
+module _ {l : List ℕ} {t : ℕ} {r : Look} (k : Looked l t r) where
+  pub board-sized : Sized l
+  board-sized = sized l (k .board) (k .sound)
+
+  few : r .count ≤ getD l countPlace 0
+  unfolding boardIn
+  few =
+      let n = ring-length l (getD l firstPlace 0) (getD l countPlace 0) in
+      rw (k .count-is) (omega (arith, n, howMany-most (boardIn l .width) t (boardIn l .kept)))
+
+  pub count-most : r .count ≤ mostKept
+  count-most = omega (arith, few, board-sized .room)
+
+  pub first-most : r .first < mostKept
+  first-most =
+      let p = getD l firstPlace 0 + (getD l countPlace 0 - stillAt l t) in
+      rw (k .first-is) (wrapped-below p (omega (arith, board-sized .place, board-sized .room)))
+
+  pub next-is : wrapped (r .first + r .count) ≡ nextAt l
+  next-is =
+      rw (k .first-is, ← k .count-is)
+      (wrapped-after (getD l firstPlace 0) (getD l countPlace 0) (r .count) (board-sized .place) (board-sized .room) few)
+
+-- A call on a sound board
+
+-- the tests of a time that is not refused
+pub record Timely (last t : ℕ) : Type 0 where
+  pub forward : ltb t last ≡ false
+  pub within : beyond t ≡ false
+
+pub timely : (last t : ℕ) {r : Answer} → r ≡ untimelyOf last t → r .code ≡ 0 → Timely last t
+timely last t {r} e z =
+    let u : untimelyOf last t .code ≡ 0 = rw e at z in
+    by-test (ltb t last) (λ f. absurd (omega (arith, simp f at u)))
+    (λ f. by-test (beyond t) (λ g. absurd (omega (arith, simp (f, g) at u))) (λ g. record { forward = f; within = g }))
 
 -- a list that tells no sound board
-on-unsound : (l new : List ℕ) (b : Board) (t : ℕ) (after : Told) → isBoard l && boardSound b ≡ false
-    → boardGave (answerOf 2 0 0) l ≡ onNumbers l (inTime b t after .answer) new
-on-unsound l new b t after e =
-    by-test (isBoard l) (λ f. rw f (let g : boardSound b ≡ false = rw f at e in simp g)) (λ f. rw f)
+on-unsound : (l new : List ℕ) (b : Board) (t : ℕ) (after : Told) {r : Answer} → isBoard l && boardSound b ≡ false → r ≡ answerOf 2 0 0
+    → boardGave r l ≡ onNumbers l (inTime b t after .answer) new
+on-unsound l new b t after e f =
+    rw f (by-test (isBoard l) (λ g. let h : boardSound b ≡ false = rw g at e in simp (g, h)) (λ g. simp g))
 
--- The time that a sound board is told
+-- a time that is refused
+on-untimely : (l new : List ℕ) (b : Board) (t : ℕ) (after : Told) {r : Answer} → isBoard l ≡ true → boardSound b ≡ true
+    → r ≡ untimelyOf (b .last) t → r .code ≢ 0 → boardGave r l ≡ onNumbers l (inTime b t after .answer) new
+on-untimely l new b t after {r} board sound f n =
+    let m : untimelyOf (b .last) t .code ≢ 0 = rw f at n in
+    rw f (by-test (ltb t (b .last)) (λ e. simp (board, sound, e))
+    (λ e. by-test (beyond t) (λ g. simp (board, sound, e, g)) (λ g. absurd (m (simp (e, g))))))
 
-module _ (b : Board) (t : ℕ) (after : Told) (sound : boardSound b ≡ true) where
-  untimely-told : untimelyOf (b .last) t .code ≢ 0 → inTime b t after .answer ≡ untimelyOf (b .last) t
-  untimely-told n =
-      by-test (ltb t (b .last)) (λ e. simp (sound, e))
-      (λ e. by-test (beyond t) (λ f. simp (sound, e, f)) (λ f. absurd (n (simp (e, f)))))
+-- `add`
 
-  timely-told : untimelyOf (b .last) t .code ≡ 0 → inTime b t after ≡ after
-  timely-told z =
-      by-test (ltb t (b .last)) (λ e. absurd (omega (arith, simp e at z)))
-      (λ e. by-test (beyond t) (λ f. absurd (omega (arith, simp (e, f) at z))) (λ f. simp (sound, e, f)))
+module _ (l : List ℕ) (t p wait : ℕ) {r : Answer} where
+  pub add-unsound : isBoard l && boardSound (boardIn l) ≡ false → r ≡ answerOf 2 0 0 → boardGave r l ≡ lentAdd l t p wait
+  unfolding lentAdd addOf
+  add-unsound = on-unsound l (added l t p wait) (boardIn l) t _
+
+  module _ {look : Look} (k : Looked l t look) where
+    pub add-untimely : r ≡ untimelyOf (boardIn l .last) t → r .code ≢ 0 → boardGave r l ≡ lentAdd l t p wait
+    unfolding lentAdd addOf
+    add-untimely = on-untimely l (added l t p wait) (boardIn l) t _ (k .board) (k .sound)
+
+    module _ (h : Timely (boardIn l .last) t) where
+      pub add-misnamed : isProcess p ≡ false → r ≡ answerOf 7 0 0 → boardGave r l ≡ lentAdd l t p wait
+      unfolding lentAdd addOf
+      add-misnamed e f = rw f (simp (k .board, k .sound, h .forward, h .within, e))
+
+      module _ (named : isProcess p ≡ true) where
+        pub add-full : look .count ≡ mostKept → r ≡ answerOf 18 0 0 → boardGave r l ≡ lentAdd l t p wait
+        unfolding lentAdd addOf
+        add-full e f =
+            let full = eq-eqb (stillAt l t) mostKept (sym (k .count-is) ∙ e) in
+            rw f (simp (k .board, k .sound, h .forward, h .within, named, full))
+
+        pub add-accepted : look .count ≢ mostKept → r ≡ answerOf 0 (look .count + 1) (max (look .longest) wait)
+            → {new : List ℕ} → new ≡ placed (headed l t (look .first) (look .count + 1)) (wrapped (look .first + look .count)) (entryOf t p wait)
+            → boardGave r new ≡ lentAdd l t p wait
+        unfolding lentAdd addOf
+        add-accepted n f {new} g =
+            let room = ne-eqb (stillAt l t) mostKept (λ e. n (k .count-is ∙ e)) in
+            let figures : r ≡ figuresAt (boardIn l .width) t (boardIn l .kept ++ (entryOf t p wait ∷ [])) =
+                f ∙ rw (k .count-is, k .longest-is) (sym (figures-snoc (boardIn l .width) t p wait (board-sized k .width) (boardIn l .kept))) in
+            let numbers : new ≡ added l t p wait = g ∙ rw (next-is k, k .count-is, k .first-is) in
+            board-gave figures numbers ∙ simp (k .board, k .sound, h .forward, h .within, named, room)
+
+-- `show`
+
+module _ (l : List ℕ) (t : ℕ) {r : Answer} where
+  pub show-unsound : isBoard l && boardSound (boardIn l) ≡ false → r ≡ answerOf 2 0 0 → boardGave r l ≡ lentShow l t
+  unfolding lentShow showOf
+  show-unsound = on-unsound l (shown l t) (boardIn l) t _
+
+  module _ {look : Look} (k : Looked l t look) where
+    pub show-untimely : r ≡ untimelyOf (boardIn l .last) t → r .code ≢ 0 → boardGave r l ≡ lentShow l t
+    unfolding lentShow showOf
+    show-untimely = on-untimely l (shown l t) (boardIn l) t _ (k .board) (k .sound)
+
+    pub show-accepted : Timely (boardIn l .last) t → r ≡ answerOf 0 (look .count) (look .longest)
+        → {new : List ℕ} → new ≡ headed l t (look .first) (look .count) → boardGave r new ≡ lentShow l t
+    unfolding lentShow showOf
+    show-accepted h f {new} g =
+        let figures : r ≡ figuresAt (boardIn l .width) t (boardIn l .kept) = f ∙ rw (k .count-is, k .longest-is) in
+        let numbers : new ≡ shown l t = g ∙ rw (k .count-is, k .first-is) in
+        board-gave figures numbers ∙ simp (k .board, k .sound, h .forward, h .within, append-nil)
