@@ -1,21 +1,21 @@
 -- What the calls on a lent board give back, by the tests that decide: one law for each exit of their functions. Assumes nothing.
 use Prim.Native.Nat.{ℕ, _+_, _-_, _≤_, _<_, max}
-use mathlib.Core.Path.{_≡_, refl, sym, ap, _∙_}
+use mathlib.Core.Path.{_≡_, refl, sym, _∙_}
 use mathlib.Core.Logic.{_≢_}
 use mathlib.Core.Bool.{true, false, _&&_}
 use mathlib.Core.List.{List, [], _∷_, _++_, append-nil}
 use native.Mathlib.Omega.{arith}
-use lib.Dec.{leb, ltb, eqb}
+use lib.Dec.{leb, ltb}
 use lib.ListN.{length, set, getD}
-use borrow.Author.Tests.{ltb-true, leb-true, eq-eqb, ne-eqb, lt-ltb, le-ltb, le-leb, lt-leb}
+use borrow.Author.Tests.{ltb-true, leb-true, eq-eqb, ne-eqb, le-leb, lt-leb}
 use Rattle.model.specs.declared.Answer.{Answer}
 use Rattle.model.specs.Answers.{answerOf, beyond}
 use Rattle.model.proofs.Tests.{by-test, if-lt, and-true-iff, tests}
 use Rattle.recent.specs.declared.rings.Look.{Look}
-use Rattle.recent.specs.Boards.{Board, entryOf, widthStands, mostKept, boardSound, howMany, longestAt, figuresAt}
-use Rattle.recent.specs.Boards.{Told, told, keeps, inTime, isProcess, setUpOf, addOf, showOf}
-use Rattle.recent.specs.Encodings.{firstPlace, countPlace, boardLength, wrapped, ringFrom, boardIn, isBoard}
-use Rattle.recent.specs.Encodings.{LentBoard, boardGave, emptied, lentSetUp, stillAt, firstAt, nextAt, headed, placed}
+use Rattle.recent.specs.Boards.{Board, entryOf, widthStands, mostKept, boardSound, figuresAt}
+use Rattle.recent.specs.Boards.{Told, inTime, isProcess, setUpOf, addOf, showOf}
+use Rattle.recent.specs.Encodings.{firstPlace, countPlace, boardLength, wrapped, boardIn, isBoard}
+use Rattle.recent.specs.Encodings.{boardGave, emptied, lentSetUp, stillAt, nextAt, headed, placed}
 use Rattle.recent.specs.Encodings.{shown, added, onNumbers, lentAdd, lentShow}
 use Rattle.recent.specs.Looking.{Looked, untimelyOf}
 use Rattle.recent.proofs.Places.{wrapped-inside, wrapped-past, wrapped-below, ring-length}
@@ -57,11 +57,12 @@ module _ (w : ℕ) (l : List ℕ) {r : Answer} where
 -- The numbers of a sound board
 
 -- the place after s of n entries is that after the n, wherever the first n - s end
-pub wrapped-after : (k n s : ℕ) → k < mostKept → n ≤ mostKept → s ≤ n → wrapped (wrapped (k + (n - s)) + s) ≡ wrapped (k + n)
+wrapped-after : (k n s : ℕ) → k < mostKept → n ≤ mostKept → s ≤ n → wrapped (wrapped (k + (n - s)) + s) ≡ wrapped (k + n)
 wrapped-after k n s h g f =
     if-lt (k + (n - s)) mostKept
     (λ b. rw (wrapped-inside _ b) (let e : k + (n - s) + s ≡ k + n = omega arith in rw e))
-    (λ b. rw (wrapped-past _ b) (wrapped-inside (k + (n - s) - mostKept + s) (omega arith) ∙ omega (arith, wrapped-past (k + n) (omega arith))))
+    (λ b. rw (wrapped-past _ b)
+    (wrapped-inside (k + (n - s) - mostKept + s) (omega arith) ∙ omega (arith, wrapped-past (k + n) (omega arith))))
 
 pub record Sized (l : List ℕ) : Type 0 where
   pub long : boardLength ≤ length l
@@ -101,7 +102,10 @@ module _ {l : List ℕ} {t : ℕ} {r : Look} (k : Looked l t r) where
       let p = getD l firstPlace 0 + (getD l countPlace 0 - stillAt l t) in
       rw (k .first-is) (wrapped-below p (omega (arith, board-sized .place, board-sized .room)))
 
-  pub next-is : wrapped (r .first + r .count) ≡ nextAt l
+  pub next-most : wrapped (r .first + r .count) < mostKept
+  next-most = wrapped-below (r .first + r .count) (omega (arith, first-most, count-most))
+
+  next-is : wrapped (r .first + r .count) ≡ nextAt l
   next-is =
       rw (k .first-is, ← k .count-is)
       (wrapped-after (getD l firstPlace 0) (getD l countPlace 0) (r .count) (board-sized .place) (board-sized .room) few)
@@ -158,13 +162,15 @@ module _ (l : List ℕ) (t p wait : ℕ) {r : Answer} where
             rw f (simp (k .board, k .sound, h .forward, h .within, named, full))
 
         pub add-accepted : look .count ≢ mostKept → r ≡ answerOf 0 (look .count + 1) (max (look .longest) wait)
-            → {new : List ℕ} → new ≡ placed (headed l t (look .first) (look .count + 1)) (wrapped (look .first + look .count)) (entryOf t p wait)
+            → {new : List ℕ}
+            → new ≡ placed (headed l t (look .first) (look .count + 1)) (wrapped (look .first + look .count)) (entryOf t p wait)
             → boardGave r new ≡ lentAdd l t p wait
         unfolding lentAdd addOf
         add-accepted n f {new} g =
             let room = ne-eqb (stillAt l t) mostKept (λ e. n (k .count-is ∙ e)) in
-            let figures : r ≡ figuresAt (boardIn l .width) t (boardIn l .kept ++ (entryOf t p wait ∷ [])) =
-                f ∙ rw (k .count-is, k .longest-is) (sym (figures-snoc (boardIn l .width) t p wait (board-sized k .width) (boardIn l .kept))) in
+            let b = boardIn l in
+            let figures : r ≡ figuresAt (b .width) t (b .kept ++ (entryOf t p wait ∷ [])) =
+            f ∙ rw (k .count-is, k .longest-is) (sym (figures-snoc (b .width) t p wait (board-sized k .width) (b .kept))) in
             let numbers : new ≡ added l t p wait = g ∙ rw (next-is k, k .count-is, k .first-is) in
             board-gave figures numbers ∙ simp (k .board, k .sound, h .forward, h .within, named, room)
 
