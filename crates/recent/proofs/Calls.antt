@@ -1,6 +1,6 @@
 -- What the calls on a lent board give back, by the tests that decide: one law for each exit of their functions. Assumes nothing.
 use Prim.Native.Nat.{ℕ, _+_, _-_, _≤_, _<_, max}
-use mathlib.Core.Path.{_≡_, refl, sym, _∙_}
+use mathlib.Core.Path.{_≡_, refl, sym, ap, _∙_}
 use mathlib.Core.Logic.{_≢_}
 use mathlib.Core.Bool.{true, false, _&&_}
 use mathlib.Core.List.{List, [], _∷_, _++_, append-nil}
@@ -10,7 +10,7 @@ use lib.ListN.{length, set, getD}
 use borrow.Author.Tests.{ltb-true, leb-true, eq-eqb, ne-eqb, le-leb, lt-leb}
 use Rattle.model.specs.declared.Answer.{Answer}
 use Rattle.model.specs.Answers.{answerOf, beyond}
-use Rattle.model.proofs.Tests.{by-test, if-lt, and-true-iff, tests}
+use Rattle.model.proofs.Tests.{by-test, and-true-iff}
 use Rattle.recent.specs.declared.rings.Look.{Look}
 use Rattle.recent.specs.Boards.{Board, entryOf, widthStands, mostKept, boardSound, figuresAt}
 use Rattle.recent.specs.Boards.{Told, inTime, isProcess, setUpOf, addOf, showOf}
@@ -18,7 +18,8 @@ use Rattle.recent.specs.Encodings.{firstPlace, countPlace, boardLength, 
 use Rattle.recent.specs.Encodings.{boardGave, emptied, lentSetUp, stillAt, nextAt, headed, placed}
 use Rattle.recent.specs.Encodings.{shown, added, onNumbers, lentAdd, lentShow}
 use Rattle.recent.specs.Looking.{Looked, untimelyOf}
-use Rattle.recent.proofs.Places.{wrapped-inside, wrapped-past, wrapped-below, ring-length}
+use Rattle.recent.proofs.Places.{wrapped-on, wrapped-below, ring-length}
+use Rattle.recent.proofs.Soundness.{sound-parts}
 use Rattle.recent.proofs.Figures.{howMany-most, figures-snoc}
 
 -- both parts of what a call gives back are equal
@@ -56,14 +57,6 @@ module _ (w : ℕ) (l : List ℕ) {r : Answer} where
 
 -- The numbers of a sound board
 
--- the place after s of n entries is that after the n, wherever the first n - s end
-wrapped-after : (k n s : ℕ) → k < mostKept → n ≤ mostKept → s ≤ n → wrapped (wrapped (k + (n - s)) + s) ≡ wrapped (k + n)
-wrapped-after k n s h g f =
-    if-lt (k + (n - s)) mostKept
-    (λ b. rw (wrapped-inside _ b) (let e : k + (n - s) + s ≡ k + n = omega arith in rw e))
-    (λ b. rw (wrapped-past _ b)
-    (wrapped-inside (k + (n - s) - mostKept + s) (omega arith) ∙ omega (arith, wrapped-past (k + n) (omega arith))))
-
 pub record Sized (l : List ℕ) : Type 0 where
   pub long : boardLength ≤ length l
   pub place : getD l firstPlace 0 < mostKept
@@ -71,16 +64,15 @@ pub record Sized (l : List ℕ) : Type 0 where
   pub room : getD l countPlace 0 ≤ mostKept
 
 sized : (l : List ℕ) → isBoard l ≡ true → boardSound (boardIn l) ≡ true → Sized l
-unfolding isBoard boardSound boardIn
+unfolding isBoard boardIn
 sized l board sound =
     let b = and-true-iff (leb boardLength (length l)) (ltb (getD l firstPlace 0) mostKept) .0 board in
-    let e = simp tests at sound in
-    let n = ring-length l (getD l firstPlace 0) (getD l countPlace 0) in
+    let parts = sound-parts (boardIn l) sound in
     record {
-      long = leb-true boardLength (length l) (b .0);
-      place = ltb-true (getD l firstPlace 0) mostKept (b .1);
-      width = e .0 .0 .0 .0;
-      room = rw n at (e .0 .0 .1);
+      long = leb-true _ _ (b .0);
+      place = ltb-true _ _ (b .1);
+      width = parts .width .least;
+      room = rw (ring-length l (getD l firstPlace 0) (getD l countPlace 0)) at (parts .room);
     }
 
 -- what a look at a sound board tells
@@ -107,8 +99,11 @@ module _ {l : List ℕ} {t : ℕ} {r : Look} (k : Looked l t r) where
 
   next-is : wrapped (r .first + r .count) ≡ nextAt l
   next-is =
+      let first = getD l firstPlace 0 in
+      let count = getD l countPlace 0 in
+      let same : first + (count - r .count) + r .count ≡ first + count = omega (arith, few) in
       rw (k .first-is, ← k .count-is)
-      (wrapped-after (getD l firstPlace 0) (getD l countPlace 0) (r .count) (board-sized .place) (board-sized .room) few)
+      (wrapped-on (first + (count - r .count)) (r .count) (omega (arith, board-sized .place, board-sized .room, few)) ∙ ap wrapped same)
 
 -- A call on a sound board
 

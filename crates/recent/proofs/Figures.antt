@@ -1,10 +1,9 @@
--- The figures of entries with one entry more at their end. Assumes nothing.
+-- The figures of entries one after the other, and with one entry more at their end. Assumes nothing.
 use Prim.Native.Nat.{ℕ, _+_, _≤_, max}
 use mathlib.Core.Path.{_≡_}
 use mathlib.Core.Bool.{true}
 use mathlib.Core.List.{List, [], _∷_, _++_}
 use native.Mathlib.Omega.{arith}
-use lib.Dec.{ltb}
 use lib.ListN.{length}
 use borrow.Author.Tests.{lt-ltb}
 use Rattle.model.specs.Answers.{answerOf}
@@ -20,23 +19,34 @@ module _ (w t : ℕ) where
       let h = howMany-most es in
       by-test (counts w t e) (λ f. rw f (omega (arith, h))) (λ f. rw f (omega (arith, h)))
 
-  -- an entry that counts is one more, and its wait may be the longest
-  module _ (d : Entry) (c : counts w t d ≡ true) where
-    pub howMany-snoc : (es : List Entry) → howMany w t (es ++ (d ∷ [])) ≡ howMany w t es + 1
+  -- Two lists of entries
+
+  pub howMany-append : (es ds : List Entry) → howMany w t (es ++ ds) ≡ howMany w t es + howMany w t ds
+  unfolding howMany
+  howMany-append [] ds = omega arith
+  howMany-append (e ∷ es) ds =
+      let h = howMany-append es ds in by-test (counts w t e) (λ f. rw f (omega arith)) (λ f. rw f h)
+
+  pub longest-append : (es ds : List Entry) → longestAt w t (es ++ ds) ≡ max (longestAt w t es) (longestAt w t ds)
+  unfolding longestAt
+  longest-append [] ds = omega arith
+  longest-append (e ∷ es) ds =
+      let h = longest-append es ds in by-test (counts w t e) (λ f. rw f (omega arith)) (λ f. rw f h)
+
+  -- An entry of this time, which counts as a width is not 0
+
+  module _ (p wait : ℕ) (some : 1 ≤ w) where
+    it-counts : counts w t (entryOf t p wait) ≡ true
+    it-counts = lt-ltb t (t + w) (omega arith)
+
+    howMany-one : howMany w t (entryOf t p wait ∷ []) ≡ 1
     unfolding howMany
-    howMany-snoc [] = simp c
-    howMany-snoc (e ∷ es) =
-        by-test (counts w t e) (λ f. rw (f, howMany-snoc es)) (λ f. rw (f, howMany-snoc es))
+    howMany-one = simp it-counts
 
-    pub longest-snoc : (es : List Entry) → longestAt w t (es ++ (d ∷ [])) ≡ max (longestAt w t es) (d .wait)
+    longest-one : longestAt w t (entryOf t p wait ∷ []) ≡ wait
     unfolding longestAt
-    longest-snoc [] = simp c (omega arith)
-    longest-snoc (e ∷ es) =
-        by-test (counts w t e) (λ f. rw (f, longest-snoc es) (omega arith)) (λ f. rw (f, longest-snoc es))
+    longest-one = simp it-counts (omega arith)
 
-  -- one of this time counts, as a width is not 0
-  pub figures-snoc : (p wait : ℕ) → 1 ≤ w → (es : List Entry)
-      → figuresAt w t (es ++ (entryOf t p wait ∷ [])) ≡ answerOf 0 (howMany w t es + 1) (max (longestAt w t es) wait)
-  figures-snoc p wait some es =
-      let c : ltb t (t + w) ≡ true = lt-ltb t (t + w) (omega arith) in
-      rw (howMany-snoc (entryOf t p wait) c es, longest-snoc (entryOf t p wait) c es)
+    pub figures-snoc : (es : List Entry)
+        → figuresAt w t (es ++ (entryOf t p wait ∷ [])) ≡ answerOf 0 (howMany w t es + 1) (max (longestAt w t es) wait)
+    figures-snoc es = rw (howMany-append es (entryOf t p wait ∷ []), longest-append es (entryOf t p wait ∷ []), howMany-one, longest-one)
