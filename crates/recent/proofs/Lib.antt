@@ -8,4 +8,6 @@ pub mod Tellings
 pub mod Expiry
 pub mod Writes
 pub mod Soundness
+pub mod Outcomes
+pub mod Standing
 pub mod Numbers

@@ -2,65 +2,30 @@
 use Prim.Native.Nat.{ℕ, _+_, _-_, _≤_, _<_}
 use mathlib.Core.Path.{_≡_, refl, sym, ap, _∙_}
 use mathlib.Core.Logic.{_≢_}
-use mathlib.Core.Bool.{true, not}
+use mathlib.Core.Bool.{true}
 use mathlib.Core.List.{List, [], _∷_, _++_, append-nil}
 use native.Mathlib.Omega.{arith}
-use lib.Dec.{leb, ltb, eqb}
 use lib.ListN.{length, getD}
 use lib.Seq.{getD-set-same, getD-set-other, lt-length-set}
-use borrow.Author.Tests.{eq-eqb, ne-eqb, eqb-false, leb-true, ltb-true, le-leb, lt-ltb, not-false}
+use borrow.Author.Tests.{eq-eqb, ne-eqb, le-leb}
 use Rattle.model.specs.declared.Answer.{Answer}
-use Rattle.model.specs.Answers.{answerOf, beyond}
-use Rattle.model.proofs.Tests.{by-cond, and-true-iff}
-use Rattle.model.proofs.Lists.{length-over}
-use Rattle.recent.specs.Boards.{Entry, entryOf, Board, boardOf, mostKept, boardSound, widthStands, howMany, counting}
-use Rattle.recent.specs.Boards.{Told, told, keeps, inTime, isProcess, setUpOf, addOf, showOf}
+use Rattle.model.specs.Answers.{answerOf}
+use Rattle.model.proofs.Tests.{by-cond}
+use Rattle.recent.specs.Boards.{Entry, entryOf, boardOf, mostKept, boardSound, widthStands, counting}
+use Rattle.recent.specs.Boards.{Told, told, keeps, setUpOf, addOf, showOf}
 use Rattle.recent.specs.Encodings.{widthPlace, lastPlace, firstPlace, countPlace, boardLength, wrapped, entryAt, ringFrom, boardIn, isBoard}
 use Rattle.recent.specs.Encodings.{LentBoard, boardGave, stillAt, firstAt, nextAt, headed, placed, shown, added, onNumbers}
 use Rattle.recent.specs.Encodings.{emptied, lentSetUp, lentAdd, lentShow}
 use Rattle.recent.specs.Facts.{NumbersFollow}
 use Rattle.recent.proofs.Figures.{howMany-most}
 use Rattle.recent.proofs.Soundness.{sound-parts}
+use Rattle.recent.proofs.Outcomes.{Came, show-came, add-came}
+use Rattle.recent.proofs.Standing.{board-told-iff}
 use Rattle.recent.proofs.Expiry.{counting-last}
 use Rattle.recent.proofs.Places.{wrapped-below, wrapped-on, wrapped-apart, ring-length, ring-none, ring-same, ring-snoc, ring-drop}
-use Rattle.recent.proofs.Writes.{headed-length, headed-other, headed-entry, placed-length, placed-other, placed-elsewhere, placed-there}
+use Rattle.recent.proofs.Writes.{headed-length, headed-other, headed-entry, placed-length, placed-other, placed-elsewhere, placed-there, emptied-length}
 
--- Calls: a refusal leaves the board, and `good` comes of what is accepted
-
-pub data Came (b : Board) (Good : Type 0) (good : Told) : Told → Type 0 where
-  refused : {r : Answer} → r .code ≢ 0 → Came b Good good (told r b)
-  accepted : Good → Came b Good good good
-
--- what has come about, with one fact more
-came-with : {b : Board} {Good More : Type 0} {good r : Told} → More → Came b Good good r → Came b (More × Good) good r
-came-with m (Came.refused n) = Came.refused n
-came-with m (Came.accepted g) = Came.accepted (m, g)
-
-came-in-time : (b : Board) (t : ℕ) {Good : Type 0} {good after : Told} → Came b Good good after
-    → Came b ((boardSound b ≡ true) × Good) good (inTime b t after)
-came-in-time b t {Good} {good} c =
-    by-cond (Came b ((boardSound b ≡ true) × Good) good) (not (boardSound b)) (λ e. Came.refused (λ z. omega arith))
-    (λ e. by-cond (Came b ((boardSound b ≡ true) × Good) good) (ltb t (b .last)) (λ _. Came.refused (λ z. omega arith))
-    (λ _. by-cond (Came b ((boardSound b ≡ true) × Good) good) (beyond t) (λ _. Came.refused (λ z. omega arith))
-    (λ _. came-with (not-false _ e) c)))
-
-pub show-came : (b : Board) (t : ℕ) → Came b ((boardSound b ≡ true) × Unit) (keeps b t []) (showOf b t)
-unfolding showOf
-show-came b t = came-in-time b t (Came.accepted tt)
-
--- there is room
-pub add-came : (b : Board) (t p wait : ℕ)
-    → Came b ((boardSound b ≡ true) × (howMany (b .width) t (b .kept) ≢ mostKept)) (keeps b t (entryOf t p wait ∷ [])) (addOf b t p wait)
-unfolding addOf
-add-came b t p wait =
-    let Room : Type 0 = howMany (b .width) t (b .kept) ≢ mostKept in
-    let good = keeps b t (entryOf t p wait ∷ []) in
-    came-in-time b t
-    (by-cond (Came b Room good) (not (isProcess p)) (λ _. Came.refused (λ z. omega arith))
-    (λ _. by-cond (Came b Room good) (eqb (howMany (b .width) t (b .kept)) mostKept) (λ _. Came.refused (λ z. omega arith))
-    (λ e. Came.accepted (eqb-false _ _ e))))
-
--- The same on numbers
+-- A call on numbers
 
 -- [10.130] what is given back on a list l that tells a board, where r is what is given back on the board
 pub record Follows (r : Told) (g : LentBoard) : Type 0 where
@@ -86,8 +51,7 @@ record Heads (l : List ℕ) (w t k n : ℕ) : Type 0 where
 
 module _ {l : List ℕ} {w t k n : ℕ} (h : Heads l w t k n) where
   heads-board : k < mostKept → isBoard l ≡ true
-  unfolding isBoard
-  heads-board b = rw (h .first, le-leb _ _ (h .fits)) (lt-ltb _ _ b)
+  heads-board b = board-told-iff l .1 (h .fits, omega (arith, h .first))
 
   heads-in : boardIn l ≡ boardOf w t (ringFrom l k n)
   unfolding boardIn
@@ -132,12 +96,10 @@ module _ (l : List ℕ) (t : ℕ) (board : isBoard l ≡ true) (sound : boardSou
   kept = ringFrom l first count
 
   fits : boardLength ≤ length l
-  unfolding isBoard
-  fits = leb-true _ _ (and-true-iff (leb boardLength (length l)) _ .0 board .0)
+  fits = board-told-iff l .0 board .0
 
   first-fits : first < mostKept
-  unfolding isBoard
-  first-fits = ltb-true _ _ (and-true-iff (leb boardLength (length l)) _ .0 board .1)
+  first-fits = board-told-iff l .0 board .1
 
   count-fits : count ≤ mostKept
   unfolding boardIn
@@ -239,7 +201,7 @@ add-follows l t p wait board =
 
 heads-emptied : (w : ℕ) (l : List ℕ) → boardLength ≤ length l → Heads (emptied w l) w 0 0 0
 heads-emptied w l fits = record {
-  fits = omega (arith, length-over (w ∷ 0 ∷ 0 ∷ 0 ∷ []) l (omega arith));
+  fits = omega (arith, emptied-length w l fits);
   width = refl;
   last = refl;
   first = refl;
