@@ -1,0 +1,1 @@
+// What holds of every list of exported calls, whoever makes them, by their contracts; this crate has no code.
