@@ -10,7 +10,7 @@ use Rattle.model.specs.Answers.{answerOf}
 use Rattle.layout.specs.Interface.{Lent, LentSummary, recordGave}
 use Rattle.recent.specs.Encodings.{LentBoard, boardGave}
 use Rattle.recent.specs.Lists.{BoardCall, boardAfter, askedOf, BoardPromise}
-use Rattle.recent.specs.Tellings.{LentTold, toldGave, TellCall, notedOf, Telling}
+use Rattle.recent.specs.Tellings.{LentTold, toldGave, TellCall, notedOf, Telling, tellStart, tellResults, ToldHolds}
 use Rattle.exported.specs.Lending.{Starts, StartsSummary, SetsUp, AddsTo, ShowsOn, TellsTo}
 
 -- The board alone
@@ -59,6 +59,18 @@ EveryTellChain = (k : Parameters) (w : ℕ) (table summary board : List ℕ) (f 
     → f .answer .code ≡ 0 → x .answer .code ≡ 0 → b .answer .code ≡ 0
     → TellChain (startsWith f x b) ds rs → MadeTelling (lastOf itself (startsWith f x b) rs) d r
     → Telling w (notedOf ds rs) d r
+
+-- [10.225] [10.160] and of all calls together demand 3 and the tally: the results are those that `ToldHolds` speaks of
+pub record ToldChain (k : Parameters) (w : ℕ) (table summary board : List ℕ) (ds : List TellCall) (rs : List LentTold) : Type 0 where
+  pub results-are : rs ≡ tellResults (tellStart k w table summary board) ds
+  pub holds : ToldHolds k w table summary board ds
+
+-- [10.225] [10.160]
+abbrev pub EveryToldChain : Type 0
+EveryToldChain = (k : Parameters) (w : ℕ) (table summary board : List ℕ) (f : Lent) (x : LentSummary) (b : LentBoard)
+    (ds : List TellCall) (rs : List LentTold)
+    → Starts k table f → StartsSummary summary x → SetsUp w board b → f .answer .code ≡ 0 → x .answer .code ≡ 0
+    → TellChain (startsWith f x b) ds rs → ToldChain k w table summary board ds rs
 
 -- [10.160] nor are these: every list of calls has a chain
 abbrev pub SomeTellChain : Type 0

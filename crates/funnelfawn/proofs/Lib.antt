@@ -3,3 +3,4 @@ pub mod Loading
 pub mod Saving
 pub mod Storing
 pub mod Lending
+pub mod Telling
