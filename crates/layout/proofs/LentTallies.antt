@@ -32,15 +32,15 @@ use Rattle.layout.proofs.LentLists.{call-in-numbers}
 -- One recorded step
 
 -- a table with its 96 entries and a summary with its 96 try moments
-record BothWhole (r : Recorded) : Type 0 where
-  table : Whole (r .outcome .state)
-  summary : length (r .statistics .tries) ≡ 96
+pub record BothWhole (r : Recorded) : Type 0 where
+  pub table : Whole (r .outcome .state)
+  pub summary : length (r .statistics .tries) ≡ 96
 
 module _ (rest spare : List ℕ) (r : Recorded) (whole : BothWhole r) (e : Event) where
-  abbrev numbers : List ℕ
+  abbrev pub numbers : List ℕ
   numbers = statisticsNumbers (r .statistics) ++ spare
 
-  abbrev call : LentCall
+  abbrev pub call : LentCall
   call = recordCall numbers (e .action) (e .process) (e .time)
 
   -- the numbers are not too few
@@ -55,13 +55,13 @@ module _ (rest spare : List ℕ) (r : Recorded) (whole : BothWhole r) (e : Event
   same-call = rw (enough, summary-comes-back (r .statistics) (whole .summary) spare)
 
   -- it leaves them as many
-  next-whole : BothWhole (recordNext r e)
+  pub next-whole : BothWhole (recordNext r e)
   next-whole = record {
     table = rw (← same-call) (call-whole (r .outcome .state) (whole .table) (callLent call));
     summary = tries-as-long (r .outcome .state) (r .statistics) (e .action) (e .process) (e .time) ∙ whole .summary;
   }
 
-  record-in-numbers : lentCall (stateNumbers (r .outcome .state) ++ rest) call ≡ bothInNumbers rest spare (recordNext r e)
+  pub record-in-numbers : lentCall (stateNumbers (r .outcome .state) ++ rest) call ≡ bothInNumbers rest spare (recordNext r e)
   record-in-numbers =
       let x = recordNext r e .statistics in
       call-in-numbers (r .outcome .state) (whole .table) rest call
@@ -95,7 +95,7 @@ module _ (rest spare : List ℕ) where
 -- From the start, a fresh table with a new summary
 
 module _ (k : Parameters) (table summary : List ℕ) where
-  fresh-in-numbers : {g : Lent} {h : LentSummary} → FreshGiven k table g → NewGiven summary h
+  pub fresh-in-numbers : {g : Lent} {h : LentSummary} → FreshGiven k table g → NewGiven summary h
       → g .answer .code ≡ 0 → h .answer .code ≡ 0
       → recordGave (g .answer) (g .table) (h .summary)
       ≡ bothInNumbers (drop tableLength table) (drop summaryLength summary) (startOf (freshOf k .state))
@@ -104,9 +104,13 @@ module _ (k : Parameters) (table summary : List ℕ) where
   fresh-in-numbers (FreshGiven.made _ _) (NewGiven.made _) e f =
       rw (fresh-is-plain k .answer e, table-length (freshOf k .state) (fresh-is-plain k .fresh e .size), summary-length newStatistics refl)
 
-  fresh-accepted : {g : Lent} → FreshGiven k table g → g .answer .code ≡ 0 → Accepted (freshOf k)
+  pub fresh-accepted : {g : Lent} → FreshGiven k table g → g .answer .code ≡ 0 → Accepted (freshOf k)
   fresh-accepted (FreshGiven.refused n) e = absurd (n e)
   fresh-accepted (FreshGiven.made a _) e = a
+
+-- the start has all its entries and try moments
+pub fresh-whole : (k : Parameters) → Accepted (freshOf k) → BothWhole (startOf (freshOf k .state))
+fresh-whole k e = record { table = fresh-is-plain k .fresh e .size; summary = refl }
 
 pub every-lent-tally : EveryLentTally
 every-lent-tally k table summary es e f =
@@ -115,7 +119,7 @@ every-lent-tally k table summary es e f =
     let s = freshOf k .state in
     let accepted = fresh-accepted k table summary (fresh-given k table) e in
     let start = fresh-in-numbers k table summary (fresh-given k table) (new-given summary) e f in
-    let whole : BothWhole (startOf s) = record { table = fresh-is-plain k .fresh accepted .size; summary = refl } in
+    let whole = fresh-whole k accepted in
     let results-are = ap (λ (g : LentBoth). lentRecords g es) start ∙ records-in-numbers rest spare (startOf s) whole es in
     record {
       results-are = results-are;

@@ -7,6 +7,7 @@ use mathlib.Core.Bool.{true, false≢true}
 use mathlib.Core.List.{List, [], _∷_, map}
 use native.Mathlib.Omega.{arith}
 use lib.ListN.{length}
+use Rattle.model.specs.declared.Location.{Location}
 use Rattle.model.specs.declared.Process.{Process}
 use Rattle.model.specs.declared.Parameters.{Parameters}
 use Rattle.model.specs.declared.State.{State}
@@ -14,13 +15,13 @@ use Rattle.model.specs.declared.Outcome.{Outcome}
 use Rattle.model.specs.declared.Statistics.{Statistics}
 use Rattle.model.specs.declared.Recorded.{Recorded}
 use Rattle.model.specs.Texts.{Event}
-use Rattle.model.specs.Acts.{waitAct}
+use Rattle.model.specs.Acts.{waitAct, critAct}
 use Rattle.model.specs.States.{trying, soundOf, entryOf}
 use Rattle.model.specs.Answers.{stepOf, freshOf}
 use Rattle.model.specs.Facts.{Accepted, IsFresh, IsTrying}
 use Rattle.model.specs.Folds.{endBy, resultsBy, logBy}
-use Rattle.model.specs.Summaries.{newStatistics, triedAt, acceptedCounted, refusedCounted, answerCounted}
-use Rattle.model.specs.Tallies.{Attempt, attempt, attempted, countOf, lastTry, longestWait, criticalCount}
+use Rattle.model.specs.Summaries.{newStatistics, triedAt, waitOf, acceptedCounted, refusedCounted, answerCounted}
+use Rattle.model.specs.Tallies.{Attempt, attempt, attempted, countOf, lastTry, waitAfter, longestWait, criticalCount}
 use Rattle.theory.specs.Acceptance.{Allowed, Changed}
 use Rattle.tallies.specs.Tallies.{recordNext, recordAll, recordsOf, codeOf, Tallied, startOf, EveryTally}
 use Rattle.theory.specs.Summaries.{CountsSound, NotFull}
@@ -41,20 +42,27 @@ use Rattle.tallies.proofs.Countings.{accepted-stands, accepted-tries, a
 -- The invariant
 
 -- the try time of each process that is trying is the time of its last try
-abbrev Tried : List Attempt → State → Statistics → Type 0
+abbrev pub Tried : List Attempt → State → Statistics → Type 0
 Tried log s x = (i : ℕ) → IsTrying s i → triedAt x i ≡ lastTry i log
 
 -- after the steps of a log, with the table s and the summary x; the first four facts keep the answers 1 and 2 away
-record Along (log : List Attempt) (s : State) (x : Statistics) : Type 0 where
-  sound : soundOf s ≡ true
-  size : length (s .processes) ≡ 96
-  stands : CountsSound (x .counts)
-  tries : TriesStand (s .clock) (x .tries)
-  counted : Counted log x
-  tried : Tried log s x
-  balance : x .counts .entries ≡ x .counts .exits + criticalCount (s .processes)
+pub record Along (log : List Attempt) (s : State) (x : Statistics) : Type 0 where
+  pub sound : soundOf s ≡ true
+  pub size : length (s .processes) ≡ 96
+  pub stands : CountsSound (x .counts)
+  pub tries : TriesStand (s .clock) (x .tries)
+  pub counted : Counted log x
+  pub tried : Tried log s x
+  pub balance : x .counts .entries ≡ x .counts .exits + criticalCount (s .processes)
 
 -- A step of the list
+
+-- a crit is of a process that is trying
+crit-tries : {m act : ℕ} {l l′ : Location} → Kind m act l l′ → act ≡ critAct → trying l ≡ true
+crit-tries Kind.try e = absurd (omega arith)
+crit-tries Kind.crit e = refl
+crit-tries Kind.exit e = absurd (omega arith)
+crit-tries (Kind.other h _) e = absurd (h .not-crit e)
 
 module _ {log : List Attempt} {s : State} {x : Statistics} (along : Along log s x) (act p m : ℕ) where
   -- an attempt that is not accepted leaves the last tries as they were
@@ -99,6 +107,10 @@ module _ {log : List Attempt} {s : State} {x : Statistics} (along : Along log s 
     own-before : 1 ≤ p → trying (entryOf s p .location) ≡ true → triedAt x p ≡ lastTry p log
     own-before some e = along .tried p (record { from = some; at = e })
 
+    -- the wait that an accepted crit ends, told by the summary and by the log
+    wait-before : act ≡ critAct → waitOf x p m ≡ waitAfter log p m
+    wait-before e = rw (own-before (named (omega arith)) (crit-tries kind e))
+
     own-after : 1 ≤ p → trying (entryOf s′ p .location) ≡ true
         → triedAt (acceptedCounted x act p m) p ≡ lastTry p (attempt act p m 0 ∷ log)
     own-after some = own-tried log x p m kind (omega (arith, has-place, along .tries .size)) (own-before some)
@@ -123,7 +135,7 @@ module _ {log : List Attempt} {s : State} {x : Statistics} (along : Along log s 
     }
 
   -- after a step with the outcome o and the summary y
-  abbrev Step : Statistics → Outcome → Type 0
+  abbrev pub Step : Statistics → Outcome → Type 0
   Step y o = Along (attempt act p m (o .answer .code) ∷ log) (o .state) y
 
   along-step : NotFull x → Step (answerCounted x (stepOf s act p m .answer .code) act p m) (stepOf s act p m)
@@ -135,12 +147,27 @@ module _ {log : List Attempt} {s : State} {x : Statistics} (along : Along log s 
       (λ n. rw (answer-refused s x act p m n, refused-stays s act p m n)
       (along-refused _ room (step-refuses s act p m (along .sound) n)))
 
-  along-judged : {r : Recorded} → Judged s x act p m r → Step (r .statistics) (r .outcome)
+  pub along-judged : {r : Recorded} → Judged s x act p m r → Step (r .statistics) (r .outcome)
   along-judged (Judged.no-table e) = clash (along .sound) e
   along-judged (Judged.no-summary _ e) =
       clash (summary-sound-iff-plain (s .clock) x .1 (record { counts = along .stands; tries = along .tries .past })) e
   along-judged (Judged.filled _ _ _) = along-filled
   along-judged (Judged.counted o) = along-step (o .not-full)
+
+  -- What a recorded step that is accepted was
+
+  pub recorded-allowed : {r : Recorded} → Judged s x act p m r → r .outcome .answer .code ≡ 0 → Allowed s act p m
+  recorded-allowed (Judged.no-table _) e = absurd (omega arith)
+  recorded-allowed (Judged.no-summary _ _) e = absurd (omega arith)
+  recorded-allowed (Judged.filled _ _ _) e = absurd (omega arith)
+  recorded-allowed (Judged.counted _) e = accepted-iff-allowed s (along .sound) act p m .0 e
+
+  pub recorded-wait : {r : Recorded} → Judged s x act p m r → r .outcome .answer .code ≡ 0 → act ≡ critAct → waitOf x p m ≡ waitAfter log p m
+  recorded-wait (Judged.no-table _) e = absurd (omega arith)
+  recorded-wait (Judged.no-summary _ _) e = absurd (omega arith)
+  recorded-wait (Judged.filled _ _ _) e = absurd (omega arith)
+  recorded-wait (Judged.counted _) e =
+      wait-before (accepted-iff-allowed s (along .sound) act p m .0 e) (next-is-changed s (along .size) act p m e)
 
 -- The list
 
@@ -171,7 +198,7 @@ along-fresh k e =
       );
     }
 
-along-start : {s : State} → IsFresh s → Along [] s newStatistics
+pub along-start : {s : State} → IsFresh s → Along [] s newStatistics
 along-start f = rw (f .is) (along-fresh (f .parameters) (f .accepted))
 
 along-tallied : {log : List Attempt} {r : Recorded} → Along log (r .outcome .state) (r .statistics) → Tallied log r
