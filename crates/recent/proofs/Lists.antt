@@ -1,19 +1,19 @@
 -- Lists of calls on a board: what the board keeps and what the log of the calls tells have the same figures at every time from the last
 -- one told on, since an entry that has expired never counts again. Assumes nothing.
-use Prim.Native.Nat.{ℕ, _+_, _≤_, _<_, max}
-use mathlib.Core.Path.{_≡_, refl, sym, ap, subst, _∙_}
+use Prim.Native.Nat.{ℕ, _+_, _≤_, max}
+use mathlib.Core.Path.{_≡_, refl, ap, subst, _∙_}
 use mathlib.Core.Logic.{_≢_}
 use mathlib.Core.Bool.{Bool, true, false, cond, not, _&&_}
 use mathlib.Core.List.{List, [], _∷_, _++_}
 use native.Mathlib.Omega.{arith}
 use lib.Dec.{ltb, leb, eqb}
 use lib.ListN.{length}
-use borrow.Author.Tests.{lt-ltb, le-ltb, ltb-true, ltb-false, leb-true, leb-false, ne-eqb, eq-eqb, eqb-true, not-true, not-false}
+use borrow.Author.Tests.{le-ltb, ltb-false, leb-true, ne-eqb, not-true}
 use Rattle.model.specs.declared.Answer.{Answer}
 use Rattle.model.specs.Answers.{answerOf, beyond}
 use Rattle.model.specs.Folds.{endBy, resultsBy, logBy}
-use Rattle.model.proofs.Tests.{by-test, by-cond, if-eq, clash}
-use Rattle.recent.specs.Boards.{Entry, entryOf, Board, boardOf, mostKept, inOrder, noneAfter, boardSound, counts, howMany, longestAt}
+use Rattle.model.proofs.Tests.{by-test, by-cond, clash}
+use Rattle.recent.specs.Boards.{Entry, entryOf, Board, mostKept, inOrder, noneAfter, boardSound, counts, howMany, longestAt}
 use Rattle.recent.specs.Boards.{figuresAt, counting, Told, told, setUpOf, keeps, inTime, isProcess, addOf, showOf, widthStands}
 use Rattle.recent.specs.Encodings.{boardLength, boardIn, isBoard, LentBoard, boardGave, lentSetUp, lentAdd, lentShow}
 use Rattle.recent.specs.Looking.{SameFigures}
@@ -209,6 +209,11 @@ module _ (w : ℕ) (n : widthStands w ≡ false) where
 
 -- Lent numbers
 
+-- the list l after the calls of a log
+pub record LentFollows (w : ℕ) (log : List Asked) (l : List ℕ) : Type 0 where
+  pub board : isBoard l ≡ true
+  pub follows : Follows w log (boardIn l)
+
 module _ (plain : BoardSoundIffPlain) (stays : BoardStaysSound) (follow : NumbersFollow) where
   call-sound : (b : Board) (d : BoardCall) → boardSound b ≡ true → boardSound (boardCallOf b d .board) ≡ true
   call-sound b d s =
@@ -229,11 +234,6 @@ module _ (plain : BoardSoundIffPlain) (stays : BoardStaysSound) (follow : Number
       (λ y. let f = follow .add l (d .time) (d .process) (d .wait) e in
       record { answer = rw y (f .0); board = rw y (f .1); told = rw y (f .2) })
       (λ n. let f = follow .show l (d .time) e in record { answer = rw n (f .0); board = rw n (f .1); told = rw n (f .2) })
-
-  -- the list l after the calls of a log
-  pub record LentFollows (w : ℕ) (log : List Asked) (l : List ℕ) : Type 0 where
-    pub board : isBoard l ≡ true
-    pub follows : Follows w log (boardIn l)
 
   module _ {w : ℕ} {log : List Asked} {l : List ℕ} (lent : LentFollows w log l) (d : BoardCall) where
     abbrev called : CallFollows l d

@@ -169,6 +169,22 @@ module _ {log : List Attempt} {s : State} {x : Statistics} (along : Along log s 
   recorded-wait (Judged.counted _) e =
       wait-before (accepted-iff-allowed s (along .sound) act p m .0 e) (next-is-changed s (along .size) act p m e)
 
+  -- Its clock
+
+  pub recorded-clock : {r : Recorded} → Judged s x act p m r → r .outcome .answer .code ≡ 0 → r .outcome .state .clock ≡ m
+  recorded-clock (Judged.no-table _) e = absurd (omega arith)
+  recorded-clock (Judged.no-summary _ _) e = absurd (omega arith)
+  recorded-clock (Judged.filled _ _ _) e = absurd (omega arith)
+  recorded-clock (Judged.counted _) e = next-is-changed s (along .size) act p m e .clock-is
+
+  pub recorded-later : {r : Recorded} → Judged s x act p m r → s .clock ≤ r .outcome .state .clock
+  recorded-later (Judged.no-table _) = omega arith
+  recorded-later (Judged.no-summary _ _) = omega arith
+  recorded-later (Judged.filled _ _ _) = omega arith
+  recorded-later (Judged.counted o) = if-eq (stepOf s act p m .answer .code) 0
+      (λ e. rw (recorded-clock (Judged.counted o) e) (recorded-allowed (Judged.counted o) e .forward))
+      (λ n. rw (refused-stays s act p m n) (omega arith))
+
 -- The list
 
 along-all : (log : List Attempt) (r : Recorded) (es : List Event) → Along log (r .outcome .state) (r .statistics)
