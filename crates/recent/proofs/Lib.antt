@@ -11,3 +11,4 @@ pub mod Soundness
 pub mod Outcomes
 pub mod Standing
 pub mod Numbers
+pub mod ToldLists
