@@ -1,6 +1,6 @@
 -- Lists of calls on a board: what the board keeps and what the log of the calls tells have the same figures at every time from the last
 -- one told on, since an entry that has expired never counts again. Assumes nothing.
-use Prim.Native.Nat.{ℕ, _+_, _≤_, max}
+use Prim.Native.Nat.{ℕ, _+_, _≤_}
 use mathlib.Core.Path.{_≡_, refl, ap, subst, _∙_}
 use mathlib.Core.Logic.{_≢_}
 use mathlib.Core.Bool.{Bool, true, false, cond, not, _&&_}
@@ -19,23 +19,13 @@ use Rattle.recent.specs.Encodings.{boardLength, boardIn, isBoard, LentBo
 use Rattle.recent.specs.Looking.{SameFigures}
 use Rattle.recent.specs.Lists.{BoardCall, lentBoardCall, boardAfter, Asked, asked, askedBy, lastTold, acceptedIn, workedOut}
 use Rattle.recent.specs.Lists.{askedOf, boardResults, boardRun, BoardPromise, EveryBoardList}
-use Rattle.recent.specs.Facts.{SoundBoard, BoardSoundIffPlain, BoardStaysSound, NumbersFollow}
+use Rattle.recent.specs.Facts.{SoundBoard, BoardStaysSound}
+use Rattle.recent.proofs.Figures.{howMany-append, longest-append}
+use Rattle.recent.proofs.Soundness.{board-sound-iff-plain}
+use Rattle.recent.proofs.Numbers.{numbers-follow}
 
--- The figures of two lists of entries
+-- What has expired at a time counts at no later one
 
-pub howMany-append : (w t : ℕ) (es ds : List Entry) → howMany w t (es ++ ds) ≡ howMany w t es + howMany w t ds
-unfolding howMany
-howMany-append w t [] ds = omega arith
-howMany-append w t (e ∷ es) ds =
-    let h = howMany-append w t es ds in by-test (counts w t e) (λ f. rw f (omega arith)) (λ f. rw f h)
-
-pub longest-append : (w t : ℕ) (es ds : List Entry) → longestAt w t (es ++ ds) ≡ max (longestAt w t es) (longestAt w t ds)
-unfolding longestAt
-longest-append w t [] ds = omega arith
-longest-append w t (e ∷ es) ds =
-    let h = longest-append w t es ds in by-test (counts w t e) (λ f. rw f (omega arith)) (λ f. rw f h)
-
--- what has expired at a time counts at no later one
 module _ (w t u : ℕ) (h : t ≤ u) where
   expired-stays : (e : Entry) → counts w t e ≡ false → counts w u e ≡ false
   expired-stays e f = le-ltb u (e .time + w) (omega (arith, ltb-false t (e .time + w) f))
@@ -171,10 +161,10 @@ module _ (w : ℕ) (log : List Asked) (d : BoardCall) where
 
 -- A list that tells no sound board
 
-abbrev Dead : List ℕ → Type 0
+abbrev pub Dead : List ℕ → Type 0
 Dead l = (isBoard l && boardSound (boardIn l)) ≡ false
 
-dead-call : (l : List ℕ) → Dead l → (d : BoardCall) → lentBoardCall l d ≡ boardGave (answerOf 2 0 0) l
+pub dead-call : (l : List ℕ) → Dead l → (d : BoardCall) → lentBoardCall l d ≡ boardGave (answerOf 2 0 0) l
 unfolding lentBoardCall lentAdd lentShow addOf showOf
 dead-call l dead d =
     by-test (isBoard l)
@@ -214,12 +204,12 @@ pub record LentFollows (w : ℕ) (log : List Asked) (l : List ℕ) : Type 0 wher
   pub board : isBoard l ≡ true
   pub follows : Follows w log (boardIn l)
 
-module _ (plain : BoardSoundIffPlain) (stays : BoardStaysSound) (follow : NumbersFollow) where
+module _ (stays : BoardStaysSound) where
   call-sound : (b : Board) (d : BoardCall) → boardSound b ≡ true → boardSound (boardCallOf b d .board) ≡ true
   call-sound b d s =
-      plain (boardCallOf b d .board) .1
-      (by-cond (λ (r : Told). SoundBoard (r .board)) (d .adds) (λ _. stays .add b (d .time) (d .process) (d .wait) (plain b .0 s))
-      (λ _. stays .show b (d .time) (plain b .0 s)))
+      board-sound-iff-plain (boardCallOf b d .board) .1
+      (by-cond (λ (r : Told). SoundBoard (r .board)) (d .adds) (λ _. stays .add b (d .time) (d .process) (d .wait) (board-sound-iff-plain b .0 s))
+      (λ _. stays .show b (d .time) (board-sound-iff-plain b .0 s)))
 
   -- a call on a list that tells a board is the call on that board
   record CallFollows (l : List ℕ) (d : BoardCall) : Type 0 where
@@ -231,9 +221,9 @@ module _ (plain : BoardSoundIffPlain) (stays : BoardStaysSound) (follow : Number
   unfolding lentBoardCall
   call-follows l d e =
       by-test (d .adds)
-      (λ y. let f = follow .add l (d .time) (d .process) (d .wait) e in
+      (λ y. let f = numbers-follow .add l (d .time) (d .process) (d .wait) e in
       record { answer = rw y (f .0); board = rw y (f .1); told = rw y (f .2) })
-      (λ n. let f = follow .show l (d .time) e in record { answer = rw n (f .0); board = rw n (f .1); told = rw n (f .2) })
+      (λ n. let f = numbers-follow .show l (d .time) e in record { answer = rw n (f .0); board = rw n (f .1); told = rw n (f .2) })
 
   module _ {w : ℕ} {log : List Asked} {l : List ℕ} (lent : LentFollows w log l) (d : BoardCall) where
     abbrev called : CallFollows l d
@@ -274,7 +264,7 @@ module _ (plain : BoardSoundIffPlain) (stays : BoardStaysSound) (follow : Number
 
     long-enough : boardLength ≤ length board → SetUpGiven
     long-enough h =
-        let f = follow .set-up w board h in
+        let f = numbers-follow .set-up w board h in
         by-test (widthStands w)
         (λ y. stood (ap (λ (r : Answer). r .code) (f .0) ∙ set-up-accepted w y)
         (record { board = f .2; follows = rw (f .1) (set-up-follows w y) }))

@@ -6,9 +6,9 @@ use mathlib.Core.Logic.{_≢_, ⊎-elim}
 use mathlib.Core.Bool.{true, false, not}
 use mathlib.Core.List.{List, [], _∷_, _++_}
 use native.Mathlib.Omega.{arith}
-use lib.Dec.{ltb, leb, eqb}
-use lib.ListN.{length, drop, length-set}
-use borrow.Author.Tests.{ltb-true, leb-true, le-leb, eqb-true, eqb-false, not-true, not-false}
+use lib.Dec.{ltb, eqb}
+use lib.ListN.{drop}
+use borrow.Author.Tests.{ltb-true, le-leb, eqb-true, not-true}
 use Rattle.model.specs.declared.Parameters.{Parameters}
 use Rattle.model.specs.declared.Answer.{Answer}
 use Rattle.model.specs.declared.Recorded.{Recorded}
@@ -33,59 +33,43 @@ use Rattle.layout.proofs.LentSteps.{fresh-given, new-given}
 use Rattle.layout.proofs.LentTallies.{BothWhole, next-whole, record-in-numbers, fresh-in-numbers, fresh-accepted, fresh-whole}
 use Rattle.recent.specs.Boards.{entryOf, Board, mostKept, boardSound, howMany, isProcess, addOf}
 use Rattle.recent.specs.Boards.{Told, keeps}
-use Rattle.recent.specs.Encodings.{boardIn, isBoard, LentBoard, boardGave, lentSetUp, lentAdd, added}
+use Rattle.recent.specs.Encodings.{boardIn, isBoard, LentBoard, lentSetUp, lentAdd}
 use Rattle.recent.specs.Lists.{BoardCall, lentBoardCall, asked, lastTold, workedOut}
-use Rattle.recent.specs.Facts.{BoardSoundIffPlain, BoardStaysSound, NumbersFollow}
+use Rattle.recent.specs.Facts.{BoardStaysSound}
 use Rattle.recent.specs.Tellings.{LentTold, toldGave, entered, leftAlone, lentTell, Tells, EveryTell}
 use Rattle.recent.specs.Tellings.{TellCall, lentShowing, lentTellCall, Noted, noted, attemptsIn, showing, adding, tellingsIn, entriesIn}
 use Rattle.recent.specs.Tellings.{ShownAt, CritCode, Telling, tellStart, tellResults, tellAll, EveryTelling}
 use Rattle.recent.proofs.Figures.{figures-snoc}
-use Rattle.recent.proofs.Lists.{LentFollows, worked-success, lent-answer, lent-next, set-up-lent}
+use Rattle.recent.proofs.Outcomes.{Came, add-came}
+use Rattle.recent.proofs.Soundness.{sound-parts}
+use Rattle.recent.proofs.Writes.{refused-board-stays, board-writes-its-own}
+use Rattle.recent.proofs.Numbers.{numbers-follow}
+use Rattle.recent.proofs.Lists.{dead-call, LentFollows, worked-success, lent-answer, lent-next, set-up-lent}
 
 -- One adding
 
-sound-width : (b : Board) → boardSound b ≡ true → 1 ≤ b .width
-unfolding boardSound
-sound-width b e = by-test (leb 1 (b .width)) (leb-true _ _) (λ f. clash e (rw f))
+module _ (t p wait : ℕ) where
+  -- a success tells how many count, the new entry among them
+  came-counts : {b : Board} {Good : Type 0} {r : Told} → Came b ((boardSound b ≡ true) × Good) (keeps b t (entryOf t p wait ∷ [])) r
+      → r .answer .code ≡ 0 → 1 ≤ r .answer .process
+  came-counts (Came.refused n) e = absurd (n e)
+  came-counts {b} (Came.accepted (s, _)) e =
+      omega (arith, ap (λ (r : Answer). r .process) (figures-snoc (b .width) t p wait (sound-parts b s .width .least) (b .kept)))
 
-module _ (l : List ℕ) (t p wait : ℕ) where
-  -- an adding is refused, and the list stays; or an entry that counts is written, and the list is as long
-  pub data Added : LentBoard → Type 0 where
-    refused : {r : Answer} → r .code ≢ 0 → Added (boardGave r l)
-    accepted : {r : Answer} → r .code ≡ 0 → 1 ≤ r .process → Added (boardGave r (added l t p wait))
-
-  -- a success tells how many there are, the new entry among them
-  abbrev Counted : Told → Type 0
-  Counted r = r .answer .code ≡ 0 → 1 ≤ r .answer .process
-
-  add-counts : (b : Board) → Counted (addOf b t p wait)
-  unfolding addOf
-  add-counts b =
-      by-cond Counted (not (boardSound b)) (λ _ e. absurd (omega arith))
-      (λ s. by-cond Counted (ltb t (b .last)) (λ _ e. absurd (omega arith))
-      (λ _. by-cond Counted (beyond t) (λ _ e. absurd (omega arith))
-      (λ _. by-cond Counted (not (isProcess p)) (λ _ e. absurd (omega arith))
-      (λ _. by-cond Counted {v = keeps b t (entryOf t p wait ∷ [])} (eqb (howMany (b .width) t (b .kept)) mostKept) (λ _ e. absurd (omega arith))
-      (λ _ _. omega (arith, ap (λ (r : Answer). r .process) (figures-snoc (b .width) t p wait (sound-width b (not-false _ s)) (b .kept))))))))
-
-  pub lent-added : Added (lentAdd l t p wait)
-  unfolding lentAdd
-  lent-added =
-      by-cond Added (not (isBoard l)) (λ _. refused (omega arith))
-      (λ _. by-cond Added (eqb (addOf (boardIn l) t p wait .answer .code) 0)
-      (λ e. accepted (eqb-true _ _ e) (add-counts (boardIn l) (eqb-true _ _ e))) (λ e. refused (eqb-false _ _ e)))
-
-  added-seen : {r : LentBoard} → Added r → r .answer ≢ answerOf 0 0 0
-  added-seen (Added.refused n) e = n (ap (λ (r : Answer). r .code) e)
-  added-seen (Added.accepted _ h) e = omega (arith, ap (λ (r : Answer). r .process) e)
-
-  added-stays : {r : LentBoard} → Added r → r .answer .code ≢ 0 → r .board ≡ l
-  added-stays (Added.refused n) _ = refl
-  added-stays (Added.accepted e _) n = absurd (n e)
-
-  added-length : {r : LentBoard} → Added r → length (r .board) ≡ length l
-  added-length (Added.refused n) = refl
-  added-length (Added.accepted _ _) = simp length-set
+  -- so it is not the answer of a step that tells no entry
+  added-seen : (l : List ℕ) → lentAdd l t p wait .answer ≢ answerOf 0 0 0
+  unfolding lentBoardCall
+  added-seen l e =
+      by-test (isBoard l)
+      (λ b. let f = numbers-follow .add l t p wait b in
+      let g : addOf (boardIn l) t p wait .answer ≡ answerOf 0 0 0 = sym (f .0) ∙ e in
+      omega (
+        arith,
+        ap (λ (r : Answer). r .process) g,
+        came-counts (add-came (boardIn l) t p wait) (ap (λ (r : Answer). r .code) g),
+      ))
+      (λ b. let f = dead-call l (rw b) (record { adds = true; time = t; process = p; wait = wait }) in
+      omega (arith, ap (λ (r : LentBoard). r .answer .code) f, ap (λ (r : Answer). r .code) e))
 
 -- The call
 
@@ -113,14 +97,13 @@ module _ (table summary board : List ℕ) (act p m : ℕ) where
   }
   tells (TellGiven.told e) =
       let wait = waitOf (summaryIn summary) p m in
-      let h = lent-added board m p wait in
       record {
         step = refl;
         alone = λ f. clash e f;
         told = λ _. refl;
-        seen = λ _. added-seen board m p wait h;
-        refused-stays = added-stays board m p wait h;
-        length-stays = added-length board m p wait h;
+        seen = λ _. added-seen m p wait board;
+        refused-stays = refused-board-stays .add board m p wait;
+        length-stays = board-writes-its-own .add-length board m p wait;
       }
 
 pub every-tell : EveryTell
@@ -186,7 +169,7 @@ record TellNext (w : ℕ) (rest spare : List ℕ) (log : List Noted) (d : TellCa
   promise : Telling w log d g
   next : TellsAlong w rest spare (noted d g ∷ log) g
 
-module _ (plain : BoardSoundIffPlain) (stays : BoardStaysSound) (follow : NumbersFollow) where
+module _ (stays : BoardStaysSound) where
   module _ {w : ℕ} {rest spare : List ℕ} {log : List Noted} {g : LentTold} (h : TellsAlong w rest spare log g) (d : TellCall) where
     abbrev Next : LentTold → Type 0
     Next = TellNext w rest spare log d
@@ -198,7 +181,7 @@ module _ (plain : BoardSoundIffPlain) (stays : BoardStaysSound) (follow : Number
     show-next y =
         let c = showing (d .time) in
         let r = lentShowing g (d .time) in
-        let answer = lent-answer plain stays follow (h .board) c in
+        let answer = lent-answer stays (h .board) c in
         let tellings = tellings-shown d r log y in
         record {
           promise = record {
@@ -213,7 +196,7 @@ module _ (plain : BoardSoundIffPlain) (stays : BoardStaysSound) (follow : Number
             table = h .table;
             summary = h .summary;
             along = rw (attempts-shown d r log y) (h .along);
-            board = rw tellings (lent-next plain stays follow (h .board) c);
+            board = rw tellings (lent-next stays (h .board) c);
             last = rw tellings (told-last (noted d r) c (r .told .code) (omega arith) (λ e. ToldBy.by-showing (ShownAt.here y e refl)) (h .last));
           };
         }
@@ -326,7 +309,7 @@ module _ (plain : BoardSoundIffPlain) (stays : BoardStaysSound) (follow : Number
           let c = adding log d in
           let b = lentBoardCall (g .board) c in
           let r = toldGave taken b in
-          let answer = lent-answer plain stays follow (h .board) c in
+          let answer = lent-answer stays (h .board) c in
           let tellings = tellings-told d r log n e in
           let clock = recorded-clock (h .along) (d .action) (d .process) (d .time) judgement was-accepted in
           record {
@@ -336,7 +319,7 @@ module _ (plain : BoardSoundIffPlain) (stays : BoardStaysSound) (follow : Number
               shown = λ y. clash y n;
               figures = λ _ f. answer ∙ worked-success w (tellingsIn log) c (rw (← answer) f) ∙ rw (tellings, f);
             };
-            next = taken-next n b (rw tellings (lent-next plain stays follow (h .board) c))
+            next = taken-next n b (rw tellings (lent-next stays (h .board) c))
                 (rw tellings (told-last (noted d r) c (r .told .code) later (λ _. ToldBy.by-step (omega (arith, clock))) (h .last)));
           }
 
@@ -370,7 +353,7 @@ module _ (plain : BoardSoundIffPlain) (stays : BoardStaysSound) (follow : Number
         table = ap (λ (b : LentBoth). b .table) start;
         summary = ap (λ (b : LentBoth). b .summary) start;
         along = along-start (fresh-is k made);
-        board = set-up-lent plain stays follow w board u;
+        board = set-up-lent stays w board u;
         last = ToldBy.by-step (omega arith);
       }
 
