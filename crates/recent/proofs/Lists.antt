@@ -161,21 +161,21 @@ module _ (w : ℕ) (log : List Asked) (d : BoardCall) where
 
 -- A list that tells no sound board
 
-abbrev pub Dead : List ℕ → Type 0
-Dead l = (isBoard l && boardSound (boardIn l)) ≡ false
+abbrev pub Unsound : List ℕ → Type 0
+Unsound l = (isBoard l && boardSound (boardIn l)) ≡ false
 
-pub dead-call : (l : List ℕ) → Dead l → (d : BoardCall) → lentBoardCall l d ≡ boardGave (answerOf 2 0 0) l
+pub unsound-call : (l : List ℕ) → Unsound l → (d : BoardCall) → lentBoardCall l d ≡ boardGave (answerOf 2 0 0) l
 unfolding lentBoardCall lentAdd lentShow addOf showOf
-dead-call l dead d =
+unsound-call l unsound d =
     by-test (isBoard l)
-    (λ e. let f : boardSound (boardIn l) ≡ false = rw e at dead in by-test (d .adds) (λ g. rw (g, e, f)) (λ g. rw (g, e, f)))
+    (λ e. let f : boardSound (boardIn l) ≡ false = rw e at unsound in by-test (d .adds) (λ g. rw (g, e, f)) (λ g. rw (g, e, f)))
     (λ e. by-test (d .adds) (λ g. rw (g, e)) (λ g. rw (g, e)))
 
-dead-run : (l : List ℕ) → Dead l → (ds : List BoardCall) → endBy lentBoardCall boardAfter l ds ≡ l
+unsound-run : (l : List ℕ) → Unsound l → (ds : List BoardCall) → endBy lentBoardCall boardAfter l ds ≡ l
 unfolding endBy
-dead-run l dead [] = refl
-dead-run l dead (d ∷ ds) =
-    ap (λ (r : LentBoard). endBy lentBoardCall boardAfter (r .board) ds) (dead-call l dead d) ∙ dead-run l dead ds
+unsound-run l unsound [] = refl
+unsound-run l unsound (d ∷ ds) =
+    ap (λ (r : LentBoard). endBy lentBoardCall boardAfter (r .board) ds) (unsound-call l unsound d) ∙ unsound-run l unsound ds
 
 -- Setting up
 
@@ -245,7 +245,7 @@ module _ (stays : BoardStaysSound) where
   follows-all log l [] h = h
   follows-all log l (d ∷ ds) h = follows-all _ (lentBoardCall l d .board) ds (lent-next h d)
 
-  -- Setting up
+  -- A list that was set up
 
   module _ (w : ℕ) (board : List ℕ) where
     abbrev setUp : LentBoard
@@ -253,7 +253,7 @@ module _ (stays : BoardStaysSound) where
 
     data SetUpGiven : Type 0 where
       stood : setUp .answer .code ≡ 0 → LentFollows w [] (setUp .board) → SetUpGiven
-      fell : setUp .answer .code ≢ 0 → Dead (setUp .board) → SetUpGiven
+      fell : setUp .answer .code ≢ 0 → Unsound (setUp .board) → SetUpGiven
 
     -- a list that is too short stays, and tells no board
     too-short : leb boardLength (length board) ≡ false → SetUpGiven
@@ -288,8 +288,8 @@ module _ (stays : BoardStaysSound) where
         refused-stays = λ n. absurd (n e);
       }
   board-promise {w} board ds d (SetUpGiven.fell n h) =
-      let same = dead-run (lentSetUp w board .board) h ds in
-      let gave = dead-call (lentSetUp w board .board) h d in
+      let same = unsound-run (lentSetUp w board .board) h ds in
+      let gave = unsound-call (lentSetUp w board .board) h d in
       record {
         answer = λ e. absurd (n e);
         figures = λ e. absurd (n e);

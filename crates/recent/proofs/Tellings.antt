@@ -44,7 +44,7 @@ use Rattle.recent.proofs.Outcomes.{Came, add-came}
 use Rattle.recent.proofs.Soundness.{sound-parts}
 use Rattle.recent.proofs.Writes.{refused-board-stays, board-writes-its-own}
 use Rattle.recent.proofs.Numbers.{numbers-follow}
-use Rattle.recent.proofs.Lists.{dead-call, LentFollows, worked-success, lent-answer, lent-next, set-up-lent}
+use Rattle.recent.proofs.Lists.{unsound-call, LentFollows, worked-success, lent-answer, lent-next, set-up-lent}
 
 -- One adding
 
@@ -68,7 +68,7 @@ module _ (t p wait : ℕ) where
         ap (λ (r : Answer). r .process) g,
         came-counts (add-came (boardIn l) t p wait) (ap (λ (r : Answer). r .code) g),
       ))
-      (λ b. let f = dead-call l (rw b) (record { adds = true; time = t; process = p; wait = wait }) in
+      (λ b. let f = unsound-call l (rw b) (record { adds = true; time = t; process = p; wait = wait }) in
       omega (arith, ap (λ (r : LentBoard). r .answer .code) f, ap (λ (r : Answer). r .code) e))
 
 -- The call
