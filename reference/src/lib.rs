@@ -2,6 +2,7 @@
 //! It speaks the user's words; each file's first lines name the sections of the specification that it renders.
 
 pub mod answer;
+pub mod board;
 pub mod generator;
 pub mod list;
 pub mod machine;

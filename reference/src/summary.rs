@@ -40,18 +40,24 @@ impl Summary {
         self.accepted + self.refused == SUMMARY_END
     }
 
-    fn count_accepted(&mut self, act: u64, window: u64, moment: u64) {
+    /// Gives back the wait that a crit ends.
+    fn count_accepted(&mut self, act: u64, window: u64, moment: u64) -> Option<u64> {
         self.accepted += 1;
         match act {
             TRY => self.try_moments[window as usize - 1] = moment,
-            CRIT => {
-                self.entries += 1;
-                let tried = std::mem::take(&mut self.try_moments[window as usize - 1]);
-                self.longest_wait = self.longest_wait.max(moment - tried);
-            }
+            CRIT => return Some(self.count_entry(window, moment)),
             EXIT => self.exits += 1,
             _ => {}
         }
+        None
+    }
+
+    /// [5.90] The wait is from the window's try on.
+    fn count_entry(&mut self, window: u64, moment: u64) -> u64 {
+        let wait = moment - std::mem::take(&mut self.try_moments[window as usize - 1]);
+        self.entries += 1;
+        self.longest_wait = self.longest_wait.max(wait);
+        wait
     }
 }
 
@@ -69,19 +75,32 @@ pub fn recorded_step(
     window: u64,
     moment: u64,
 ) -> (Answer, Table) {
+    let (answer, table, _) = waited_step(table, summary, act, window, moment);
+    (answer, table)
+}
+
+/// The same, with the wait that an accepted crit ends.
+pub fn waited_step(
+    table: Table,
+    summary: &mut Summary,
+    act: u64,
+    window: u64,
+    moment: u64,
+) -> (Answer, Table, Option<u64>) {
     if !table.sound() {
-        return (bare(NO_TABLE), table);
+        return (bare(NO_TABLE), table, None);
     }
     if !summary.sound(table.clock) {
-        return (bare(NO_SUMMARY), table);
+        return (bare(NO_SUMMARY), table, None);
     }
     if summary.full() {
-        return (bare(SUMMARY_FULL), table);
+        return (bare(SUMMARY_FULL), table, None);
     }
     if let Some(refusal) = refusal(&table, act, window, moment) {
         summary.refused += 1;
-        return (refusal, table);
+        return (refusal, table, None);
     }
-    summary.count_accepted(act, window, moment);
-    accepted(table, act, window, moment)
+    let wait = summary.count_accepted(act, window, moment);
+    let (answer, table) = accepted(table, act, window, moment);
+    (answer, table, wait)
 }

@@ -1,0 +1,243 @@
+//! The foyer board at its edges, the recorded step that tells it, and, over random calls, the figures from the list of all entries.
+
+use reference::answer::*;
+use reference::board::*;
+use reference::generator::generate;
+use reference::generator::random::Random;
+use reference::machine::*;
+use reference::recording::read;
+use reference::summary::{recorded_step, Summary};
+
+fn board(w: u64) -> Board {
+    set_up(w).1
+}
+
+/// A board that has been told entries of window 1 at these moments, the first with the wait 1, the next with 2.
+fn told(w: u64, moments: &[u64]) -> Board {
+    let mut board = board(w);
+    for (&moment, wait) in moments.iter().zip(1..) {
+        assert_eq!(board.add(moment, 1, wait).number, ACCEPTED);
+    }
+    board
+}
+
+fn figures(count: u64, longest: u64) -> Answer {
+    answer(ACCEPTED, count, longest)
+}
+
+/// A call that is refused, and leaves all as it was.
+fn refused(board: &Board, call: impl Fn(&mut Board) -> Answer) -> Answer {
+    let mut lent = board.clone();
+    let answer = call(&mut lent);
+    assert_ne!(answer.number, ACCEPTED);
+    assert_eq!(lent, *board);
+    answer
+}
+
+#[test]
+fn widths() {
+    for w in [1, 2, W_END] {
+        assert_eq!(set_up(w), (bare(ACCEPTED), Board { w, last: 0, kept: vec![] }));
+    }
+    for w in [0, W_END + 1, u64::MAX] {
+        assert_eq!(set_up(w), (bare(WIDTH), Board { w: 0, last: 0, kept: vec![] }));
+        assert_eq!(refused(&board(w), |board| board.show(0)), bare(NO_SUMMARY));
+        assert_eq!(refused(&board(w), |board| board.add(u64::MAX, 0, 0)), bare(NO_SUMMARY));
+    }
+}
+
+#[test]
+fn an_entry_counts_while_its_moment_is_above_clock_less_w() {
+    for (w, moment) in [(1, 0), (1, 7), (10, 0), (10, 5), (W_END, 0), (W_END, CLOCK_END - W_END)] {
+        let mut board = told(w, &[moment]);
+        assert_eq!(board.show(moment), figures(1, 1));
+        assert_eq!(board.show(moment + w - 1), figures(1, 1));
+        assert_eq!(board.show(moment + w), figures(0, 0));
+        assert_eq!(board, Board { w, last: moment + w, kept: vec![] });
+    }
+}
+
+#[test]
+fn all_count_while_the_clock_is_below_w() {
+    let mut board = told(10, &[0, 0, 3]);
+    assert_eq!(board.show(9), figures(3, 3));
+    assert_eq!(board.show(10), figures(1, 3));
+    let mut late = told(W_END, &[CLOCK_END]);
+    assert_eq!(late.show(CLOCK_END), figures(1, 1));
+}
+
+#[test]
+fn the_longest_is_of_those_that_count() {
+    let mut board = board(10);
+    assert_eq!(board.add(1, 1, u64::MAX), figures(1, u64::MAX));
+    assert_eq!(board.add(5, 2, 7), figures(2, u64::MAX));
+    assert_eq!(board.add(11, 3, 0), figures(2, 7));
+    assert_eq!(board.add(15, 4, 0), figures(2, 0));
+    assert_eq!(board.show(25), figures(0, 0));
+}
+
+#[test]
+fn windows_of_an_entry() {
+    let mut lent = board(10);
+    assert_eq!(lent.add(0, 1, 3), figures(1, 3));
+    assert_eq!(lent.add(0, 96, 3), figures(2, 3));
+    for window in [0, 97, u64::MAX] {
+        assert_eq!(refused(&lent, |board| board.add(20, window, 3)), bare(NO_WINDOW));
+    }
+}
+
+#[test]
+fn a_showing_moves_the_last_moment_told() {
+    let mut board = told(10, &[3]);
+    assert_eq!(board.show(8), figures(1, 1));
+    assert_eq!(board.last, 8);
+    assert_eq!(refused(&board, |board| board.show(7)), answer(BACKWARD, 0, 8));
+    assert_eq!(refused(&board, |board| board.add(7, 1, 0)), answer(BACKWARD, 0, 8));
+    assert_eq!(board.add(8, 1, 0), figures(2, 1));
+}
+
+#[test]
+fn the_order_of_refusals() {
+    let kept = told(10, &[3]);
+    assert_eq!(refused(&kept, |board| board.add(2, 0, 0)), answer(BACKWARD, 0, 3));
+    assert_eq!(refused(&kept, |board| board.add(CLOCK_END + 1, 0, 0)), bare(END_OF_CLOCK));
+    assert_eq!(refused(&kept, |board| board.show(u64::MAX)), bare(END_OF_CLOCK));
+    // nothing is asked of the last moment told but that the entries are not past it
+    let past = Board { last: CLOCK_END + 5, ..kept };
+    assert_eq!(refused(&past, |board| board.show(CLOCK_END + 4)), answer(BACKWARD, 0, CLOCK_END + 5));
+    assert_eq!(refused(&past, |board| board.show(CLOCK_END + 5)), bare(END_OF_CLOCK));
+}
+
+#[test]
+fn a_full_board() {
+    let mut board = told(10, &[5; ROOM]);
+    assert_eq!(refused(&board, |board| board.add(5, 1, 0)), bare(BOARD_FULL));
+    assert_eq!(refused(&board, |board| board.add(14, 97, 0)), bare(NO_WINDOW));
+    assert_eq!(refused(&board, |board| board.add(14, 1, 0)), bare(BOARD_FULL));
+    assert_eq!(board.show(14), figures(1024, 1024));
+    assert_eq!(board.add(15, 2, 3), figures(1, 3));
+    assert_eq!(board.kept, [Entry { moment: 15, window: 2, wait: 3 }]);
+}
+
+#[test]
+fn expired_entries_give_up_their_places_first() {
+    let mut moments = [8; ROOM];
+    moments[..3].copy_from_slice(&[1, 2, 2]);
+    let board = told(10, &moments);
+    assert_eq!(refused(&board, |board| board.add(10, 1, 0)), bare(BOARD_FULL));
+    let added = |moment| board.clone().add(moment, 1, 0);
+    assert_eq!(added(11), figures(1024, 1024));
+    assert_eq!(added(12), figures(1022, 1024));
+    assert_eq!(added(17), figures(1022, 1024));
+    assert_eq!(added(18), figures(1, 0));
+}
+
+#[test]
+fn unsound_boards() {
+    let entries =
+        |moments: &[u64]| moments.iter().map(|&moment| Entry { moment, window: 1, wait: 0 }).collect();
+    let with = |w, last, moments: &[u64]| Board { w, last, kept: entries(moments) };
+    for sound in [with(1, 0, &[0]), with(W_END, 3, &[1, 1, 3]), with(5, u64::MAX, &[0, u64::MAX])] {
+        assert!(sound.sound());
+    }
+    let unsound = [
+        with(0, 3, &[]),
+        with(W_END + 1, 3, &[]),
+        with(u64::MAX, 3, &[]),
+        with(5, 3, &[1, 3, 2]),
+        with(5, 3, &[1, 4]),
+        with(5, 0, &[u64::MAX]),
+        with(5, 3, &[3; ROOM + 1]),
+    ];
+    for board in unsound {
+        assert_eq!(refused(&board, |board| board.add(CLOCK_END, 1, 0)), bare(NO_SUMMARY));
+        assert_eq!(refused(&board, |board| board.add(u64::MAX, 0, 0)), bare(NO_SUMMARY));
+        assert_eq!(refused(&board, |board| board.show(0)), bare(NO_SUMMARY));
+    }
+    let mut odd = Board { w: 5, last: 3, kept: vec![Entry { moment: 3, window: 4_000, wait: u64::MAX }] };
+    assert_eq!(odd.add(4, 1, 0), figures(2, u64::MAX));
+}
+
+/// The figures of entries at a clock, worked out from all of them.
+fn worked_out(all: &[Entry], w: u64, clock: u64) -> Answer {
+    let waits: Vec<u64> =
+        all.iter().filter(|entry| entry.moment + w > clock).map(|entry| entry.wait).collect();
+    figures(waits.len() as u64, waits.iter().copied().max().unwrap_or(0))
+}
+
+/// [10.150] Of lists of calls from setting up on, the successes.
+#[test]
+fn the_figures_are_those_of_all_entries_since_setting_up() {
+    for index in 0..200 {
+        let mut random = Random::new(11, index);
+        let w = random.pick(&[1, 3, 10, 1_000]);
+        let (mut board, mut all, mut clock) = (board(w), Vec::new(), 0);
+        for _ in 0..random.pick(&[10, 100, 2_000]) {
+            let moment = clock + random.pick(&[0, 0, 0, 1, w]);
+            let entry = Entry { moment, window: random.between(0, 97), wait: random.below(1_000) };
+            let adds = random.chance(80);
+            let answer = if adds { board.add(moment, entry.window, entry.wait) } else { board.show(moment) };
+            if answer.number == ACCEPTED {
+                all.extend(adds.then_some(entry));
+                assert_eq!(answer, worked_out(&all, w, moment));
+                clock = moment;
+            }
+        }
+    }
+}
+
+/// [10.205] [10.220] Of generated recordings: the step is the recorded one, and the figures are those of the accepted crits.
+#[test]
+fn the_board_is_told_of_each_accepted_crit() {
+    let mut entered = 0;
+    for recording in (0..400).filter_map(|index| read(&generate(2, index).text).ok()) {
+        let w = 40;
+        let (_, mut table) = fresh(recording.values);
+        let (mut summary, mut plain, mut board) = (Summary::new(), Summary::new(), board(w));
+        let (mut tried, mut all) = ([0; WINDOWS], Vec::new());
+        for step in &recording.steps {
+            let wanted = recorded_step(table, &mut plain, step.act, step.window, step.time);
+            let told;
+            (told, table) =
+                record_and_tell(table, &mut summary, &mut board, step.act, step.window, step.time);
+            assert_eq!((told.step, table, &summary), (wanted.0, wanted.1, &plain));
+            let accepted = told.step.number == ACCEPTED;
+            if accepted && step.act == TRY {
+                tried[step.window as usize - 1] = step.time;
+            }
+            if accepted && step.act == CRIT {
+                let wait = step.time - tried[step.window as usize - 1];
+                all.push(Entry { moment: step.time, window: step.window, wait });
+                assert_eq!(told.board, worked_out(&all, w, step.time));
+                entered += 1;
+            } else {
+                assert_eq!(told.board, bare(ACCEPTED));
+            }
+        }
+    }
+    assert!(entered > 500);
+}
+
+#[test]
+fn the_step_stands_whatever_the_board_answers() {
+    let (_, mut entering) = fresh(Values { n: 2, a: 5, b: 8, c: 12 });
+    (entering.clock, entering.word, entering.places[1]) = (20, 2, Place::Entering(18));
+    let summary = Summary { accepted: 9, try_moments: [3; WINDOWS], ..Summary::new() };
+    let crit = |mut board: Board, window, moment| {
+        let (mut counted, mut alone) = (summary.clone(), summary.clone());
+        let (told, table) = record_and_tell(entering, &mut counted, &mut board, CRIT, window, moment);
+        assert_eq!((told.step, table), recorded_step(entering, &mut alone, CRIT, window, moment));
+        assert_eq!(counted, alone);
+        (told.board, board)
+    };
+    let (answer_of_new, left) = crit(board(10), 2, 21);
+    assert_eq!((answer_of_new, left.kept), (figures(1, 18), vec![Entry { moment: 21, window: 2, wait: 18 }]));
+    let shown = Board { last: 22, ..board(10) };
+    assert_eq!(crit(shown.clone(), 2, 21), (answer(BACKWARD, 0, 22), shown));
+    let full = told(10, &[20; ROOM]);
+    assert_eq!(crit(full.clone(), 2, 21), (bare(BOARD_FULL), full));
+    assert_eq!(crit(board(0), 2, 21), (bare(NO_SUMMARY), board(0)));
+    // out of place, and too late: nobody is let in
+    assert_eq!(crit(board(10), 1, 21), (bare(ACCEPTED), board(10)));
+    assert_eq!(crit(board(10), 2, 24), (bare(ACCEPTED), board(10)));
+}
