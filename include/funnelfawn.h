@@ -11,7 +11,8 @@
  *   leads to that many elements (with a count of 0 nothing is read through it, and it may be null); lists that are lent to one call do not
  *   overlap; and nobody else touches them during the call. So one table is for one thread at a time; two tables have nothing in common.
  *   Elements past those that a call speaks of stay as they are. A call that is refused leaves all that was lent as it was, but for the
- *   count of refused acts in a lent summary, which 4 to 10 raise by one [9.120].
+ *   count of refused acts in a lent summary, which 4 to 10 raise by one [9.120], and for a board that is not set up, 17, whose list then
+ *   holds one that no call accepts [10.65].
  *
  * Time is counted in whole microseconds, from 0 to 1,000,000,000,000. */
 #ifndef FUNNELFAWN_H
@@ -86,6 +87,31 @@ enum {
     FUNNELFAWN_SUMMARY_LENGTH = FUNNELFAWN_AT_TRIES + FUNNELFAWN_WINDOWS
 };
 
+/* Boards: section 10 of the specification
+ *
+ * A board tells how many windows were let in during the last W microseconds, and the longest wait among them. It is lent as
+ * FUNNELFAWN_BOARD_LENGTH numbers [10.110]: W, the last moment that it was told, the place of the first entry that it keeps, from 0, and
+ * how many it keeps; and then for each of FUNNELFAWN_BOARD_PLACES places an entry's moment, window and wait, those of place k from
+ * FUNNELFAWN_BOARD_HEADER_LENGTH + FUNNELFAWN_BOARD_STRIDE * k on. The places are a ring: the kept entries stand one behind the other from
+ * the first on, and place 0 comes after the last place; what stands at the others is of no account [10.115].
+ *
+ * An entry counts at a clock while its moment + W is above it [10.40]; one that no longer does has expired, and gives up its place to the
+ * next. A board is sound when W is 1 to 1,000,000,000, it keeps FUNNELFAWN_BOARD_PLACES entries at most, their moments do not fall, and
+ * none is after the last moment told [10.30]. Nothing is asked of a wait, nor of a window that is kept [10.35].
+ *
+ * From funnelfawn_set_up_board on, handed on as each call left it, a board's figures are those of all the entries that it accepted since
+ * [10.150]. As with tables, an older copy is not found. */
+enum {
+    FUNNELFAWN_AT_WIDTH,
+    FUNNELFAWN_AT_LAST_TOLD,
+    FUNNELFAWN_AT_FIRST_KEPT,
+    FUNNELFAWN_AT_KEPT,
+    FUNNELFAWN_BOARD_HEADER_LENGTH,
+    FUNNELFAWN_BOARD_STRIDE = 3,
+    FUNNELFAWN_BOARD_PLACES = 1024,
+    FUNNELFAWN_BOARD_LENGTH = FUNNELFAWN_BOARD_HEADER_LENGTH + FUNNELFAWN_BOARD_STRIDE * FUNNELFAWN_BOARD_PLACES
+};
+
 /* Acts, [3.0] to [3.8]: the place that each leaves, and what it does. A window arrives in a timed place at the act's moment, anew also
  * where it stays in testing. */
 enum funnelfawn_act {
@@ -100,7 +126,7 @@ enum funnelfawn_act {
     FUNNELFAWN_ACT_REM    /* leaving: to remainder */
 };
 
-/* Answers, [4.0] to [4.16]: a number, with a window and a moment. Where these two are said below, in this order, they are in the answer;
+/* Answers, [4.0] to [4.18]: a number, with a window and a moment. Where these two are said below, in this order, they are in the answer;
  * else 0. */
 struct funnelfawn_answer {
     uint64_t number;
@@ -111,12 +137,14 @@ struct funnelfawn_answer {
 enum funnelfawn_number {
     FUNNELFAWN_OK = 0,                    /* accepted, or done: each function says what stands beside it */
     FUNNELFAWN_REFUSED_NO_TABLE = 1,      /* the numbers are those of no sound table, or too few */
-    FUNNELFAWN_REFUSED_NO_SUMMARY = 2,    /* the summary is not sound, or has too few numbers */
+    FUNNELFAWN_REFUSED_NO_SUMMARY = 2,    /* the summary, or the board, is not sound, or has too few numbers */
     FUNNELFAWN_REFUSED_SUMMARY_FULL = 3,  /* accepted + refused is 1,000,000,000,000 */
-    FUNNELFAWN_REFUSED_BACKWARD = 4,      /* the moment is before the clock: 0, the clock */
+    FUNNELFAWN_REFUSED_BACKWARD = 4,      /* the moment is before the clock: 0, the clock; of a board, before the last moment that it was
+                                             told: 0, that moment */
     FUNNELFAWN_REFUSED_END_OF_CLOCK = 5,  /* the moment is above 1,000,000,000,000 */
     FUNNELFAWN_REFUSED_NO_ACT = 6,        /* there is no such act */
-    FUNNELFAWN_REFUSED_NO_WINDOW = 7,     /* a wait whose window is not 0, or another act whose window is none of 1 to n */
+    FUNNELFAWN_REFUSED_NO_WINDOW = 7,     /* a wait whose window is not 0, or another act whose window is none of 1 to n; an entry for a
+                                             board whose window is none of 1 to 96 */
     FUNNELFAWN_REFUSED_LATE = 8,          /* the latest moment of some window, any at all, is before the moment: the smallest such
                                              latest moment, with the lowest window that has it: the window, that moment */
     FUNNELFAWN_REFUSED_OUT_OF_PLACE = 9,  /* the window is not in the place that the act leaves: the window, 0 */
@@ -127,7 +155,9 @@ enum funnelfawn_number {
     FUNNELFAWN_REFUSED_LINE = 14,         /* line 2 lacks its form or is absent, or a step lacks its form; writing: a step has no form:
                                              0, its line */
     FUNNELFAWN_REFUSED_LENGTH = 15,       /* the text is longer than 65,536 bytes */
-    FUNNELFAWN_REFUSED_SHORT_OUTPUT = 16  /* a list that is only an output is too short */
+    FUNNELFAWN_REFUSED_SHORT_OUTPUT = 16, /* a list that is only an output is too short */
+    FUNNELFAWN_REFUSED_WIDTH = 17,        /* the W of a board is outside 1 to 1,000,000,000 */
+    FUNNELFAWN_REFUSED_BOARD_FULL = 18    /* FUNNELFAWN_BOARD_PLACES entries of the board still count */
 };
 
 /* [9.50] A fresh table of n windows with the limits a, b, c: all in remainder, clock 0, word 0.
@@ -152,6 +182,38 @@ struct funnelfawn_answer funnelfawn_new_summary(uint64_t *summary, size_t summar
 struct funnelfawn_answer funnelfawn_record(uint64_t *FUNNELFAWN_RESTRICT table, size_t table_length,
                                            uint64_t *FUNNELFAWN_RESTRICT summary, size_t summary_length, uint64_t act, uint64_t window,
                                            uint64_t moment);
+
+/* [10.60] A new board: it keeps no entry, and has been told the moment 0. Only its first four numbers are written [10.130].
+ *   0, 0, 0; or 17, and then W is 0 and every call on the list is answered 2 until it is set up anew, so that an older board in it does not
+ *   live on [10.65]. A list that is too short stays as it was, with 17 or else 16. */
+struct funnelfawn_answer funnelfawn_set_up_board(uint64_t w, uint64_t *board, size_t board_length);
+
+/* [10.70] An entry more, which becomes the last moment told; what has expired by then gives up its place first.
+ *   0, how many entries count, this one included, and the longest wait among them: these two stand where an answer has its window and its
+ *   moment. The last moment told, the first place, the count and the entry's own place are written, and no other number [10.140].
+ *   Or the first of 2, 4, 5, 7, 18 whose condition holds, in this order [10.90]. funnelfawn_record_and_tell makes this call by itself. */
+struct funnelfawn_answer funnelfawn_add_to_board(uint64_t *board, size_t board_length, uint64_t moment, uint64_t window, uint64_t wait);
+
+/* [10.80] The figures at a clock, which becomes the last moment told: a later entry must not be before it.
+ *   0, how many entries count, and the longest wait among them, 0 if none does, as above; the last moment told, the first place and the
+ *   count are written. Or the first of 2, 4, 5 whose condition holds. */
+struct funnelfawn_answer funnelfawn_show_board(uint64_t *board, size_t board_length, uint64_t clock);
+
+/* The two answers of the next function. */
+struct funnelfawn_told {
+    struct funnelfawn_answer step;
+    struct funnelfawn_answer board;
+};
+
+/* [10.200] The act of funnelfawn_record; and with an accepted crit the entry of funnelfawn_add_to_board, which has the act's moment and
+ * window, and the wait that the summary counts.
+ *   Look at both answers. The step stands whatever the board answers, which is 0, 0, 0 where no crit was accepted and the board was left
+ *   alone [10.205]. From a fresh table, a new summary and a new board on, the board refuses an accepted crit in two cases alone: with 18,
+ *   and with 4 where it was shown at a clock past the crit's moment [10.230]; the entry is then missing from the board. */
+struct funnelfawn_told funnelfawn_record_and_tell(uint64_t *FUNNELFAWN_RESTRICT table, size_t table_length,
+                                                  uint64_t *FUNNELFAWN_RESTRICT summary, size_t summary_length,
+                                                  uint64_t *FUNNELFAWN_RESTRICT board, size_t board_length, uint64_t act, uint64_t window,
+                                                  uint64_t moment);
 
 /* Recordings, section 6 of the specification: text of at most FUNNELFAWN_MOST_TEXT bytes, of at most FUNNELFAWN_MOST_STEPS steps, and its
  * steps in three lists. */

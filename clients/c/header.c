@@ -21,6 +21,7 @@ static void check(int holds, int line)
 
 static uint64_t table[FUNNELFAWN_TABLE_LENGTH];
 static uint64_t summary[FUNNELFAWN_SUMMARY_LENGTH];
+static uint64_t board[FUNNELFAWN_BOARD_LENGTH];
 static uint8_t text[FUNNELFAWN_MOST_TEXT + 1];
 static uint8_t report[FUNNELFAWN_MOST_REPORT];
 static uint64_t moments[FUNNELFAWN_MOST_STEPS], windows[FUNNELFAWN_MOST_STEPS], acts[FUNNELFAWN_MOST_STEPS];
@@ -33,6 +34,27 @@ static uint64_t step(uint64_t act, uint64_t window, uint64_t moment)
 static uint64_t record(uint64_t act, uint64_t window, uint64_t moment)
 {
     return funnelfawn_record(table, FUNNELFAWN_TABLE_LENGTH, summary, FUNNELFAWN_SUMMARY_LENGTH, act, window, moment).number;
+}
+
+static struct funnelfawn_answer add(uint64_t moment, uint64_t window, uint64_t wait)
+{
+    return funnelfawn_add_to_board(board, FUNNELFAWN_BOARD_LENGTH, moment, window, wait);
+}
+
+static struct funnelfawn_answer show(uint64_t clock)
+{
+    return funnelfawn_show_board(board, FUNNELFAWN_BOARD_LENGTH, clock);
+}
+
+static struct funnelfawn_told tell(uint64_t act, uint64_t window, uint64_t moment)
+{
+    return funnelfawn_record_and_tell(table, FUNNELFAWN_TABLE_LENGTH, summary, FUNNELFAWN_SUMMARY_LENGTH, board, FUNNELFAWN_BOARD_LENGTH,
+                                      act, window, moment);
+}
+
+static int says(struct funnelfawn_answer answer, uint64_t number, uint64_t window, uint64_t moment)
+{
+    return answer.number == number && answer.window == window && answer.moment == moment;
 }
 
 /* The bytes start as told. */
@@ -117,6 +139,88 @@ static void lengths(void)
     CHECK(funnelfawn_record(table, FUNNELFAWN_TABLE_LENGTH, NULL, 0, 0, 0, 0).number == FUNNELFAWN_REFUSED_NO_SUMMARY);
 }
 
+/* The place k of the board holds this entry. */
+static int stands(size_t k, uint64_t moment, uint64_t window, uint64_t wait)
+{
+    const uint64_t *entry = board + FUNNELFAWN_BOARD_HEADER_LENGTH + FUNNELFAWN_BOARD_STRIDE * k;
+
+    return entry[0] == moment && entry[1] == window && entry[2] == wait;
+}
+
+/* The first numbers of the board are these. */
+static int heads(uint64_t width, uint64_t last, uint64_t first, uint64_t kept)
+{
+    return board[FUNNELFAWN_AT_WIDTH] == width && board[FUNNELFAWN_AT_LAST_TOLD] == last && board[FUNNELFAWN_AT_FIRST_KEPT] == first &&
+           board[FUNNELFAWN_AT_KEPT] == kept;
+}
+
+/* A board is filled, and its ring goes round. */
+static void ring(void)
+{
+    const size_t last = FUNNELFAWN_BOARD_PLACES - 1;
+    uint64_t kept = 1;
+
+    CHECK(says(funnelfawn_set_up_board(10, board, FUNNELFAWN_BOARD_LENGTH), FUNNELFAWN_OK, 0, 0) && heads(10, 0, 0, 0));
+    CHECK(says(add(5, 96, 7), FUNNELFAWN_OK, 1, 7) && heads(10, 5, 0, 1) && stands(0, 5, 96, 7));
+    while (kept < FUNNELFAWN_BOARD_PLACES && says(add(6, 1, 3), FUNNELFAWN_OK, kept + 1, 7))
+        kept++;
+    CHECK(heads(10, 6, 0, FUNNELFAWN_BOARD_PLACES) && stands(last, 6, 1, 3));
+    CHECK(FUNNELFAWN_BOARD_HEADER_LENGTH + FUNNELFAWN_BOARD_STRIDE * (last + 1) == FUNNELFAWN_BOARD_LENGTH);
+    CHECK(says(add(14, 2, 4), FUNNELFAWN_REFUSED_BOARD_FULL, 0, 0) && heads(10, 6, 0, FUNNELFAWN_BOARD_PLACES));
+    /* the first has expired: place 0 comes after the last */
+    CHECK(says(add(15, 2, 4), FUNNELFAWN_OK, FUNNELFAWN_BOARD_PLACES, 4));
+    CHECK(heads(10, 15, 1, FUNNELFAWN_BOARD_PLACES) && stands(0, 15, 2, 4));
+    CHECK(says(show(16), FUNNELFAWN_OK, 1, 4) && heads(10, 16, 0, 1));
+    CHECK(says(show(25), FUNNELFAWN_OK, 0, 0) && heads(10, 25, 1, 0));
+}
+
+/* The refusals of a board, and what stands beside each. */
+static void board_refusals(void)
+{
+    CHECK(says(funnelfawn_set_up_board(UINT64_C(1000000000), board, FUNNELFAWN_BOARD_LENGTH), FUNNELFAWN_OK, 0, 0));
+    CHECK(says(show(20), FUNNELFAWN_OK, 0, 0));
+    CHECK(says(add(19, 1, 0), FUNNELFAWN_REFUSED_BACKWARD, 0, 20) && says(show(19), FUNNELFAWN_REFUSED_BACKWARD, 0, 20));
+    CHECK(says(add(UINT64_C(1000000000001), 1, 0), FUNNELFAWN_REFUSED_END_OF_CLOCK, 0, 0));
+    CHECK(says(show(UINT64_C(1000000000001)), FUNNELFAWN_REFUSED_END_OF_CLOCK, 0, 0));
+    CHECK(says(add(20, 0, 0), FUNNELFAWN_REFUSED_NO_WINDOW, 0, 0) && says(add(20, 97, 0), FUNNELFAWN_REFUSED_NO_WINDOW, 0, 0));
+    board[FUNNELFAWN_AT_KEPT] = FUNNELFAWN_BOARD_PLACES + 1;
+    CHECK(says(show(20), FUNNELFAWN_REFUSED_NO_SUMMARY, 0, 0));
+    board[FUNNELFAWN_AT_KEPT] = 0, board[FUNNELFAWN_AT_FIRST_KEPT] = FUNNELFAWN_BOARD_PLACES;
+    CHECK(says(show(20), FUNNELFAWN_REFUSED_NO_SUMMARY, 0, 0));
+    board[FUNNELFAWN_AT_FIRST_KEPT] = 0;
+    CHECK(says(show(20), FUNNELFAWN_OK, 0, 0));
+    /* a board that is not set up does not leave the older one */
+    CHECK(says(funnelfawn_set_up_board(UINT64_C(1000000001), board, FUNNELFAWN_BOARD_LENGTH), FUNNELFAWN_REFUSED_WIDTH, 0, 0));
+    CHECK(heads(0, 0, 0, 0) && says(add(20, 1, 0), FUNNELFAWN_REFUSED_NO_SUMMARY, 0, 0));
+    CHECK(says(funnelfawn_set_up_board(0, NULL, 0), FUNNELFAWN_REFUSED_WIDTH, 0, 0));
+    CHECK(says(funnelfawn_set_up_board(1, board, FUNNELFAWN_BOARD_LENGTH - 1), FUNNELFAWN_REFUSED_SHORT_OUTPUT, 0, 0));
+    CHECK(funnelfawn_set_up_board(1, board, FUNNELFAWN_BOARD_LENGTH).number == FUNNELFAWN_OK);
+    CHECK(says(funnelfawn_show_board(board, FUNNELFAWN_BOARD_LENGTH - 1, 0), FUNNELFAWN_REFUSED_NO_SUMMARY, 0, 0));
+    CHECK(says(funnelfawn_add_to_board(NULL, 0, 0, 1, 0), FUNNELFAWN_REFUSED_NO_SUMMARY, 0, 0));
+}
+
+/* The recorded step tells the board of an accepted crit, and of nothing else; it stands where the board refuses. */
+static void tellings(void)
+{
+    struct funnelfawn_told told;
+
+    start();
+    CHECK(funnelfawn_set_up_board(30, board, FUNNELFAWN_BOARD_LENGTH).number == FUNNELFAWN_OK);
+    told = tell(FUNNELFAWN_ACT_TRY, 3, 2);
+    CHECK(says(told.step, FUNNELFAWN_OK, 0, 2) && says(told.board, FUNNELFAWN_OK, 0, 0) && heads(30, 0, 0, 0));
+    tell(FUNNELFAWN_ACT_TEST, 3, 3), tell(FUNNELFAWN_ACT_SET, 3, 4), tell(FUNNELFAWN_ACT_CHECK, 3, 12);
+    told = tell(FUNNELFAWN_ACT_CRIT, 3, 18);
+    CHECK(says(told.step, FUNNELFAWN_REFUSED_LATE, 3, 17) && says(told.board, FUNNELFAWN_OK, 0, 0) && heads(30, 0, 0, 0));
+    told = tell(FUNNELFAWN_ACT_CRIT, 3, 13);
+    CHECK(says(told.step, FUNNELFAWN_OK, 3, 13) && says(told.board, FUNNELFAWN_OK, 1, 11));
+    CHECK(heads(30, 13, 0, 1) && stands(0, 13, 3, 11) && summary[FUNNELFAWN_AT_LONGEST_WAIT] == 11);
+    tell(FUNNELFAWN_ACT_EXIT, 3, 14), tell(FUNNELFAWN_ACT_RESET, 3, 15), tell(FUNNELFAWN_ACT_REM, 3, 16);
+    tell(FUNNELFAWN_ACT_TRY, 4, 17), tell(FUNNELFAWN_ACT_TEST, 4, 18), tell(FUNNELFAWN_ACT_SET, 4, 19), tell(FUNNELFAWN_ACT_CHECK, 4, 27);
+    CHECK(says(show(30), FUNNELFAWN_OK, 1, 11));
+    told = tell(FUNNELFAWN_ACT_CRIT, 4, 28);
+    CHECK(says(told.step, FUNNELFAWN_OK, 4, 28) && says(told.board, FUNNELFAWN_REFUSED_BACKWARD, 0, 30) && heads(30, 30, 0, 1));
+}
+
 /* The longest recording there is, written, read and replayed in the room that the header tells. */
 static void recordings(void)
 {
@@ -151,6 +255,9 @@ int main(void)
     round_of_96();
     refusals();
     lengths();
+    ring();
+    board_refusals();
+    tellings();
     recordings();
     printf("%u checks of the header, %u failed\n", checks, failures);
     return failures != 0;

@@ -3,7 +3,7 @@
 use reference::generator::random::Random;
 use reference::generator::walk::Walk;
 use reference::list::number_of;
-use reference::machine::{Table, CLOCK_END, LIMIT_END};
+use reference::machine::{Place, Table, CLOCK_END, CRIT, LIMIT_END};
 
 /// Act, window and moment.
 pub fn act(random: &mut Random, table: &Table) -> [u64; 3] {
@@ -26,6 +26,15 @@ fn last_window(table: &Table) -> [u64; 3] {
     let n = table.values.n;
     let moment = table.earliest(n).unwrap_or(0).max(table.clock);
     [number_of(table.place(n)) + 1, n, moment]
+}
+
+/// As `act`, but the crit of a window that may enter comes more often.
+pub fn act_or_crit(random: &mut Random, table: &Table) -> [u64; 3] {
+    let entering = |&window: &u64| matches!(table.place(window), Place::Entering(_));
+    match (1..=table.values.n).find(entering).filter(|_| random.chance(60)) {
+        Some(window) => [CRIT, window, table.clock],
+        None => act(random, table),
+    }
 }
 
 /// The edges of the specification's rules, and those of smaller numbers than 64 bits hold.

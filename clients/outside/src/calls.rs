@@ -3,6 +3,7 @@
 use crate::lent::Lent;
 use funnelfawn::raw;
 use reference::answer::Answer;
+use reference::board::Told;
 use reference::machine::Values;
 
 /// Behind every list that is lent.
@@ -60,6 +61,38 @@ pub fn record(
     let (mut table, mut summary) = (Lent::new(table, GUARD), Lent::new(summary, GUARD));
     let got = raw::record(table.list(), summary.list(), act, window, moment);
     held(got, wanted.0, [("table", &table, wanted.1), ("summary", &summary, wanted.2)])
+}
+
+pub fn set_up_board(w: u64, board: &[u64], wanted: (Answer, &[u64])) -> Verdict {
+    let mut lent = Lent::new(board, GUARD);
+    let got = raw::set_up_board(w, lent.list());
+    held(got, wanted.0, [("board", &lent, wanted.1)])
+}
+
+pub fn add_to_board(board: &[u64], [moment, window, wait]: [u64; 3], wanted: (Answer, &[u64])) -> Verdict {
+    let mut lent = Lent::new(board, GUARD);
+    let got = raw::add_to_board(lent.list(), moment, window, wait);
+    held(got, wanted.0, [("board", &lent, wanted.1)])
+}
+
+pub fn show_board(board: &[u64], clock: u64, wanted: (Answer, &[u64])) -> Verdict {
+    let mut lent = Lent::new(board, GUARD);
+    let got = raw::show_board(lent.list(), clock);
+    held(got, wanted.0, [("board", &lent, wanted.1)])
+}
+
+/// The three lists are table, summary, board.
+pub fn record_and_tell(
+    lists: [&[u64]; 3],
+    [act, window, moment]: [u64; 3],
+    wanted: (Told, [&[u64]; 3]),
+) -> Verdict {
+    let [mut table, mut summary, mut board] = lists.map(|list| Lent::new(list, GUARD));
+    let got = raw::record_and_tell(table.list(), summary.list(), board.list(), act, window, moment);
+    let (answers, after) = wanted;
+    let lists = [("table", &table, after[0]), ("summary", &summary, after[1]), ("board", &board, after[2])];
+    held(got.step, answers.step, lists)?;
+    same_answer(got.board, answers.board).map_err(|what| format!("of the board, {what}"))
 }
 
 /// The three lists are times, windows, acts.

@@ -1,6 +1,7 @@
-//! Tables and summaries of the reference as the numbers of include/funnelfawn.h, and back.
+//! Tables, summaries and boards of the reference as the numbers of include/funnelfawn.h, and back.
 
-use funnelfawn::raw::{HEADER, STRIDE, SUMMARY, TABLE, TRIES};
+use funnelfawn::raw::{BOARD, BOARD_HEADER, BOARD_STRIDE, HEADER, PLACES, STRIDE, SUMMARY, TABLE, TRIES};
+use reference::board::{Board, Entry};
 use reference::list::number_of;
 use reference::machine::{Place, Table, Values, WINDOWS};
 use reference::summary::Summary;
@@ -66,4 +67,36 @@ pub fn summary_numbers(summary: &Summary) -> Vec<u64> {
     let mut numbers = vec![0; SUMMARY];
     store_summary(summary, &mut numbers);
     numbers
+}
+
+/// The board that a list starts with, if it is long enough and its numbers tell one, sound or not. Of more entries than there are places
+/// one too many is enough: the board is not sound.
+pub fn board_in(numbers: &[u64]) -> Option<Board> {
+    let &[w, last, first, count, ..] = numbers.get(..BOARD)? else { return None };
+    let first = usize::try_from(first).ok().filter(|&first| first < PLACES)?;
+    let count = count.min(PLACES as u64 + 1) as usize;
+    let kept = (first..first + count).map(|place| entry_in(&numbers[entry_at(place)])).collect();
+    Some(Board { w, last, kept })
+}
+
+/// Where the numbers of a place stand. The places are a ring: after the last comes place 0 [10.115].
+pub fn entry_at(place: usize) -> std::ops::Range<usize> {
+    let start = BOARD_HEADER + BOARD_STRIDE * (place % PLACES);
+    start..start + BOARD_STRIDE
+}
+
+fn entry_in(numbers: &[u64]) -> Entry {
+    Entry { moment: numbers[0], window: numbers[1], wait: numbers[2] }
+}
+
+/// Over the numbers of the board that an accepted call found, what it writes [10.140]; the board is as it left it. Kept entries stay at
+/// their places, and where it adds one, that stands behind all that were kept before.
+pub fn store_told(board: &Board, adds: bool, numbers: &mut [u64]) {
+    let (first, found, kept) = (numbers[2] as usize, numbers[3] as usize, board.kept.len());
+    let expired = found + usize::from(adds) - kept;
+    if let Some(&Entry { moment, window, wait }) = board.kept.last().filter(|_| adds) {
+        numbers[entry_at(first + found)].copy_from_slice(&[moment, window, wait]);
+    }
+    let first = (first + expired) % PLACES;
+    numbers[1..BOARD_HEADER].copy_from_slice(&[board.last, first as u64, kept as u64]);
 }

@@ -1,8 +1,9 @@
 //! What the functions of include/funnelfawn.h have to give back and leave in the lent lists, worked out from the reference.
 
 use crate::encoding::*;
-use funnelfawn::raw::{SUMMARY, TABLE};
+use funnelfawn::raw::{BOARD, BOARD_HEADER, SUMMARY, TABLE};
 use reference::answer::*;
+use reference::board::{self, Board, Told};
 use reference::machine::{self, Table, Values};
 use reference::replay;
 use reference::summary::{recorded_step, Summary};
@@ -43,6 +44,64 @@ pub fn record(table: &mut [u64], summary: &mut [u64], act: u64, window: u64, mom
     store_table(&after, table);
     store_summary(&counted, summary);
     answer
+}
+
+/// Nothing but the first four numbers is written, and with 17 too. The board is only an output: 16 comes last.
+pub fn set_up_board(w: u64, numbers: &mut [u64]) -> Answer {
+    let (answer, Board { w, last, .. }) = board::set_up(w);
+    if numbers.len() >= BOARD {
+        numbers[..BOARD_HEADER].copy_from_slice(&[w, last, 0, 0]);
+        return answer;
+    }
+    if answer.number == ACCEPTED {
+        bare(SHORT_OUTPUT)
+    } else {
+        answer
+    }
+}
+
+pub fn add_to_board(numbers: &mut [u64], [moment, window, wait]: [u64; 3]) -> Answer {
+    let Some(mut board) = board_in(numbers) else { return bare(NO_SUMMARY) };
+    let answer = board.add(moment, window, wait);
+    keep(&board, answer, true, numbers);
+    answer
+}
+
+pub fn show_board(numbers: &mut [u64], clock: u64) -> Answer {
+    let Some(mut board) = board_in(numbers) else { return bare(NO_SUMMARY) };
+    let answer = board.show(clock);
+    keep(&board, answer, false, numbers);
+    answer
+}
+
+/// Brings the numbers up to date if the call was accepted; they tell the board that it left, be it accepted or refused.
+fn keep(board: &Board, answer: Answer, adds: bool, numbers: &mut [u64]) {
+    if answer.number == ACCEPTED {
+        store_told(board, adds, numbers);
+    }
+    assert_eq!(board_in(numbers).as_ref(), Some(board));
+}
+
+/// The board is looked at only where a crit is accepted, whose entry an accepting board counts.
+pub fn record_and_tell(
+    table: &mut [u64],
+    summary: &mut [u64],
+    numbers: &mut [u64],
+    [act, window, moment]: [u64; 3],
+) -> Told {
+    let alone = |number| Told { step: bare(number), board: bare(ACCEPTED) };
+    let Some(told) = table_in(table).filter(Table::sound) else { return alone(NO_TABLE) };
+    let Some(mut counted) = summary_in(summary) else { return alone(NO_SUMMARY) };
+    // numbers that tell no board are refused as those of one that is not sound
+    let found = board_in(numbers);
+    let mut board = found.clone().unwrap_or_else(|| board::set_up(0).1);
+    let (answers, after) = board::record_and_tell(told, &mut counted, &mut board, act, window, moment);
+    store_table(&after, table);
+    store_summary(&counted, summary);
+    if answers.board != bare(ACCEPTED) && found.is_some() {
+        keep(&board, answers.board, true, numbers);
+    }
+    answers
 }
 
 pub fn replay(text: &[u8], out: &mut [u8]) -> Answer {

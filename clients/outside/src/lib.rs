@@ -2,6 +2,7 @@
 //! A list is lent as numbers, so what a call leaves is compared number by number, and past the list's end too.
 
 pub mod acts;
+pub mod boards;
 pub mod calls;
 pub mod encoding;
 pub mod expected;

@@ -45,7 +45,7 @@ fn entry(numbers: &mut [u64], window: u64) -> &mut [u64] {
 }
 
 /// One number changed to anything.
-fn change(random: &mut Random, numbers: &mut [u64]) {
+pub fn change(random: &mut Random, numbers: &mut [u64]) {
     let place = random.index(numbers.len());
     numbers[place] = any_number(random, numbers[place]);
 }
@@ -91,14 +91,15 @@ fn above(random: &mut Random, table: &Table, numbers: &mut [u64]) {
     entry(numbers, window).copy_from_slice(&[place, if place == 5 { 0 } else { table.clock }]);
 }
 
-fn cut(random: &mut Random, numbers: &mut Vec<u64>) {
+/// Fewer numbers than the list should have.
+pub fn cut(random: &mut Random, numbers: &mut Vec<u64>) {
     let length = numbers.len();
     let shorter = random.index(length);
     numbers.truncate(random.pick(&[0, 5, 6, 7, length - 2, length - 1, shorter]));
 }
 
 /// A few numbers more, behind those that a list needs or in the stead of those that were cut.
-fn lengthen(random: &mut Random, numbers: &mut Vec<u64>) {
+pub fn lengthen(random: &mut Random, numbers: &mut Vec<u64>) {
     if random.chance(25) {
         numbers.extend((0..random.between(1, 5)).map(|_| random.below(u64::MAX)));
     }

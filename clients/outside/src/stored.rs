@@ -1,8 +1,9 @@
 //! The stored calls of reference/vectors, one a line, made and held to what stands beside them. The files leave out what is the same in
-//! all of them: windows 9 to 96 are in remainder, with the try moment 0.
+//! all of them: windows 9 to 96 are in remainder, with the try moment 0. What a board's numbers are after a call is worked out.
 
 use crate::calls::{self, Verdict};
-use funnelfawn::raw::{SUMMARY, TABLE};
+use crate::expected;
+use funnelfawn::raw::{BOARD, SUMMARY, TABLE};
 use reference::answer::{answer, Answer};
 use reference::machine::Values;
 
@@ -47,6 +48,80 @@ pub fn writer(line: &str) -> Verdict {
     let out = vec![b'#'; length as usize];
     let after = after.trim_matches('"').replace("\\n", "\n");
     calls::write(values_in(values)?, &lists, &out, (answer_in(answer)?, after.as_bytes()))
+}
+
+/// The calls of board.txt, all on one lent list: each gets what the one before left.
+pub struct Board {
+    lent: Vec<u64>,
+    /// how many calls of a run of equal moments have been made
+    equal: u64,
+}
+
+impl Board {
+    pub fn new() -> Board {
+        Board { lent: vec![FILLED; BOARD + PAST.len()], equal: 0 }
+    }
+
+    /// `call -> answer`, or `call -> answer (call K of the run of equal moments)`
+    pub fn call(&mut self, line: &str) -> Verdict {
+        let (call, due) = line.split_once("->").ok_or("no answer")?;
+        let (due, place) = due.split_once("(call ").unwrap_or((due, ""));
+        self.run_up(call, place)?;
+        let (answer, verdict) = self.make(call)?;
+        verdict?;
+        let due = answer_in(due)?;
+        if answer != due {
+            return Err(format!("the reference answers {answer:?}, not {due:?}"));
+        }
+        Ok(())
+    }
+
+    /// Makes the calls that a run of equal moments leaves out before one of its calls, the waits of which count up from 0.
+    fn run_up(&mut self, call: &str, place: &str) -> Verdict {
+        let Some(number) = place.split_whitespace().next() else {
+            self.equal = 0;
+            return Ok(());
+        };
+        let number: u64 = number.parse().map_err(|_| format!("`{number}` is no number"))?;
+        let (like, _) = call.trim().rsplit_once(' ').ok_or("no wait")?;
+        for wait in self.equal..number - 1 {
+            self.make(&format!("{like} {wait}"))?.1?;
+        }
+        self.equal = number;
+        Ok(())
+    }
+
+    /// `setup W`, `add moment window wait` or `show clock`: the answer that is due, and whether it and all numbers came.
+    fn make(&mut self, call: &str) -> Result<(Answer, Verdict), String> {
+        let (name, rest) = call.trim().split_once(' ').ok_or("no call")?;
+        let mut after = self.lent.clone();
+        let made = match name {
+            "setup" => {
+                let [w] = fixed(rest)?;
+                let answer = expected::set_up_board(w, &mut after);
+                (answer, calls::set_up_board(w, &self.lent, (answer, &after)))
+            }
+            "add" => {
+                let entry = fixed(rest)?;
+                let answer = expected::add_to_board(&mut after, entry);
+                (answer, calls::add_to_board(&self.lent, entry, (answer, &after)))
+            }
+            "show" => {
+                let [clock] = fixed(rest)?;
+                let answer = expected::show_board(&mut after, clock);
+                (answer, calls::show_board(&self.lent, clock, (answer, &after)))
+            }
+            _ => return Err(format!("there is no call `{name}`")),
+        };
+        self.lent = after;
+        Ok(made)
+    }
+}
+
+impl Default for Board {
+    fn default() -> Board {
+        Board::new()
+    }
 }
 
 // The parts of a line

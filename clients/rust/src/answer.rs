@@ -1,4 +1,4 @@
-//! What an answer says: section 4 of docs/SPECIFICATION.md. Number 0 is an acceptance, 1 to 16 are refusals.
+//! What an answer says: section 4 of docs/SPECIFICATION.md. Number 0 is an acceptance, 1 to 18 are refusals.
 
 use crate::raw::Answer;
 use std::fmt::{Display, Formatter, Result as Written};
@@ -11,7 +11,17 @@ pub struct Accepted {
     pub clock: u64,
 }
 
-/// Why nothing was done: [4.1] to [4.16] in their order, each with what the answer carries.
+/// The answer of a board that accepts [10.50].
+#[derive(Clone, Copy, Debug, PartialEq, Eq)]
+pub struct Figures {
+    /// how many entries count
+    pub entries: u64,
+    /// the longest wait among them, 0 where none counts
+    pub longest_wait: u64,
+}
+
+/// Why nothing was done: [4.1] to [4.18] in their order, each with what the answer carries. A board that is not sound is a
+/// [`NoSummary`](Refusal::NoSummary), and for a board the clock of [`Backward`](Refusal::Backward) is the last moment that it was told.
 #[derive(Clone, Copy, Debug, PartialEq, Eq)]
 pub enum Refusal {
     NoTable,
@@ -30,6 +40,8 @@ pub enum Refusal {
     Line { line: u64 },
     Length,
     ShortOutput,
+    Width,
+    BoardFull,
 }
 
 impl Answer {
@@ -54,6 +66,8 @@ impl Answer {
             14 => Refusal::Line { line: moment },
             15 => Refusal::Length,
             16 => Refusal::ShortOutput,
+            17 => Refusal::Width,
+            18 => Refusal::BoardFull,
             _ => panic!("the library gives no answer with the number {number}"),
         })
     }
@@ -62,6 +76,12 @@ impl Answer {
     pub(crate) fn accepted(self) -> Result<Accepted, Refusal> {
         let Answer { window, moment, .. } = self.result()?;
         Ok(Accepted { selling: (window != 0).then_some(window), clock: moment })
+    }
+
+    /// The answer of a board.
+    pub(crate) fn figures(self) -> Result<Figures, Refusal> {
+        let Answer { window, moment, .. } = self.result()?;
+        Ok(Figures { entries: window, longest_wait: moment })
     }
 }
 
@@ -85,6 +105,8 @@ impl Refusal {
             Refusal::Line { .. } => 14,
             Refusal::Length => 15,
             Refusal::ShortOutput => 16,
+            Refusal::Width => 17,
+            Refusal::BoardFull => 18,
         }
     }
 }
@@ -93,9 +115,11 @@ impl Display for Refusal {
     fn fmt(&self, to: &mut Formatter) -> Written {
         match self {
             Refusal::NoTable => write!(to, "the table is not sound"),
-            Refusal::NoSummary => write!(to, "the summary is not sound"),
+            Refusal::NoSummary => write!(to, "the summary, or the board, is not sound"),
             Refusal::SummaryFull => write!(to, "the summary is full"),
-            Refusal::Backward { clock } => write!(to, "the moment is before the clock, which is at {clock}"),
+            Refusal::Backward { clock } => {
+                write!(to, "the moment is before {clock}, where clock or board is")
+            }
             Refusal::EndOfClock => write!(to, "the moment is past the clock's end"),
             Refusal::NoAct => write!(to, "there is no such act"),
             Refusal::NoWindow => write!(to, "there is no such window, or a wait names one"),
@@ -108,6 +132,8 @@ impl Display for Refusal {
             Refusal::Line { line } => write!(to, "line {line} differs from its form"),
             Refusal::Length => write!(to, "the text is longer than 65,536 bytes"),
             Refusal::ShortOutput => write!(to, "a lent output is too short"),
+            Refusal::Width => write!(to, "the W of a board is outside 1 to 1,000,000,000"),
+            Refusal::BoardFull => write!(to, "1,024 entries of the board still count"),
         }
     }
 }

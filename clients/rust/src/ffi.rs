@@ -1,6 +1,6 @@
 //! The functions of include/funnelfawn.h, in its order.
 
-use crate::raw::{Answer, Reading};
+use crate::raw::{Answer, Reading, Told};
 
 extern "C" {
     pub fn funnelfawn_fresh(n: u64, a: u64, b: u64, c: u64, table: *mut u64, table_length: usize) -> Answer;
@@ -24,6 +24,30 @@ extern "C" {
         window: u64,
         moment: u64,
     ) -> Answer;
+
+    pub fn funnelfawn_set_up_board(w: u64, board: *mut u64, board_length: usize) -> Answer;
+
+    pub fn funnelfawn_add_to_board(
+        board: *mut u64,
+        board_length: usize,
+        moment: u64,
+        window: u64,
+        wait: u64,
+    ) -> Answer;
+
+    pub fn funnelfawn_show_board(board: *mut u64, board_length: usize, clock: u64) -> Answer;
+
+    pub fn funnelfawn_record_and_tell(
+        table: *mut u64,
+        table_length: usize,
+        summary: *mut u64,
+        summary_length: usize,
+        board: *mut u64,
+        board_length: usize,
+        act: u64,
+        window: u64,
+        moment: u64,
+    ) -> Told;
 
     pub fn funnelfawn_read(
         text: *const u8,

@@ -25,6 +25,7 @@
 
 mod act;
 mod answer;
+mod board;
 mod ffi;
 #[allow(unsafe_code)]
 pub mod raw;
@@ -33,7 +34,8 @@ mod summary;
 mod table;
 
 pub use act::Act;
-pub use answer::{Accepted, Refusal};
+pub use answer::{Accepted, Figures, Refusal};
+pub use board::{Board, Told};
 pub use recording::{read, replay, Recording, Step};
 pub use summary::Summary;
 pub use table::{Place, Table};

@@ -17,6 +17,14 @@ pub const TABLE: usize = HEADER + STRIDE * WINDOWS;
 pub const TRIES: usize = 5;
 /// The numbers of a summary.
 pub const SUMMARY: usize = TRIES + WINDOWS;
+/// The numbers of a board before its places: W, the last moment told, the place of the first kept entry, how many are kept.
+pub const BOARD_HEADER: usize = 4;
+/// The numbers of a place of a board: moment, window, wait.
+pub const BOARD_STRIDE: usize = 3;
+/// The places of a board, a ring: place 0 comes after the last.
+pub const PLACES: usize = 1_024;
+/// The numbers of a board.
+pub const BOARD: usize = BOARD_HEADER + BOARD_STRIDE * PLACES;
 /// The bytes of the longest recording.
 pub const MOST_TEXT: usize = 65_536;
 /// The steps that a recording holds at most.
@@ -31,6 +39,14 @@ pub struct Answer {
     pub number: u64,
     pub window: u64,
     pub moment: u64,
+}
+
+/// The answers of a recorded step and of the board beside it.
+#[repr(C)]
+#[derive(Clone, Copy, Debug, PartialEq, Eq)]
+pub struct Told {
+    pub step: Answer,
+    pub board: Answer,
 }
 
 /// A reading's answer, and the values of line 2, which are 0 where it is refused.
@@ -68,6 +84,32 @@ pub fn record(table: &mut [u64], summary: &mut [u64], act: u64, window: u64, mom
             act,
             window,
             moment,
+        )
+    }
+}
+
+/// Look at the answer: with 17 the list holds a board that no call accepts, and a list that is too short is as it was.
+/// [`Board::set_up`](crate::Board::set_up) gives no board then.
+pub fn set_up_board(w: u64, board: &mut [u64]) -> Answer {
+    unsafe { funnelfawn_set_up_board(w, board.as_mut_ptr(), board.len()) }
+}
+
+pub fn add_to_board(board: &mut [u64], moment: u64, window: u64, wait: u64) -> Answer {
+    unsafe { funnelfawn_add_to_board(board.as_mut_ptr(), board.len(), moment, window, wait) }
+}
+
+pub fn show_board(board: &mut [u64], clock: u64) -> Answer {
+    unsafe { funnelfawn_show_board(board.as_mut_ptr(), board.len(), clock) }
+}
+
+#[rustfmt::skip]
+pub fn record_and_tell(
+    table: &mut [u64], summary: &mut [u64], board: &mut [u64], act: u64, window: u64, moment: u64,
+) -> Told {
+    unsafe {
+        funnelfawn_record_and_tell(
+            table.as_mut_ptr(), table.len(), summary.as_mut_ptr(), summary.len(), board.as_mut_ptr(), board.len(),
+            act, window, moment,
         )
     }
 }

@@ -1,6 +1,7 @@
 //! The table of windows and its steps: sections 2 and 3 of docs/SPECIFICATION.md, which calls it a state and its windows processes.
 
 use crate::answer::{Accepted, Refusal};
+use crate::board::{Board, Told};
 use crate::raw;
 use crate::summary::Summary;
 
@@ -80,6 +81,34 @@ impl Table {
         moment: u64,
     ) -> Result<Accepted, Refusal> {
         raw::record(&mut self.numbers, &mut summary.numbers, act.into(), window, moment).accepted()
+    }
+
+    /// The same, and the board is told of an accepted crit, with the wait that the summary counts. The step stands, whatever the board
+    /// answers: it refuses an entry with [`BoardFull`](Refusal::BoardFull), or with [`Backward`](Refusal::Backward) where it was shown at a
+    /// later clock.
+    ///
+    /// ```
+    /// use funnelfawn::{Act, Board, Figures, Refusal, Summary, Table};
+    ///
+    /// let (mut table, mut summary, mut board) = (Table::fresh(2, 5, 8, 12)?, Summary::new(), Board::set_up(30)?);
+    /// for (act, moment) in [(Act::Try, 0), (Act::Test, 1), (Act::Set, 2), (Act::Check, 10)] {
+    ///     let told = table.record_and_tell(&mut summary, &mut board, act, 1, moment);
+    ///     assert!(told.step.is_ok() && told.board.is_none());
+    /// }
+    /// let told = table.record_and_tell(&mut summary, &mut board, Act::Crit, 1, 12);
+    /// assert_eq!(told.board, Some(Ok(Figures { entries: 1, longest_wait: 12 })));
+    /// # Ok::<(), Refusal>(())
+    /// ```
+    pub fn record_and_tell(
+        &mut self,
+        summary: &mut Summary,
+        board: &mut Board,
+        act: impl Into<u64>,
+        window: u64,
+        moment: u64,
+    ) -> Told {
+        let (table, summary, board) = (&mut self.numbers, &mut summary.numbers, &mut board.numbers[..]);
+        raw::record_and_tell(table, summary, board, act.into(), window, moment).into()
     }
 
     /// The number of windows, n.

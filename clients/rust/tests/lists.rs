@@ -54,6 +54,47 @@ fn past_a_table_and_a_summary() {
 }
 
 #[test]
+fn short_boards() {
+    for length in [0, 1, BOARD_HEADER, BOARD_HEADER + BOARD_STRIDE, BOARD - 1] {
+        let mut short = vec![PAST; length];
+        assert_eq!(set_up_board(10, &mut short), bare(16));
+        assert_eq!(set_up_board(0, &mut short), bare(17));
+        assert_eq!(add_to_board(&mut short, 1, 1, 0), bare(2));
+        assert_eq!(show_board(&mut short, 1), bare(2));
+        assert_eq!(short, vec![PAST; length]);
+    }
+}
+
+#[test]
+fn past_a_board() {
+    let mut long = [PAST; BOARD + 3];
+    assert_eq!(set_up_board(10, &mut long), bare(0));
+    assert_eq!(add_to_board(&mut long, 4, 2, 3), Answer { number: 0, window: 1, moment: 3 });
+    assert_eq!(show_board(&mut long, 5), Answer { number: 0, window: 1, moment: 3 });
+    let mut left = vec![10, 5, 0, 1, 4, 2, 3];
+    left.resize(BOARD + 3, PAST);
+    assert_eq!(long[..], left);
+    assert_eq!(set_up_board(0, &mut long), bare(17));
+    assert_eq!(add_to_board(&mut long, 6, 2, 3), bare(2));
+    left[..BOARD_HEADER].fill(0);
+    assert_eq!(long[..], left);
+}
+
+#[test]
+fn a_step_stands_beside_a_short_board() {
+    let mut tables = [table(), table()];
+    let mut summaries = [[0; SUMMARY]; 2];
+    for (act, moment) in [(1, 0), (2, 1), (3, 2), (4, 10), (5, 12)] {
+        let [table, alone] = &mut tables;
+        let [summary, counted] = &mut summaries;
+        let told = record_and_tell(table, summary, &mut [PAST; BOARD - 1], act, 2, moment);
+        assert_eq!(told.step, record(alone, counted, act, 2, moment));
+        assert_eq!((told.step.number, told.board), (0, bare(if act == 5 { 2 } else { 0 })));
+    }
+    assert_eq!((&tables[0], summaries[0]), (&tables[1], summaries[1]));
+}
+
+#[test]
 fn numbers_that_tell_no_table() {
     // a place above 7, an arrival in remainder, an arrival in selling
     for entry in [[8, 0], [0, 1], [5, 1], [256, 0], [1 << 32, 0]] {

@@ -1,6 +1,6 @@
-//! Each refusal, 1 to 16, with what it carries, and what it leaves of the table and the summary.
+//! Each refusal, 1 to 18, with what it carries, and what it leaves of the table, the summary and the board.
 
-use funnelfawn::{raw, read, Act, Place, Recording, Refusal, Step, Summary, Table};
+use funnelfawn::{raw, read, Act, Board, Place, Recording, Refusal, Step, Summary, Table};
 
 const END: u64 = 1_000_000_000_000;
 
@@ -105,8 +105,42 @@ fn short_output() {
 }
 
 #[test]
+fn boards() {
+    for w in [0, 1_000_000_001, u64::MAX] {
+        assert_eq!(Board::set_up(w), Err(Refusal::Width));
+    }
+    let mut board = Board::set_up(10).unwrap();
+    for _ in 0..raw::PLACES {
+        board.add(5, 96, u64::MAX).unwrap();
+    }
+    let full = board.clone();
+    assert_eq!(board.add(4, 0, 0), Err(Refusal::Backward { clock: 5 }));
+    assert_eq!(board.show(4), Err(Refusal::Backward { clock: 5 }));
+    assert_eq!(board.add(END + 1, 0, 0), Err(Refusal::EndOfClock));
+    assert_eq!(board.show(END + 1), Err(Refusal::EndOfClock));
+    assert_eq!(board.add(14, 0, 0), Err(Refusal::NoWindow));
+    assert_eq!(board.add(14, 97, 0), Err(Refusal::NoWindow));
+    assert_eq!(board.add(14, 1, 0), Err(Refusal::BoardFull));
+    assert_eq!(board, full);
+}
+
+#[test]
+fn no_board() {
+    // W, the place of the first kept entry, how many are kept: one past each of their rules
+    for (place, number) in [(0, 0), (0, 1_000_000_001), (2, raw::PLACES as u64), (3, raw::PLACES as u64 + 1)]
+    {
+        let mut numbers = *Board::set_up(10).unwrap().numbers();
+        numbers[place] = number;
+        let mut board = Board::from_numbers(numbers);
+        assert_eq!(board.add(7, 1, 0), Err(Refusal::NoSummary));
+        assert_eq!(board.show(7), Err(Refusal::NoSummary));
+        assert_eq!(*board.numbers(), numbers);
+    }
+}
+
+#[test]
 fn numbers_and_words() {
-    for number in 1..=16 {
+    for number in 1..=18 {
         let answer = raw::Answer { number, window: 71, moment: 82 };
         let refusal = answer.result().unwrap_err();
         assert_eq!(refusal.number(), number);

@@ -1,4 +1,4 @@
-//! vectors DIRECTORY: makes the stored calls of the four files in DIRECTORY (reference/vectors) and compares all that comes of them.
+//! vectors DIRECTORY: makes the stored calls of the five files in DIRECTORY (reference/vectors) and compares all that comes of them.
 //! Exit status 0 only if each file has its calls, all of them, and none differs.
 
 use outside::calls::Verdict;
@@ -6,30 +6,36 @@ use outside::stored;
 use std::path::Path;
 use std::process::exit;
 
-type Call = fn(&str) -> Verdict;
+/// Makes the call of a line.
+type Call = Box<dyn FnMut(&str) -> Verdict>;
 
-const FILES: [(&str, usize, Call); 4] = [
-    ("step.txt", 300, stored::step),
-    ("recorded.txt", 300, stored::recorded),
-    ("reader.txt", 100, stored::reader),
-    ("writer.txt", 150, stored::writer),
-];
+/// The lines of each.
+fn files() -> [(&'static str, usize, Call); 5] {
+    let mut board = stored::Board::new();
+    [
+        ("step.txt", 300, Box::new(stored::step)),
+        ("recorded.txt", 300, Box::new(stored::recorded)),
+        ("reader.txt", 100, Box::new(stored::reader)),
+        ("writer.txt", 150, Box::new(stored::writer)),
+        ("board.txt", 141, Box::new(move |line| board.call(line))),
+    ]
+}
 
 fn main() {
     let Some(directory) = std::env::args().nth(1) else {
         eprintln!("usage: vectors DIRECTORY");
         exit(2);
     };
-    let counts = FILES.map(|(name, _, call)| run(&Path::new(&directory).join(name), call));
-    let calls = counts.map(|(calls, _)| calls.to_string()).join(" + ");
-    let differ: usize = counts.iter().map(|(_, differ)| differ).sum();
+    let counts = files().map(|(name, due, call)| (due, run(&Path::new(&directory).join(name), call)));
+    let calls = counts.map(|(_, (calls, _))| calls.to_string()).join(" + ");
+    let differ: usize = counts.iter().map(|(_, (_, differ))| differ).sum();
     println!("vectors: {calls} calls, {differ} differ");
-    let all_there = FILES.iter().zip(counts).all(|(&(_, due, _), (calls, _))| calls == due);
+    let all_there = counts.iter().all(|(due, (calls, _))| calls == due);
     exit(if all_there && differ == 0 { 0 } else { 1 });
 }
 
 /// How many calls a file has, and how many of them differ.
-fn run(file: &Path, call: Call) -> (usize, usize) {
+fn run(file: &Path, mut call: Call) -> (usize, usize) {
     let text = std::fs::read_to_string(file).unwrap_or_else(|error| {
         println!("{} cannot be read: {error}", file.display());
         String::new()
