@@ -1,15 +1,16 @@
--- What has expired stands in front of what counts, as the times of a board do not fall: the entries that count are its last ones.
--- Assumes nothing.
-use Prim.Native.Nat.{ℕ, suc, _+_, _-_, _<_}
+-- Which entries are left when others have expired. What has expired stands in front, as the times of a board do not fall, so that the entries
+-- that count are its last ones. Assumes nothing.
+use Prim.Native.Nat.{ℕ, suc, _+_, _-_, _≤_, _<_, max}
 use mathlib.Core.Path.{_≡_, refl}
 use mathlib.Core.Bool.{true}
 use mathlib.Core.List.{List, [], _∷_}
 use native.Mathlib.Omega.{arith}
 use lib.Dec.{ltb}
 use lib.ListN.{length, drop}
-use borrow.Author.Tests.{ltb-true, lt-ltb}
-use Rattle.model.proofs.Tests.{by-test}
-use Rattle.recent.specs.Boards.{Entry, counts, inOrder, howMany, counting}
+use borrow.Author.Tests.{ltb-true, ltb-false, lt-ltb, le-ltb}
+use Rattle.model.proofs.Tests.{by-test, if-lt}
+use Rattle.recent.specs.Boards.{Entry, counts, inOrder, howMany, longestAt, counting}
+use Rattle.recent.specs.Facts.{Left}
 use Rattle.recent.proofs.Figures.{howMany-most}
 use Rattle.recent.proofs.Passes.{order-head, all-count}
 
@@ -41,3 +42,42 @@ module _ (w t : ℕ) where
       rw (c, all-count w t (e .time) es now (h .1), counting-all (e .time) es now (h .1), none))
       (λ c. let one : suc (length es) - howMany w t es ≡ suc (length es - howMany w t es) = omega (arith, howMany-most w t es) in
       rw (c, one) (counting-last (e .time) es (h .1)))
+
+-- What is left, and its figures, by each entry
+
+module _ (w t : ℕ) where
+  pub left-of : (es : List Entry) → Left w t es (counting w t es) (howMany w t es) (longestAt w t es)
+  unfolding counting howMany longestAt
+  left-of [] = Left.none
+  left-of (e ∷ es) =
+      by-test (counts w t e)
+      (λ c. let now = ltb-true t (e .time + w) c in
+      let longest = longestAt w t es in
+      if-lt (e .wait) longest
+      (λ (b : e .wait < longest). let same : max (e .wait) longest ≡ longest = omega arith in
+      rw (c, same) (Left.shorter now b (left-of es)))
+      (λ (b : longest ≤ e .wait). let same : max (e .wait) longest ≡ e .wait = omega arith in
+      rw (c, same) (Left.longer now b (left-of es))))
+      (λ c. rw c (Left.expired (ltb-false t (e .time + w) c) (left-of es)))
+
+  -- they are no others
+  pub record LeftIs (es left : List Entry) (many longest : ℕ) : Type 0 where
+    pub those : counting w t es ≡ left
+    pub many-is : howMany w t es ≡ many
+    pub longest-is : longestAt w t es ≡ longest
+
+  pub left-is : {es left : List Entry} {many longest : ℕ} → Left w t es left many longest → LeftIs es left many longest
+  unfolding counting howMany longestAt
+  left-is Left.none = record { those = refl; many-is = refl; longest-is = refl }
+  left-is (Left.expired {e = e} b r) =
+      let h = left-is r in
+      let c = le-ltb t (e .time + w) b in
+      record { those = rw c (h .those); many-is = rw c (h .many-is); longest-is = rw c (h .longest-is) }
+  left-is (Left.longer {e = e} b g r) =
+      let h = left-is r in
+      let c = lt-ltb t (e .time + w) b in
+      record { those = rw (c, h .those); many-is = rw (c, h .many-is); longest-is = rw (c, h .longest-is) (omega arith) }
+  left-is (Left.shorter {e = e} b g r) =
+      let h = left-is r in
+      let c = lt-ltb t (e .time + w) b in
+      record { those = rw (c, h .those); many-is = rw (c, h .many-is); longest-is = rw (c, h .longest-is) (omega arith) }

@@ -12,3 +12,4 @@ pub mod Outcomes
 pub mod Standing
 pub mod Numbers
 pub mod ToldLists
+pub mod StaysSound

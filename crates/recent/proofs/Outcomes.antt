@@ -1,47 +1,108 @@
 -- What comes of a call on a board: a refusal, which leaves it, or what is accepted, and why. Assumes nothing.
 use Prim.Native.Nat.{ℕ}
-use mathlib.Core.Path.{_≡_}
-use mathlib.Core.Logic.{_≢_}
+use mathlib.Core.Path.{_≡_, refl}
+use mathlib.Core.Logic.{_≢_, _↔_}
 use mathlib.Core.Bool.{true, not}
 use mathlib.Core.List.{[], _∷_}
 use native.Mathlib.Omega.{arith}
-use lib.Dec.{ltb, eqb}
-use borrow.Author.Tests.{eqb-false, not-false}
+use lib.Dec.{leb, ltb, eqb}
+use borrow.Author.Tests.{ltb-true, ltb-false, eqb-true, eqb-false, leb-true, le-leb, not-true, not-false}
 use Rattle.model.specs.declared.Answer.{Answer}
 use Rattle.model.specs.Answers.{beyond}
-use Rattle.model.proofs.Tests.{by-cond}
-use Rattle.recent.specs.Boards.{entryOf, Board, mostKept, boardSound, howMany, Told, told, keeps, inTime, isProcess, addOf, showOf}
+use Rattle.model.proofs.Tests.{by-test, by-cond, clash, and-true-iff}
+use Rattle.recent.specs.Boards.{entryOf, Board, mostKept, boardSound, howMany, longestAt}
+use Rattle.recent.specs.Boards.{Told, told, keeps, inTime, isProcess, widthStands, setUpOf, addOf, showOf}
+use Rattle.recent.specs.Facts.{InTime, IsProcess, Untimely, Adds, Shows, WidthStands, EverySetUp}
+use Rattle.recent.proofs.Expiry.{left-of}
+use Rattle.recent.proofs.Soundness.{board-sound-iff-plain}
 
--- `good` comes of what is accepted, for which `Good` holds
-pub data Came (b : Board) (Good : Type 0) (good : Told) : Told → Type 0 where
-  refused : {r : Answer} → r .code ≢ 0 → Came b Good good (told r b)
-  accepted : Good → Came b Good good good
+-- `good` comes of what is accepted, for which `Good` holds, and a refusal with this code, process and time of what `Why` says of them
+pub data Came (b : Board) (Why : ℕ → ℕ → ℕ → Type 0) (Good : Type 0) (good : Told) : Told → Type 0 where
+  refused : {r : Answer} → r .code ≢ 0 → Why (r .code) (r .process) (r .time) → Came b Why Good good (told r b)
+  accepted : Good → Came b Why Good good good
 
--- what has come about, with one fact more
-came-with : {b : Board} {Good More : Type 0} {good r : Told} → More → Came b Good good r → Came b (More × Good) good r
-came-with m (Came.refused n) = Came.refused n
-came-with m (Came.accepted g) = Came.accepted (m, g)
+-- what holds of each refusal of a time, and of what comes of a call in time, holds of a call
+in-time : (b : Board) (t : ℕ) (P : Told → Type 0) {after : Told}
+    → ((r : Answer) → r .code ≢ 0 → Untimely b t (r .code) (r .process) (r .time) → P (told r b)) → (InTime b t → P after)
+    → P (inTime b t after)
+in-time b t P untimely timely =
+    by-cond P (not (boardSound b))
+    (λ e. untimely _ (λ z. omega arith) (Untimely.unsound (λ s. clash (board-sound-iff-plain b .1 s) (not-true _ e))))
+    (λ e. let sound = board-sound-iff-plain b .0 (not-false _ e) in
+    by-cond P (ltb t (b .last))
+    (λ f. untimely _ (λ z. omega arith) (Untimely.backward sound (ltb-true _ _ f)))
+    (λ f. let forward = ltb-false _ _ f in
+    by-cond P (beyond t)
+    (λ g. untimely _ (λ z. omega arith) (Untimely.beyond sound forward (ltb-true _ _ g)))
+    (λ g. timely (record { sound = sound; forward = forward; within = ltb-false _ _ g }))))
 
-came-in-time : (b : Board) (t : ℕ) {Good : Type 0} {good after : Told} → Came b Good good after
-    → Came b ((boardSound b ≡ true) × Good) good (inTime b t after)
-came-in-time b t {Good} {good} c =
-    by-cond (Came b ((boardSound b ≡ true) × Good) good) (not (boardSound b)) (λ e. Came.refused (λ z. omega arith))
-    (λ e. by-cond (Came b ((boardSound b ≡ true) × Good) good) (ltb t (b .last)) (λ _. Came.refused (λ z. omega arith))
-    (λ _. by-cond (Came b ((boardSound b ≡ true) × Good) good) (beyond t) (λ _. Came.refused (λ z. omega arith))
-    (λ _. came-with (not-false _ e) c)))
+module _ (b : Board) (t : ℕ) where
+  abbrev ShowComes : Told → Type 0
+  ShowComes = Came b (λ code process time. Shows b t code process time b) (InTime b t) (keeps b t [])
 
-pub show-came : (b : Board) (t : ℕ) → Came b ((boardSound b ≡ true) × Unit) (keeps b t []) (showOf b t)
-unfolding showOf
-show-came b t = came-in-time b t (Came.accepted tt)
+  pub show-came : ShowComes (showOf b t)
+  unfolding showOf
+  show-came = in-time b t ShowComes (λ r n u. Came.refused n (Shows.untimely u)) Came.accepted
 
--- there is room
-pub add-came : (b : Board) (t p wait : ℕ)
-    → Came b ((boardSound b ≡ true) × (howMany (b .width) t (b .kept) ≢ mostKept)) (keeps b t (entryOf t p wait ∷ [])) (addOf b t p wait)
-unfolding addOf
-add-came b t p wait =
-    let Room : Type 0 = howMany (b .width) t (b .kept) ≢ mostKept in
-    let good = keeps b t (entryOf t p wait ∷ []) in
-    came-in-time b t
-    (by-cond (Came b Room good) (not (isProcess p)) (λ _. Came.refused (λ z. omega arith))
-    (λ _. by-cond (Came b Room good) (eqb (howMany (b .width) t (b .kept)) mostKept) (λ _. Came.refused (λ z. omega arith))
-    (λ e. Came.accepted (eqb-false _ _ e))))
+-- [4.7]
+is-process-iff : (p : ℕ) → (isProcess p ≡ true) ↔ IsProcess p
+is-process-iff p = (
+  λ e. let h = and-true-iff (leb 1 p) _ .0 e in record { some = leb-true _ _ (h .0); most = leb-true _ _ (h .1) },
+  λ h. and-true-iff _ _ .1 (le-leb _ _ (h .some), le-leb _ _ (h .most)),
+)
+
+-- an adding is accepted
+pub record Addable (b : Board) (t p : ℕ) : Type 0 where
+  pub timely : InTime b t
+  pub process : IsProcess p
+  pub room : howMany (b .width) t (b .kept) ≢ mostKept
+
+module _ (b : Board) (t p wait : ℕ) where
+  abbrev AddComes : Told → Type 0
+  AddComes = Came b (λ code process time. Adds b t p wait code process time b) (Addable b t p) (keeps b t (entryOf t p wait ∷ []))
+
+  abbrev many : ℕ
+  many = howMany (b .width) t (b .kept)
+
+  abbrev longest : ℕ
+  longest = longestAt (b .width) t (b .kept)
+
+  pub add-came : AddComes (addOf b t p wait)
+  unfolding addOf
+  add-came =
+      in-time b t AddComes (λ r n u. Came.refused n (Adds.untimely u))
+      (λ timely. by-cond AddComes (not (isProcess p))
+      (λ e. Came.refused (λ z. omega arith) (Adds.misnamed timely (λ h. clash (is-process-iff p .1 h) (not-true _ e))))
+      (λ e. let process = is-process-iff p .0 (not-false _ e) in
+      by-cond AddComes (eqb many mostKept)
+      (λ f. let all : many ≡ mostKept = eqb-true _ _ f in
+      let left = rw all at (left-of (b .width) t (b .kept)) in
+      Came.refused (λ z. omega arith) (Adds.full _ _ timely process left))
+      (λ f. Came.accepted (record { timely = timely; process = process; room = eqb-false _ _ f }))))
+
+-- Setting up
+
+pub width-stands-iff : (w : ℕ) → (widthStands w ≡ true) ↔ WidthStands w
+width-stands-iff w = (
+  λ e. let h = and-true-iff (leb 1 w) _ .0 e in record { least = leb-true _ _ (h .0); most = leb-true _ _ (h .1) },
+  λ h. and-true-iff _ _ .1 (le-leb _ _ (h .least), le-leb _ _ (h .most)),
+)
+
+pub every-set-up : EverySetUp
+unfolding setUpOf
+every-set-up w =
+    by-test (widthStands w)
+    (λ e. record {
+      accepted = simp e (λ _. width-stands-iff w .0 e, λ _. refl);
+      answer = simp e (λ _. refl);
+      board = simp e (λ _. refl);
+      refused = simp e (λ n. absurd (n refl));
+      no-board = simp e (λ n. absurd (n refl));
+    })
+    (λ e. record {
+      accepted = simp e (λ z. absurd (omega arith), λ h. clash (width-stands-iff w .1 h) e);
+      answer = simp e (λ z. absurd (omega arith));
+      board = simp e (λ z. absurd (omega arith));
+      refused = simp e (λ _. refl);
+      no-board = simp e (λ _. refl);
+    })
