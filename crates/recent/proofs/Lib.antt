@@ -13,3 +13,4 @@ pub mod Standing
 pub mod Numbers
 pub mod ToldLists
 pub mod StaysSound
+pub mod Passing

@@ -62,6 +62,13 @@ unfolding entriesFrom
 entries-length l k zero = refl
 entries-length l k (suc n) = ap suc (entries-length l (k + 1) n)
 
+-- up to place t
+pub entries-to : (l : List ℕ) (k t : ℕ) → k < t → entriesFrom l k (t - k) ≡ entryAt l k ∷ entriesFrom l (k + 1) (t - (k + 1))
+entries-to l k t h = let more : t - k ≡ t - (k + 1) + 1 = omega arith in rw more (entries-next l k (t - (k + 1)))
+
+pub entries-end : (l : List ℕ) (k t : ℕ) → t ≤ k → entriesFrom l k (t - k) ≡ []
+entries-end l k t h = let none : t - k ≡ 0 = omega arith in rw none (entries-none l k)
+
 -- A ring
 
 -- up to the end of the places it is straight

@@ -22,7 +22,7 @@ resting-start l k n since h =
       figures = λ w clock e. record { many = refl; longest = refl };
     }
 
-module _ (l : List ℕ) (k n since first count time : ℕ) (so-far : Resting l k n since first count time) where
+module _ {l : List ℕ} {k n since first count time : ℕ} (so-far : Resting l k n since first count time) where
   -- the ring that is left, by its first entry
   ring-left : 0 < count → n ≤ mostKept → ringFrom l first count ≡ entryAt l first ∷ ringFrom l (wrapped (first + 1)) (count - 1)
   ring-left h g =
