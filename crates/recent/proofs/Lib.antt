@@ -14,3 +14,4 @@ pub mod Numbers
 pub mod ToldLists
 pub mod StaysSound
 pub mod Passing
+pub mod Sights

@@ -1,16 +1,15 @@
 -- Laws of a pass over entries: their order, the time of the last one and the longest wait, taken apart at a place; and the figures of entries
 -- in order, which go on from the first that counts. Assumes nothing.
 use Prim.Native.Nat.{ℕ, _+_, _-_, _≤_, _<_, max}
-use mathlib.Core.Path.{_≡_, refl, sym, ap, _∙_}
+use mathlib.Core.Path.{_≡_, refl, _∙_}
 use mathlib.Core.Bool.{true, false, _&&_}
 use mathlib.Core.List.{List, [], _∷_, _++_}
 use native.Mathlib.Omega.{arith}
 use native.Mathlib.Numerals.{add-one}
 use borrow.Author.Tests.{lt-ltb, le-ltb, le-leb, lt-leb, leb-true}
 use lib.ListN.{length}
-use lib.Dec.{leb}
 use Rattle.model.proofs.Tests.{and-true-iff, if-lt}
-use Rattle.recent.specs.Boards.{Entry, inOrder, noneAfter, counts, howMany, longestAt}
+use Rattle.recent.specs.Boards.{Entry, inOrder, noneAfter, howMany, longestAt}
 use Rattle.recent.specs.Looking.{latest, longestOver, SameFigures}
 
 -- Order

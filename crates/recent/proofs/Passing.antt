@@ -1,7 +1,7 @@
 -- Laws of a pass over entries that has come to some of them, and of one pass after another. Assumes nothing.
 use Prim.Native.Nat.{ℕ, max, _≤_, _<_}
 use mathlib.Core.Path.{_≡_, refl, sym, ap, _∙_}
-use mathlib.Core.Bool.{Bool, true, false, _&&_}
+use mathlib.Core.Bool.{true, false}
 use mathlib.Core.List.{List, [], _∷_, _++_}
 use Rattle.model.proofs.Tests.{clash}
 use Rattle.recent.specs.declared.rings.Pass.{Pass}
@@ -59,7 +59,7 @@ module _ {es : List Entry} (ds : List Entry) {pass mid : Pass} where
   passes-both p f q =
       let first = p .passed f in
       let order : inOrder (pass .time) (es ++ ds) ≡ inOrder (mid .time) ds =
-            order-append (pass .time) es ds ∙ rw (first .order) (ap (λ (t : ℕ). inOrder t ds) (sym (first .latest-is))) in
+      order-append (pass .time) es ds ∙ rw (first .order) (ap (λ (t : ℕ). inOrder t ds) (sym (first .latest-is))) in
       record {
         falls = λ e. order ∙ q .falls e;
         passed = λ e. record {

@@ -4,9 +4,9 @@ use mathlib.Core.Path.{_≡_, refl, sym, ap, _∙_}
 use mathlib.Core.Bool.{false}
 use mathlib.Core.List.{List, _∷_}
 use native.Mathlib.Omega.{arith}
-use Rattle.recent.specs.Boards.{Entry, mostKept, inOrder, howMany, longestAt}
+use Rattle.recent.specs.Boards.{mostKept, inOrder}
 use Rattle.recent.specs.Encodings.{wrapped, entryAt, ringFrom}
-use Rattle.recent.specs.Looking.{latest, SameFigures, Resting}
+use Rattle.recent.specs.Looking.{latest, Resting}
 use Rattle.recent.proofs.Places.{wrapped-inside, wrapped-below, wrapped-on, ring-next}
 use Rattle.recent.proofs.Passes.{order-next, order-falls, figures-after}
 
@@ -24,7 +24,7 @@ resting-start l k n since h =
 
 module _ {l : List ℕ} {k n since first count time : ℕ} (so-far : Resting l k n since first count time) where
   -- the ring that is left, by its first entry
-  ring-left : 0 < count → n ≤ mostKept → ringFrom l first count ≡ entryAt l first ∷ ringFrom l (wrapped (first + 1)) (count - 1)
+  pub ring-left : 0 < count → n ≤ mostKept → ringFrom l first count ≡ entryAt l first ∷ ringFrom l (wrapped (first + 1)) (count - 1)
   ring-left h g =
       let more : count ≡ count - 1 + 1 = omega arith in
       ap (ringFrom l first) more ∙ ring-next l first (count - 1) (so-far .inside) (omega (arith, so-far .fewer))

@@ -4,7 +4,6 @@ use Prim.Native.Nat.{ℕ, _+_, _-_, _≤_, _<_, max}
 use mathlib.Core.Path.{_≡_}
 use mathlib.Core.Bool.{true, false, cond, _&&_}
 use mathlib.Core.List.{List, [], _∷_}
-use lib.ListN.{getD}
 use lib.Dec.{ltb}
 use Rattle.model.specs.declared.Answer.{Answer}
 use Rattle.model.specs.Answers.{answerOf, beyond}
@@ -12,7 +11,7 @@ use Rattle.recent.specs.declared.rings.Rest.{Rest}
 use Rattle.recent.specs.declared.rings.Pass.{Pass}
 use Rattle.recent.specs.declared.rings.Look.{Look}
 use Rattle.recent.specs.Boards.{Entry, mostKept, boardSound, inOrder, howMany, longestAt}
-use Rattle.recent.specs.Encodings.{wrapped, entryAt, entriesFrom, ringFrom, boardIn, isBoard, stillAt, firstAt}
+use Rattle.recent.specs.Encodings.{wrapped, entryAt, ringFrom, boardIn, isBoard, stillAt, firstAt}
 
 -- the time of the last of these entries, t where there is none
 unfoldable pub latest : ℕ → List Entry → ℕ

@@ -1,53 +1,42 @@
 -- `recent::rings::longest_around` meets its contract: a ring is one straight part, or two, one after the other. Assumes nothing.
-use mathlib.Core.Path.{_≡_, sym, ap, _∙_}
+use mathlib.Core.Path.{_≡_}
 use Prim.Native.Nat.{_+_, _-_}
 use native.Mathlib.Omega.{arith}
 use borrow.Author.Needs.{needs}
 use Rattle.recent.specs.Boards.{mostKept}
-use Rattle.recent.specs.Encodings.{entriesFrom, ringFrom}
+use Rattle.recent.specs.Encodings.{entriesFrom}
 use Rattle.recent.proofs.Places.{ring-straight, ring-around}
 use Rattle.recent.proofs.Passing.{passes-fell, passes-both}
 use Rattle.recent.proofs.rings.longest_around.Statement.{statement}
 use Rattle.recent.proofs.rings.longest_around.Tie as tie
-use Rattle.recent.proofs.rings.longest_around.Reads as reads
-use Rattle.recent.proofs.rings.longest_around.Lts as lts
-use Rattle.recent.proofs.rings.longest_in.Reads as longest-in-reads
 
--- src/rings.rt:154:15
 add-end : tie.Need-add-end
 add-end c = search needs
 
--- src/rings.rt:156:9
 longest-in-requires : tie.Need-longest-in-requires
 longest-in-requires c κs = search needs
 
--- src/rings.rt:156:9
 returns : tie.Need-returns
 returns c =
     let a = c .before .before .before .args in
     let whole : a .first + a .count - a .first ≡ a .count = omega arith in
     rw (ring-straight _ _ _ (c .before .if1 .taken)) (rw whole at (c .longest-in .ensures))
 
--- src/rings.rt:158:9
 longest-in-requires-2 : tie.Need-longest-in-requires-2
 longest-in-requires-2 c κs = search needs
 
--- src/rings.rt:160:9
 returns-2 : tie.Need-returns-2
 returns-2 c =
     let a = c .before .before .before .before .args in
     rw (ring-around (a .board .now) (a .first) (a .count) (search needs) (search needs))
     (passes-fell (entriesFrom (a .board .now) 0 (a .first + a .count - mostKept)) (c .before .longest-in2 .ensures) (c .if2 .taken))
 
--- src/rings.rt:162:26
 sub-longest-in : tie.Need-sub-longest-in
 sub-longest-in c = search needs
 
--- src/rings.rt:162:5
 longest-in-requires-3 : tie.Need-longest-in-requires-3
 longest-in-requires-3 c κs = search needs
 
--- src/rings.rt:148:1
 returns-3 : tie.Need-returns-3
 returns-3 c =
     let a = c .before .before .before .before .before .args in

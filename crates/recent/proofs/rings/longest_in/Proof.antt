@@ -8,9 +8,6 @@ use Rattle.recent.proofs.Passing.{Passing, passing-start, passing-falls
 use Rattle.recent.proofs.Places.{entries-to, entries-end}
 use Rattle.recent.proofs.rings.longest_in.Statement.{statement}
 use Rattle.recent.proofs.rings.longest_in.Tie as tie
-use Rattle.recent.proofs.rings.longest_in.Reads as reads
-use Rattle.recent.proofs.rings.longest_in.Lts as lts
-use Rattle.values.proofs.greater.Reads as greater-reads
 
 abbrev Inv-loop : tie.InvT-loop
 Inv-loop board from to place₀ time₀ longest₀ place time longest =

@@ -1,6 +1,5 @@
 -- `recent::rings::rest_from` meets its contract: the ring that is left has the order, the last time and the figures of the whole one.
 -- Assumes nothing.
-use Prim.Native.Nat.{ℕ}
 use mathlib.Core.Bool.{true≢false, false≢true}
 use native.Mathlib.Omega.{arith}
 use borrow.Author.Needs.{needs}
@@ -8,9 +7,6 @@ use Rattle.recent.specs.Looking.{Resting}
 use Rattle.recent.proofs.Resting.{resting-start, resting-falls, resting-next}
 use Rattle.recent.proofs.rings.rest_from.Statement.{statement}
 use Rattle.recent.proofs.rings.rest_from.Tie as tie
-use Rattle.recent.proofs.rings.rest_from.Reads as reads
-use Rattle.recent.proofs.rings.rest_from.Lts as lts
-use Rattle.recent.proofs.rings.wrapped_place.Reads as wrapped-place-reads
 
 abbrev Inv-loop : tie.InvT-loop
 Inv-loop board first count since place₀ left₀ time₀ place left time = Resting board first count since place left time
