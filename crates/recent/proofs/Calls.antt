@@ -57,6 +57,7 @@ module _ (w : ℕ) (l : List ℕ) {r : Answer} where
 
 -- The numbers of a sound board
 
+-- its length, its first place, its width and how many it keeps
 pub record Sized (l : List ℕ) : Type 0 where
   pub long : boardLength ≤ length l
   pub place : getD l firstPlace 0 < mostKept
