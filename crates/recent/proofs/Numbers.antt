@@ -18,7 +18,7 @@ use Rattle.recent.specs.Encodings.{LentBoard, boardGave, stillAt, firstA
 use Rattle.recent.specs.Encodings.{emptied, lentSetUp, lentAdd, lentShow}
 use Rattle.recent.specs.Facts.{NumbersFollow}
 use Rattle.recent.proofs.Figures.{howMany-most}
-use Rattle.recent.proofs.Soundness.{sound-parts, board-sound-iff-plain}
+use Rattle.recent.proofs.Soundness.{sound-parts}
 use Rattle.recent.proofs.Outcomes.{Came, show-came, add-came}
 use Rattle.recent.proofs.Standing.{board-told-iff}
 use Rattle.recent.proofs.Expiry.{counting-last}
@@ -33,11 +33,10 @@ pub record Follows (r : Told) (g : LentBoard) : Type 0 where
   pub board : boardIn (g .board) ≡ r .board
   pub tells : isBoard (g .board) ≡ true
 
-module _ (l after : List ℕ) (board : isBoard l ≡ true) {Why : ℕ → ℕ → ℕ → Type 0} {Good : Type 0} {good : Told}
-    (fine : good .answer .code ≡ 0) where
-  follows : {r : Told} → Came (boardIn l) Why Good good r → (Good → (boardIn after ≡ good .board) × (isBoard after ≡ true))
+module _ (l after : List ℕ) (board : isBoard l ≡ true) {Good : Type 0} {good : Told} (fine : good .answer .code ≡ 0) where
+  follows : {r : Told} → Came (boardIn l) Good good r → (Good → (boardIn after ≡ good .board) × (isBoard after ≡ true))
       → Follows r (onNumbers l (r .answer) after)
-  follows (Came.refused n _) h = simp (board, ne-eqb _ _ n) (record { answer = refl; board = refl; tells = board })
+  follows (Came.refused n) h = simp (board, ne-eqb _ _ n) (record { answer = refl; board = refl; tells = board })
   follows (Came.accepted g) h = simp (board, eq-eqb _ _ fine) (record { answer = refl; board = h g .0; tells = h g .1 })
 
 -- What the numbers of a written header tell
@@ -193,12 +192,12 @@ module _ (l : List ℕ) (t : ℕ) (board : isBoard l ≡ true) (sound : boardSou
 show-follows : (l : List ℕ) (t : ℕ) → isBoard l ≡ true → Follows (showOf (boardIn l) t) (lentShow l t)
 unfolding lentShow
 show-follows l t board =
-    follows l (shown l t) board refl (show-came (boardIn l) t) (λ g. shown-follows l t board (board-sound-iff-plain (boardIn l) .1 (g .sound)))
+    follows l (shown l t) board refl (show-came (boardIn l) t) (λ g. shown-follows l t board (g .0))
 
 add-follows : (l : List ℕ) (t p wait : ℕ) → isBoard l ≡ true → Follows (addOf (boardIn l) t p wait) (lentAdd l t p wait)
 unfolding lentAdd
 add-follows l t p wait board =
-    follows l (added l t p wait) board refl (add-came (boardIn l) t p wait) (λ g. added-follows l t board (board-sound-iff-plain (boardIn l) .1 (g .timely .sound)) p wait (g .room))
+    follows l (added l t p wait) board refl (add-came (boardIn l) t p wait) (λ g. added-follows l t board (g .0) p wait (g .1 .room))
 
 heads-emptied : (w : ℕ) (l : List ℕ) → boardLength ≤ length l → Heads (emptied w l) w 0 0 0
 heads-emptied w l fits = record {

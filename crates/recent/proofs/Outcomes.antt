@@ -10,16 +10,16 @@ use borrow.Author.Tests.{ltb-true, ltb-false, eqb-true, eqb-false, leb-true, le-
 use Rattle.model.specs.declared.Answer.{Answer}
 use Rattle.model.specs.Answers.{beyond}
 use Rattle.model.proofs.Tests.{by-test, by-cond, clash, and-true-iff}
-use Rattle.recent.specs.Boards.{entryOf, Board, mostKept, boardSound, howMany, longestAt}
+use Rattle.recent.specs.Boards.{entryOf, Board, mostKept, boardSound, howMany}
 use Rattle.recent.specs.Boards.{Told, told, keeps, inTime, isProcess, widthStands, setUpOf, addOf, showOf}
 use Rattle.recent.specs.Facts.{InTime, IsProcess, Untimely, Adds, Shows, WidthStands, EverySetUp}
 use Rattle.recent.proofs.Expiry.{left-of}
 use Rattle.recent.proofs.Soundness.{board-sound-iff-plain}
 
--- `good` comes of what is accepted, for which `Good` holds, and a refusal with this code, process and time of what `Why` says of them
-pub data Came (b : Board) (Why : ℕ → ℕ → ℕ → Type 0) (Good : Type 0) (good : Told) : Told → Type 0 where
-  refused : {r : Answer} → r .code ≢ 0 → Why (r .code) (r .process) (r .time) → Came b Why Good good (told r b)
-  accepted : Good → Came b Why Good good good
+-- a refusal leaves the board, and `good` comes of what is accepted, for which `Good` holds
+pub data Came (b : Board) (Good : Type 0) (good : Told) : Told → Type 0 where
+  refused : {r : Answer} → r .code ≢ 0 → Came b Good good (told r b)
+  accepted : Good → Came b Good good good
 
 -- what holds of each refusal of a time, and of what comes of a call in time, holds of a call
 in-time : (b : Board) (t : ℕ) (P : Told → Type 0) {after : Told}
@@ -37,12 +37,16 @@ in-time b t P untimely timely =
     (λ g. timely (record { sound = sound; forward = forward; within = ltb-false _ _ g }))))
 
 module _ (b : Board) (t : ℕ) where
-  abbrev ShowComes : Told → Type 0
-  ShowComes = Came b (λ code process time. Shows b t code process time b) (InTime b t) (keeps b t [])
-
-  pub show-came : ShowComes (showOf b t)
+  -- what holds of each refusal, and of what is accepted, holds of a showing
+  pub show-cases : (P : Told → Type 0) → ((r : Answer) → r .code ≢ 0 → Shows b t (r .code) (r .process) (r .time) b → P (told r b))
+      → (InTime b t → P (keeps b t [])) → P (showOf b t)
   unfolding showOf
-  show-came = in-time b t ShowComes (λ r n u. Came.refused n (Shows.untimely u)) Came.accepted
+  show-cases P refusal success = in-time b t P (λ r n u. refusal r n (Shows.untimely u)) success
+
+  pub show-came : Came b ((boardSound b ≡ true) × InTime b t) (keeps b t []) (showOf b t)
+  show-came =
+      show-cases (Came b ((boardSound b ≡ true) × InTime b t) (keeps b t [])) (λ r n _. Came.refused n)
+      (λ h. Came.accepted (board-sound-iff-plain b .1 (h .sound), h))
 
 -- [4.7]
 is-process-iff : (p : ℕ) → (isProcess p ≡ true) ↔ IsProcess p
@@ -58,27 +62,28 @@ pub record Addable (b : Board) (t p : ℕ) : Type 0 where
   pub room : howMany (b .width) t (b .kept) ≢ mostKept
 
 module _ (b : Board) (t p wait : ℕ) where
-  abbrev AddComes : Told → Type 0
-  AddComes = Came b (λ code process time. Adds b t p wait code process time b) (Addable b t p) (keeps b t (entryOf t p wait ∷ []))
-
   abbrev many : ℕ
   many = howMany (b .width) t (b .kept)
 
-  abbrev longest : ℕ
-  longest = longestAt (b .width) t (b .kept)
-
-  pub add-came : AddComes (addOf b t p wait)
+  -- what holds of each refusal, and of what is accepted, holds of an adding
+  pub add-cases : (P : Told → Type 0) → ((r : Answer) → r .code ≢ 0 → Adds b t p wait (r .code) (r .process) (r .time) b → P (told r b))
+      → (Addable b t p → P (keeps b t (entryOf t p wait ∷ []))) → P (addOf b t p wait)
   unfolding addOf
-  add-came =
-      in-time b t AddComes (λ r n u. Came.refused n (Adds.untimely u))
-      (λ timely. by-cond AddComes (not (isProcess p))
-      (λ e. Came.refused (λ z. omega arith) (Adds.misnamed timely (λ h. clash (is-process-iff p .1 h) (not-true _ e))))
+  add-cases P refusal success =
+      in-time b t P (λ r n u. refusal r n (Adds.untimely u))
+      (λ timely. by-cond P (not (isProcess p))
+      (λ e. refusal _ (λ z. omega arith) (Adds.misnamed timely (λ h. clash (is-process-iff p .1 h) (not-true _ e))))
       (λ e. let process = is-process-iff p .0 (not-false _ e) in
-      by-cond AddComes (eqb many mostKept)
+      by-cond P (eqb many mostKept)
       (λ f. let all : many ≡ mostKept = eqb-true _ _ f in
       let left = rw all at (left-of (b .width) t (b .kept)) in
-      Came.refused (λ z. omega arith) (Adds.full _ _ timely process left))
-      (λ f. Came.accepted (record { timely = timely; process = process; room = eqb-false _ _ f }))))
+      refusal _ (λ z. omega arith) (Adds.full _ _ timely process left))
+      (λ f. success (record { timely = timely; process = process; room = eqb-false _ _ f }))))
+
+  pub add-came : Came b ((boardSound b ≡ true) × Addable b t p) (keeps b t (entryOf t p wait ∷ [])) (addOf b t p wait)
+  add-came =
+      add-cases (Came b ((boardSound b ≡ true) × Addable b t p) (keeps b t (entryOf t p wait ∷ []))) (λ r n _. Came.refused n)
+      (λ h. Came.accepted (board-sound-iff-plain b .1 (h .timely .sound), h))
 
 -- Setting up
 

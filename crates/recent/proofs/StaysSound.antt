@@ -13,7 +13,7 @@ use Rattle.recent.specs.Facts.{InTime, SoundBoard, BoardStaysSound}
 use Rattle.recent.proofs.Figures.{howMany-most}
 use Rattle.recent.proofs.Passes.{order-head}
 use Rattle.recent.proofs.Expiry.{counting-length}
-use Rattle.recent.proofs.Outcomes.{Came, show-came, add-came, every-set-up}
+use Rattle.recent.proofs.Outcomes.{show-cases, add-cases, every-set-up}
 use Rattle.recent.proofs.Soundness.{SoundParts, sound-parts, parts-sound, board-sound-iff-plain}
 
 -- What is left
@@ -83,12 +83,6 @@ module _ (b : Board) (t : ℕ) (timely : InTime b t) where
 plain-of : (b : Board) → SoundParts b → SoundBoard b
 plain-of b h = board-sound-iff-plain b .0 (parts-sound b h)
 
--- a refusal leaves a sound board
-came-sound : {b : Board} {Why : ℕ → ℕ → ℕ → Type 0} {Good : Type 0} {good r : Told}
-    → Came b Why Good good r → SoundBoard b → (Good → SoundParts (good .board)) → SoundBoard (r .board)
-came-sound (Came.refused _ _) s h = s
-came-sound {good = good} (Came.accepted g) s h = plain-of (good .board) (h g)
-
 pub board-stays-sound : BoardStaysSound
 unfolding inOrder noneAfter
 board-stays-sound = record {
@@ -96,7 +90,9 @@ board-stays-sound = record {
       rw (every-set-up w .board e)
       (plain-of (boardOf w 0 []) (record { width = every-set-up w .accepted .0 e; room = omega arith; order = refl; none-after = refl }));
   add = λ b t p wait s.
-      came-sound (add-came b t p wait) s
-      (λ g. added-sound b t (g .timely) (entryOf t p wait) refl (λ e. g .room (sym (counting-length (b .width) t (b .kept)) ∙ e)));
-  show = λ b t s. came-sound (show-came b t) s (λ g. rw append-nil (left-sound b t g));
+      add-cases b t p wait (λ (r : Told). SoundBoard (r .board)) (λ r _ _. s)
+      (λ g. plain-of _
+      (added-sound b t (g .timely) (entryOf t p wait) refl (λ e. g .room (sym (counting-length (b .width) t (b .kept)) ∙ e))));
+  show = λ b t s.
+      show-cases b t (λ (r : Told). SoundBoard (r .board)) (λ r _ _. s) (λ g. rw append-nil (plain-of _ (left-sound b t g)));
 }
