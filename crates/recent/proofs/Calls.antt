@@ -5,20 +5,21 @@ use mathlib.Core.Logic.{_≢_}
 use mathlib.Core.Bool.{true, false, _&&_}
 use mathlib.Core.List.{List, [], _∷_, _++_, append-nil}
 use native.Mathlib.Omega.{arith}
-use lib.Dec.{leb, ltb}
-use lib.ListN.{length, set, getD}
-use borrow.Author.Tests.{ltb-true, leb-true, eq-eqb, ne-eqb, le-leb, lt-leb}
+use lib.Dec.{ltb}
+use lib.ListN.{length, set}
+use borrow.Author.Tests.{eq-eqb, ne-eqb, le-leb, lt-leb}
 use Rattle.model.specs.declared.Answer.{Answer}
 use Rattle.model.specs.Answers.{answerOf, beyond}
-use Rattle.model.proofs.Tests.{by-test, and-true-iff}
+use Rattle.model.proofs.Tests.{by-test}
 use Rattle.recent.specs.declared.rings.Look.{Look}
 use Rattle.recent.specs.Boards.{Board, entryOf, widthStands, mostKept, boardSound, figuresAt}
 use Rattle.recent.specs.Boards.{Told, inTime, isProcess, setUpOf, addOf, showOf}
-use Rattle.recent.specs.Encodings.{firstPlace, countPlace, boardLength, wrapped, boardIn, isBoard}
-use Rattle.recent.specs.Encodings.{boardGave, emptied, lentSetUp, stillAt, nextAt, headed, placed}
+use Rattle.recent.specs.Encodings.{boardLength, wrapped, boardIn, isBoard}
+use Rattle.recent.specs.Encodings.{boardGave, emptied, lentSetUp, stillAt, firstAt, nextAt, headed, placed}
 use Rattle.recent.specs.Encodings.{shown, added, onNumbers, lentAdd, lentShow}
 use Rattle.recent.specs.Looking.{Looked, untimelyOf}
 use Rattle.recent.proofs.Places.{wrapped-on, wrapped-below, ring-length}
+use Rattle.recent.proofs.Sights.{widthIn, firstIn, countIn, ringIn, SoundNumbers, sound-numbers}
 use Rattle.recent.proofs.Soundness.{sound-parts}
 use Rattle.recent.proofs.Figures.{howMany-most, figures-snoc}
 
@@ -55,56 +56,36 @@ module _ (w : ℕ) (l : List ℕ) {r : Answer} where
     unfolding lentSetUp
     set-up-short e f = rw f (simp (lt-leb _ _ short, e))
 
--- The numbers of a sound board
+-- The places of a sound board at a time
 
--- its length, its first place, its width and how many it keeps
-pub record Sized (l : List ℕ) : Type 0 where
-  pub long : boardLength ≤ length l
-  pub place : getD l firstPlace 0 < mostKept
-  pub width : 1 ≤ boardIn l .width
-  pub room : getD l countPlace 0 ≤ mostKept
-
-sized : (l : List ℕ) → isBoard l ≡ true → boardSound (boardIn l) ≡ true → Sized l
-unfolding isBoard boardIn
-sized l board sound =
-    let b = and-true-iff (leb boardLength (length l)) (ltb (getD l firstPlace 0) mostKept) .0 board in
-    let parts = sound-parts (boardIn l) sound in
-    record {
-      long = leb-true _ _ (b .0);
-      place = ltb-true _ _ (b .1);
-      width = parts .width .least;
-      room = rw (ring-length l (getD l firstPlace 0) (getD l countPlace 0)) at (parts .room);
-    }
-
--- what a look at a sound board tells
-module _ {l : List ℕ} {t : ℕ} {r : Look} (k : Looked l t r) where
-  pub board-sized : Sized l
-  board-sized = sized l (k .board) (k .sound)
-
-  few : r .count ≤ getD l countPlace 0
+module _ (l : List ℕ) (t : ℕ) where
+  pub still-most : stillAt l t ≤ countIn l
   unfolding boardIn
-  few =
-      let n = ring-length l (getD l firstPlace 0) (getD l countPlace 0) in
-      rw (k .count-is) (omega (arith, n, howMany-most (boardIn l .width) t (boardIn l .kept)))
+  still-most = omega (arith, ring-length l (firstIn l) (countIn l), howMany-most (widthIn l) t (ringIn l))
+
+  module _ (s : SoundNumbers l) where
+    pub first-inside : firstAt l t < mostKept
+    first-inside = wrapped-below _ (omega (arith, s .inside, s .room))
+
+    -- the place after the last entry that counts is that after the last kept one
+    pub next-is : wrapped (firstAt l t + stillAt l t) ≡ nextAt l
+    next-is =
+        wrapped-on (firstIn l + (countIn l - stillAt l t)) (stillAt l t) (omega (arith, s .inside, s .room, still-most))
+        ∙ ap wrapped (omega (arith, still-most))
+
+-- of a look
+module _ {l : List ℕ} {t : ℕ} {r : Look} (k : Looked l t r) where
+  pub seen-sound : SoundNumbers l
+  seen-sound = sound-numbers l (k .board) (k .sound)
 
   pub count-most : r .count ≤ mostKept
-  count-most = omega (arith, few, board-sized .room)
+  count-most = omega (arith, k .count-is, still-most l t, seen-sound .room)
 
   pub first-most : r .first < mostKept
-  first-most =
-      let p = getD l firstPlace 0 + (getD l countPlace 0 - stillAt l t) in
-      rw (k .first-is) (wrapped-below p (omega (arith, board-sized .place, board-sized .room)))
+  first-most = omega (arith, k .first-is, first-inside l t seen-sound)
 
   pub next-most : wrapped (r .first + r .count) < mostKept
   next-most = wrapped-below (r .first + r .count) (omega (arith, first-most, count-most))
-
-  next-is : wrapped (r .first + r .count) ≡ nextAt l
-  next-is =
-      let first = getD l firstPlace 0 in
-      let count = getD l countPlace 0 in
-      let same : first + (count - r .count) + r .count ≡ first + count = omega (arith, few) in
-      rw (k .first-is, ← k .count-is)
-      (wrapped-on (first + (count - r .count)) (r .count) (omega (arith, board-sized .place, board-sized .room, few)) ∙ ap wrapped same)
 
 -- A call on a sound board
 
@@ -166,8 +147,8 @@ module _ (l : List ℕ) (t p wait : ℕ) {r : Answer} where
             let room = ne-eqb (stillAt l t) mostKept (λ e. n (k .count-is ∙ e)) in
             let b = boardIn l in
             let figures : r ≡ figuresAt (b .width) t (b .kept ++ (entryOf t p wait ∷ [])) =
-            f ∙ rw (k .count-is, k .longest-is) (sym (figures-snoc (b .width) t p wait (board-sized k .width) (b .kept))) in
-            let numbers : new ≡ added l t p wait = g ∙ rw (next-is k, k .count-is, k .first-is) in
+            f ∙ rw (k .count-is, k .longest-is) (sym (figures-snoc (b .width) t p wait (sound-parts b (k .sound) .width .least) (b .kept))) in
+            let numbers : new ≡ added l t p wait = g ∙ rw (k .count-is, k .first-is, next-is l t (seen-sound k)) in
             board-gave figures numbers ∙ simp (k .board, k .sound, h .forward, h .within, named, room)
 
 -- `show`

@@ -8,7 +8,7 @@ use Rattle.recent.specs.Boards.{isProcess}
 use Rattle.recent.specs.Encodings.{boardIn}
 use Rattle.recent.specs.Looking.{Looked, untimelyOf}
 use Rattle.recent.proofs.Writes.{headed-length}
-use Rattle.recent.proofs.Calls.{board-sized, count-most, first-most, next-most, Timely, timely}
+use Rattle.recent.proofs.Calls.{seen-sound, count-most, first-most, next-most, Timely, timely}
 use Rattle.recent.proofs.Calls.{add-unsound, add-untimely, add-misnamed, add-full, add-accepted}
 use Rattle.recent.proofs.add.Statement.{statement}
 use Rattle.recent.proofs.add.Tie as tie
@@ -34,7 +34,7 @@ looked : (c : tie.Else1)
 looked c = c .before .before .look-in .ensures .looked (not-false _ (c .if1 .left))
 
 slice-read-untimely : tie.Need-slice-read-untimely
-slice-read-untimely c = omega (arith, board-sized (looked (c .before)) .long)
+slice-read-untimely c = omega (arith, seen-sound (looked (c .before)) .fits)
 
 untimely-requires : tie.Need-untimely-requires
 untimely-requires c κs = search needs
@@ -105,7 +105,7 @@ add-put-header : tie.Need-add-put-header
 add-put-header c = search (needs, count-most (seen (c .before .before)))
 
 put-header-requires : tie.Need-put-header-requires
-put-header-requires c κs = board-sized (seen (c .before .before)) .long
+put-header-requires c κs = seen-sound (seen (c .before .before)) .fits
 
 add-wrapped-place : tie.Need-add-wrapped-place
 add-wrapped-place c =
@@ -118,7 +118,7 @@ wrapped-place-requires c κs = search needs
 put-entry-requires : tie.Need-put-entry-requires
 put-entry-requires c κs =
     let k = seen (c .before .before .before .before .before .before .before .before) in (
-      rw (c .before .before .before .before .before .put-header .ensures) (rw (headed-length _ _ _ _) (board-sized k .long)),
+      rw (c .before .before .before .before .before .put-header .ensures) (rw (headed-length _ _ _ _) (seen-sound k .fits)),
       rw (c .wrapped-place .ensures) (next-most k),
     )
 

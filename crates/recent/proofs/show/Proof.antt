@@ -5,7 +5,7 @@ use borrow.Author.Needs.{needs}
 use borrow.Author.Tests.{not-true, not-false}
 use Rattle.recent.specs.Encodings.{boardIn}
 use Rattle.recent.specs.Looking.{Looked, untimelyOf}
-use Rattle.recent.proofs.Calls.{board-sized, timely, show-unsound, show-untimely, show-accepted}
+use Rattle.recent.proofs.Calls.{seen-sound, timely, show-unsound, show-untimely, show-accepted}
 use Rattle.recent.proofs.show.Statement.{statement}
 use Rattle.recent.proofs.show.Tie as tie
 
@@ -30,7 +30,7 @@ looked : (c : tie.Else1)
 looked c = c .before .before .look-in .ensures .looked (not-false _ (c .if1 .left))
 
 slice-read-untimely : tie.Need-slice-read-untimely
-slice-read-untimely c = omega (arith, board-sized (looked (c .before)) .long)
+slice-read-untimely c = omega (arith, seen-sound (looked (c .before)) .fits)
 
 untimely-requires : tie.Need-untimely-requires
 untimely-requires c κs = search needs
@@ -52,7 +52,7 @@ returns-2 c =
     (refusal (c .before .before)) (c .if2 .taken)
 
 put-header-requires : tie.Need-put-header-requires
-put-header-requires c κs = board-sized (looked (c .before .before .before .before .before)) .long
+put-header-requires c κs = seen-sound (looked (c .before .before .before .before .before)) .fits
 
 answer-with-requires-2 : tie.Need-answer-with-requires-2
 answer-with-requires-2 c κs = search needs
