@@ -55,15 +55,16 @@ module _ {es : List Entry} (ds : List Entry) {pass mid : Pass} where
         passed = λ e. clash f e;
       }
 
+  order-both : Passed es pass mid → inOrder (pass .time) (es ++ ds) ≡ inOrder (mid .time) ds
+  order-both first = order-append (pass .time) es ds ∙ rw (first .order, first .latest-is)
+
   pub passes-both : {r : Pass} → Passes es pass mid → mid .falls ≡ false → Passes ds mid r → Passes (es ++ ds) pass r
   passes-both p f q =
       let first = p .passed f in
-      let order : inOrder (pass .time) (es ++ ds) ≡ inOrder (mid .time) ds =
-      order-append (pass .time) es ds ∙ rw (first .order) (ap (λ (t : ℕ). inOrder t ds) (sym (first .latest-is))) in
       record {
-        falls = λ e. order ∙ q .falls e;
+        falls = λ e. order-both first ∙ q .falls e;
         passed = λ e. record {
-          order = order ∙ q .passed e .order;
+          order = order-both first ∙ q .passed e .order;
           latest-is = q .passed e .latest-is ∙ rw (first .latest-is) (sym (latest-append (pass .time) es ds));
           longest-is = q .passed e .longest-is ∙ rw (first .longest-is) (sym (longest-append (pass .longest) es ds));
         };

@@ -12,13 +12,15 @@ use Rattle.model.proofs.Tests.{by-test, if-lt, clash, and-true-iff}
 use Rattle.recent.specs.declared.rings.Rest.{Rest}
 use Rattle.recent.specs.declared.rings.Pass.{Pass}
 use Rattle.recent.specs.declared.rings.Look.{Look}
-use Rattle.recent.specs.Boards.{Entry, widthStands, mostKept, inOrder, noneAfter, boardSound, howMany, longestAt}
+use Rattle.recent.specs.Boards.{Entry, boardOf, widthStands, mostKept, inOrder, boardSound, howMany, longestAt}
 use Rattle.recent.specs.Encodings.{widthPlace, lastPlace, firstPlace, countPlace, entryPlace, boardLength, wrapped, entryAt, ringFrom}
 use Rattle.recent.specs.Encodings.{boardIn, isBoard}
 use Rattle.recent.specs.Looking.{latest, Rested, Passed, Passes, Looked, Looks}
 use Rattle.recent.proofs.Places.{wrapped-below, ring-none, ring-length, ring-same}
 use Rattle.recent.proofs.Passes.{order-from, none-after, some-after, all-count, all-longest}
 use Rattle.recent.proofs.Resting.{ring-left}
+use Rattle.recent.proofs.Soundness.{SoundParts, sound-parts, parts-sound}
+use Rattle.recent.proofs.Outcomes.{width-stands-iff}
 
 -- the header of a list, and the ring that it tells
 abbrev pub widthIn : List ℕ → ℕ
@@ -40,40 +42,28 @@ ringIn l = ringFrom l (firstIn l) (countIn l)
 pub record SoundNumbers (l : List ℕ) : Type 0 where
   pub fits : boardLength ≤ length l
   pub inside : firstIn l < mostKept
-  pub width : widthStands (widthIn l) ≡ true
-  pub room : countIn l ≤ mostKept
-  pub order : inOrder 0 (ringIn l) ≡ true
-  pub not-after : noneAfter (lastIn l) (ringIn l) ≡ true
+  pub parts : SoundParts (boardOf (widthIn l) (lastIn l) (ringIn l))
 
--- a width that stands is not 0
-pub width-some : (w : ℕ) → widthStands w ≡ true → 1 ≤ w
-width-some w h = leb-true 1 w (simp and-true-iff at h .0)
-
-pub sound-numbers : (l : List ℕ) → isBoard l ≡ true → boardSound (boardIn l) ≡ true → SoundNumbers l
-unfolding isBoard boardSound boardIn
+sound-numbers : (l : List ℕ) → isBoard l ≡ true → boardSound (boardIn l) ≡ true → SoundNumbers l
+unfolding isBoard boardIn
 sound-numbers l b s =
     let board = simp and-true-iff at b in
-    let sound = simp and-true-iff at s in
-    let many = ring-length l (firstIn l) (countIn l) in
-    record {
-      fits = leb-true _ _ (board .0);
-      inside = ltb-true _ _ (board .1);
-      width = simp (sound .0 .0 .0 .0, sound .0 .0 .0 .1);
-      room = omega (arith, leb-true (length (ringIn l)) mostKept (sound .0 .0 .1));
-      order = sound .0 .1;
-      not-after = sound .1;
-    }
+    record { fits = leb-true _ _ (board .0); inside = ltb-true _ _ (board .1); parts = sound-parts (boardIn l) s }
 
 module _ (l : List ℕ) (s : SoundNumbers l) where
-  pub numbers-board : isBoard l ≡ true
+  numbers-board : isBoard l ≡ true
   unfolding isBoard
   numbers-board = simp (le-leb _ _ (s .fits), lt-ltb _ _ (s .inside))
 
-  pub numbers-sound : boardSound (boardIn l) ≡ true
-  unfolding boardSound boardIn
-  numbers-sound =
-      let many : length (ringIn l) ≤ mostKept = omega (arith, ring-length l (firstIn l) (countIn l), s .room) in
-      simp (s .width, le-leb _ _ many, s .order, s .not-after)
+  numbers-sound : boardSound (boardIn l) ≡ true
+  unfolding boardIn
+  numbers-sound = parts-sound (boardIn l) (s .parts)
+
+  pub room-in : countIn l ≤ mostKept
+  room-in = omega (arith, s .parts .room, ring-length l (firstIn l) (countIn l))
+
+  pub width-in : widthStands (widthIn l) ≡ true
+  width-in = width-stands-iff (widthIn l) .1 (s .parts .width)
 
 -- a look that shows no sound board
 pub no-sight : (l : List ℕ) (t : ℕ) {r : Look} → r .sound ≡ false → (SoundNumbers l → ⊥) → Looks l t r
@@ -106,7 +96,7 @@ sinceIn l t = t + 1 - widthIn l
 module _ (l : List ℕ) (t : ℕ) {rest : Rest} (gone : Rested l (firstIn l) (countIn l) (sinceIn l t) rest) where
   -- a time that falls among the entries that are left
   pub fall-seen : {pass : Pass} → Passes (leftOf l rest) (startOf rest) pass → pass .falls ≡ true → SoundNumbers l → ⊥
-  fall-seen passes e s = clash (s .order) (gone .resting .order ∙ passes .falls e)
+  fall-seen passes e s = clash (s .parts .order) (gone .resting .order ∙ passes .falls e)
 
   module _ {pass : Pass} (passed : Passed (leftOf l rest) (startOf rest) pass) where
     latest-seen : latest 0 (ringIn l) ≡ pass .time
@@ -114,7 +104,7 @@ module _ (l : List ℕ) (t : ℕ) {rest : Rest} (gone : Rested l (firstIn l) (co
 
     -- a last time past the one told
     pub late-seen : lastIn l < pass .time → SoundNumbers l → ⊥
-    late-seen h s = clash (s .not-after) (some-after 0 (lastIn l) (ringIn l) (omega arith) (omega (arith, latest-seen)))
+    late-seen h s = clash (s .parts .none-after) (some-after 0 (lastIn l) (ringIn l) (omega arith) (omega (arith, latest-seen)))
 
     module _ (few : countIn l ≤ mostKept) where
       -- what is left is in order from the first time on that counts
@@ -143,13 +133,16 @@ module _ (l : List ℕ) (t : ℕ) {rest : Rest} (gone : Rested l (firstIn l) (co
       sound-seen : boardLength ≤ length l → firstIn l < mostKept → widthStands (widthIn l) ≡ true → pass .time ≤ lastIn l → SoundNumbers l
       sound-seen fits inside stands h =
           let order = gone .resting .order ∙ passed .order in
+          let size = ring-length l (firstIn l) (countIn l) in
           record {
             fits = fits;
             inside = inside;
-            width = stands;
-            room = few;
-            order = order;
-            not-after = none-after 0 (lastIn l) (ringIn l) order (omega (arith, latest-seen));
+            parts = record {
+              width = width-stands-iff (widthIn l) .0 stands;
+              room = omega arith;
+              order = order;
+              none-after = none-after 0 (lastIn l) (ringIn l) order (omega (arith, latest-seen));
+            };
           }
 
       -- a sound board, whose figures are those of the passes
@@ -183,32 +176,31 @@ module _ (l : List ℕ) (long : boardLength ≤ length l) where
   front-ring : (k n : ℕ) → k < mostKept → n ≤ mostKept → ringFrom front k n ≡ ringFrom l k n
   front-ring k n h g = ring-same front l k n h g (λ i b. front-entry (wrapped (k + i)) (wrapped-below (k + i) (omega arith)))
 
-  front-ring-in : firstIn l < mostKept → countIn l ≤ mostKept → ringIn front ≡ ringIn l
-  front-ring-in h g =
-      rw (front-at firstPlace (omega arith), front-at countPlace (omega arith)) (front-ring (firstIn l) (countIn l) h g)
-
   front-board : firstIn l < mostKept → countIn l ≤ mostKept → boardIn front ≡ boardIn l
   unfolding boardIn
-  front-board h g = rw (front-ring-in h g, front-at widthPlace (omega arith), front-at lastPlace (omega arith))
+  front-board h g =
+      rw (
+        front-at firstPlace (omega arith),
+        front-at countPlace (omega arith),
+        front-at widthPlace (omega arith),
+        front-at lastPlace (omega arith),
+        front-ring (firstIn l) (countIn l) h g,
+      )
 
-  front-sound : SoundNumbers l → SoundNumbers front
+  front-sound : SoundNumbers l → isBoard front && boardSound (boardIn front) ≡ true
+  unfolding isBoard
   front-sound s =
-      let ring = front-ring-in (s .inside) (s .room) in
-      record {
-        fits = omega (arith, length-take-le boardLength l long);
-        inside = rw (front-at firstPlace (omega arith)) (s .inside);
-        width = rw (front-at widthPlace (omega arith)) (s .width);
-        room = rw (front-at countPlace (omega arith)) (s .room);
-        order = rw ring (s .order);
-        not-after = rw (ring, front-at lastPlace (omega arith)) (s .not-after);
-      }
+      let size = length-take-le boardLength l long in
+      let fits : boardLength ≤ length front = omega arith in
+      let inside : firstIn front < mostKept = rw (front-at firstPlace (omega arith)) (s .inside) in
+      simp (le-leb _ _ fits, lt-ltb _ _ inside) (rw (front-board (s .inside) (room-in l s)) (numbers-sound l s))
 
   front-seen : (t : ℕ) {r : Look} → Looked front t r → Looked l t r
   unfolding isBoard
   front-seen t seen =
       let s = sound-numbers front (seen .board) (seen .sound) in
       let inside = rw (front-at firstPlace (omega arith)) at (s .inside) in
-      let room = rw (front-at countPlace (omega arith)) at (s .room) in
+      let room = rw (front-at countPlace (omega arith)) at (room-in front s) in
       let same = front-board inside room in
       record {
         board = simp (le-leb _ _ long, lt-ltb _ _ inside);
@@ -222,6 +214,4 @@ module _ (l : List ℕ) (long : boardLength ≤ length l) where
   front-looks t {r} looks =
       by-test (r .sound)
       (λ e. sight l t e (front-seen t (looks .looked e)))
-      (λ e. no-sight l t e
-      (λ s. let f = front-sound s in
-      clash (and-true-iff (isBoard front) (boardSound (boardIn front)) .1 (numbers-board front f, numbers-sound front f)) (looks .unsound e)))
+      (λ e. no-sight l t e (λ s. clash (front-sound s) (looks .unsound e)))

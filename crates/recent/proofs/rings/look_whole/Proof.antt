@@ -1,17 +1,18 @@
 -- `recent::rings::look_whole` meets its contract: each exit but the last shows one thing that a sound board has not. Assumes nothing.
-use mathlib.Core.Bool.{true}
+use Prim.Native.Nat.{ℕ, _≤_}
 use mathlib.Core.Path.{_≡_, refl, sym, _∙_}
+use mathlib.Core.Bool.{true}
+use mathlib.Core.List.{List}
 use native.Mathlib.Omega.{arith}
 use borrow.Author.Needs.{needs}
 use borrow.Author.Tests.{not-true, not-false}
-use Rattle.model.proofs.Tests.{clash}
-use Prim.Native.Nat.{ℕ, _≤_}
 use lib.ListN.{length}
-use mathlib.Core.List.{List}
+use Rattle.model.proofs.Tests.{clash}
 use Rattle.recent.specs.Boards.{widthStands}
 use Rattle.recent.specs.Encodings.{boardLength}
 use Rattle.recent.specs.Looking.{Rested}
-use Rattle.recent.proofs.Sights.{widthIn, firstIn, countIn, sinceIn, width-some, no-sight, sight, fall-seen, late-seen, seen}
+use Rattle.recent.proofs.Outcomes.{width-stands-iff}
+use Rattle.recent.proofs.Sights.{widthIn, firstIn, countIn, sinceIn, room-in, width-in, no-sight, sight, fall-seen, late-seen, seen}
 use Rattle.recent.proofs.rings.look_whole.Statement.{statement}
 use Rattle.recent.proofs.rings.look_whole.Tie as tie
 
@@ -41,7 +42,7 @@ no-look-requires c κs = search needs
 returns : tie.Need-returns
 returns c =
     no-sight _ _ (c .no-look .ensures)
-    (λ s. clash (s .width) (sym (c .before .before .width-stands .ensures) ∙ not-true _ (c .before .if1 .taken)))
+    (λ s. clash (width-in _ s) (sym (c .before .before .width-stands .ensures) ∙ not-true _ (c .before .if1 .taken)))
 
 shared-slice-read-if2 : tie.Need-shared-slice-read-if2
 shared-slice-read-if2 c = search needs
@@ -59,7 +60,7 @@ no-look-requires-3 : tie.Need-no-look-requires-3
 no-look-requires-3 c κs = search needs
 
 returns-3 : tie.Need-returns-3
-returns-3 c = no-sight _ _ (c .no-look3 .ensures) (λ s. omega (arith, s .room, c .before .if3 .taken))
+returns-3 c = no-sight _ _ (c .no-look3 .ensures) (λ s. omega (arith, room-in _ s, c .before .if3 .taken))
 
 shared-slice-read-first : tie.Need-shared-slice-read-first
 shared-slice-read-first c = search needs
@@ -68,7 +69,7 @@ shared-slice-read-count : tie.Need-shared-slice-read-count
 shared-slice-read-count c = search needs
 
 since-at-requires : tie.Need-since-at-requires
-since-at-requires c κs = width-some _ (width-is (c .before .before .before .before .before .before))
+since-at-requires c κs = width-stands-iff _ .0 (width-is (c .before .before .before .before .before .before)) .least
 
 rest-from-requires : tie.Need-rest-from-requires
 rest-from-requires c κs = search needs
@@ -79,7 +80,7 @@ no-look-requires-4 c κs = search needs
 returns-4 : tie.Need-returns-4
 returns-4 c =
     no-sight _ _ (c .no-look4 .ensures)
-    (λ s. clash (s .order) (c .before .before .rest-from .ensures .falls (c .before .if4 .taken)))
+    (λ s. clash (s .parts .order) (c .before .before .rest-from .ensures .falls (c .before .if4 .taken)))
 
 longest-around-requires : tie.Need-longest-around-requires
 longest-around-requires c κs =
