@@ -42,13 +42,20 @@ ringIn l = ringFrom l (firstIn l) (countIn l)
 pub record SoundNumbers (l : List ℕ) : Type 0 where
   pub fits : boardLength ≤ length l
   pub inside : firstIn l < mostKept
+  pub room : countIn l ≤ mostKept
   pub parts : SoundParts (boardOf (widthIn l) (lastIn l) (ringIn l))
 
-sound-numbers : (l : List ℕ) → isBoard l ≡ true → boardSound (boardIn l) ≡ true → SoundNumbers l
+pub sound-numbers : (l : List ℕ) → isBoard l ≡ true → boardSound (boardIn l) ≡ true → SoundNumbers l
 unfolding isBoard boardIn
 sound-numbers l b s =
     let board = simp and-true-iff at b in
-    record { fits = leb-true _ _ (board .0); inside = ltb-true _ _ (board .1); parts = sound-parts (boardIn l) s }
+    let parts = sound-parts (boardIn l) s in
+    record {
+      fits = leb-true _ _ (board .0);
+      inside = ltb-true _ _ (board .1);
+      room = omega (arith, parts .room, ring-length l (firstIn l) (countIn l));
+      parts = parts;
+    }
 
 module _ (l : List ℕ) (s : SoundNumbers l) where
   numbers-board : isBoard l ≡ true
@@ -58,9 +65,6 @@ module _ (l : List ℕ) (s : SoundNumbers l) where
   numbers-sound : boardSound (boardIn l) ≡ true
   unfolding boardIn
   numbers-sound = parts-sound (boardIn l) (s .parts)
-
-  pub room-in : countIn l ≤ mostKept
-  room-in = omega (arith, s .parts .room, ring-length l (firstIn l) (countIn l))
 
   pub width-in : widthStands (widthIn l) ≡ true
   width-in = width-stands-iff (widthIn l) .1 (s .parts .width)
@@ -137,6 +141,7 @@ module _ (l : List ℕ) (t : ℕ) {rest : Rest} (gone : Rested l (firstIn l) (co
           record {
             fits = fits;
             inside = inside;
+            room = few;
             parts = record {
               width = width-stands-iff (widthIn l) .0 stands;
               room = omega arith;
@@ -193,14 +198,14 @@ module _ (l : List ℕ) (long : boardLength ≤ length l) where
       let size = length-take-le boardLength l long in
       let fits : boardLength ≤ length front = omega arith in
       let inside : firstIn front < mostKept = rw (front-at firstPlace (omega arith)) (s .inside) in
-      simp (le-leb _ _ fits, lt-ltb _ _ inside) (rw (front-board (s .inside) (room-in l s)) (numbers-sound l s))
+      simp (le-leb _ _ fits, lt-ltb _ _ inside) (rw (front-board (s .inside) (s .room)) (numbers-sound l s))
 
   front-seen : (t : ℕ) {r : Look} → Looked front t r → Looked l t r
   unfolding isBoard
   front-seen t seen =
       let s = sound-numbers front (seen .board) (seen .sound) in
       let inside = rw (front-at firstPlace (omega arith)) at (s .inside) in
-      let room = rw (front-at countPlace (omega arith)) at (room-in front s) in
+      let room = rw (front-at countPlace (omega arith)) at (s .room) in
       let same = front-board inside room in
       record {
         board = simp (le-leb _ _ long, lt-ltb _ _ inside);

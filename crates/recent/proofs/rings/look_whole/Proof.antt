@@ -12,7 +12,7 @@ use Rattle.recent.specs.Boards.{widthStands}
 use Rattle.recent.specs.Encodings.{boardLength}
 use Rattle.recent.specs.Looking.{Rested}
 use Rattle.recent.proofs.Outcomes.{width-stands-iff}
-use Rattle.recent.proofs.Sights.{widthIn, firstIn, countIn, sinceIn, room-in, width-in, no-sight, sight, fall-seen, late-seen, seen}
+use Rattle.recent.proofs.Sights.{widthIn, firstIn, countIn, sinceIn, width-in, no-sight, sight, fall-seen, late-seen, seen}
 use Rattle.recent.proofs.rings.look_whole.Statement.{statement}
 use Rattle.recent.proofs.rings.look_whole.Tie as tie
 
@@ -60,7 +60,7 @@ no-look-requires-3 : tie.Need-no-look-requires-3
 no-look-requires-3 c κs = search needs
 
 returns-3 : tie.Need-returns-3
-returns-3 c = no-sight _ _ (c .no-look3 .ensures) (λ s. omega (arith, room-in _ s, c .before .if3 .taken))
+returns-3 c = no-sight _ _ (c .no-look3 .ensures) (λ s. omega (arith, s .room, c .before .if3 .taken))
 
 shared-slice-read-first : tie.Need-shared-slice-read-first
 shared-slice-read-first c = search needs
