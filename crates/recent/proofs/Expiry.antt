@@ -3,7 +3,7 @@
 use Prim.Native.Nat.{ℕ, suc, _+_, _-_, _≤_, _<_, max}
 use mathlib.Core.Path.{_≡_, refl}
 use mathlib.Core.Bool.{true}
-use mathlib.Core.List.{List, [], _∷_}
+use mathlib.Core.List.{List, [], _∷_, _++_}
 use native.Mathlib.Omega.{arith}
 use lib.Dec.{ltb}
 use lib.ListN.{length, drop}
@@ -20,6 +20,13 @@ module _ (w t : ℕ) where
   counting-length [] = refl
   counting-length (e ∷ es) =
       by-test (counts w t e) (λ c. rw (c, counting-length es) (omega arith)) (λ c. rw c (counting-length es))
+
+  -- one that counts comes last
+  pub counting-snoc : (d : Entry) → counts w t d ≡ true → (es : List Entry) → counting w t (es ++ (d ∷ [])) ≡ counting w t es ++ (d ∷ [])
+  unfolding counting
+  counting-snoc d c [] = simp c
+  counting-snoc d c (e ∷ es) =
+      by-test (counts w t e) (λ f. rw (f, counting-snoc d c es)) (λ f. rw f (counting-snoc d c es))
 
   -- where one counts, so do those after it
   counting-all : (since : ℕ) (es : List Entry) → t < since + w → inOrder since es ≡ true → counting w t es ≡ es

@@ -15,3 +15,4 @@ pub mod ToldLists
 pub mod StaysSound
 pub mod Passing
 pub mod Sights
+pub mod Refusals

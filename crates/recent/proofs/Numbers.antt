@@ -23,7 +23,8 @@ use Rattle.recent.proofs.Outcomes.{Came, show-came, add-came}
 use Rattle.recent.proofs.Standing.{board-told-iff}
 use Rattle.recent.proofs.Expiry.{counting-last}
 use Rattle.recent.proofs.Places.{wrapped-below, wrapped-on, wrapped-apart, ring-length, ring-none, ring-same, ring-snoc, ring-drop}
-use Rattle.recent.proofs.Writes.{headed-length, headed-other, headed-entry, placed-length, placed-other, placed-elsewhere, placed-there, emptied-length}
+use Rattle.recent.proofs.Writes.{headed-length, headed-other, headed-entry, emptied-length}
+use Rattle.recent.proofs.Writes.{placed-length, placed-other, placed-elsewhere, placed-there}
 
 -- A call on numbers
 

@@ -49,7 +49,7 @@ module _ (b : Board) (t : ℕ) where
       (λ h. Came.accepted (board-sound-iff-plain b .1 (h .sound), h))
 
 -- [4.7]
-is-process-iff : (p : ℕ) → (isProcess p ≡ true) ↔ IsProcess p
+pub is-process-iff : (p : ℕ) → (isProcess p ≡ true) ↔ IsProcess p
 is-process-iff p = (
   λ e. let h = and-true-iff (leb 1 p) _ .0 e in record { some = leb-true _ _ (h .0); most = leb-true _ _ (h .1) },
   λ h. and-true-iff _ _ .1 (le-leb _ _ (h .some), le-leb _ _ (h .most)),

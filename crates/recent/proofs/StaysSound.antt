@@ -39,7 +39,8 @@ module _ (w t : ℕ) where
 
 -- A new entry
 
-snoc-order : (t s : ℕ) (d : Entry) (es : List Entry) → d .time ≡ t → s ≤ t → inOrder s es ≡ true → noneAfter t es ≡ true → inOrder s (es ++ (d ∷ [])) ≡ true
+snoc-order : (t s : ℕ) (d : Entry) (es : List Entry) → d .time ≡ t → s ≤ t → inOrder s es ≡ true → noneAfter t es ≡ true
+    → inOrder s (es ++ (d ∷ [])) ≡ true
 unfolding inOrder noneAfter
 snoc-order t s d [] e b h n = simp tests (omega arith, refl)
 snoc-order t s d (c ∷ es) e b h n =

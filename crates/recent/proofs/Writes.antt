@@ -90,7 +90,8 @@ on-numbers : (P : List ℕ → Type 0) (l : List ℕ) (r : Answer) (after : List
 on-numbers P l r after h g =
     by-test (isBoard l) (λ b. by-test (eqb (r .code) 0) (λ e. simp (b, e) g) (λ e. simp (b, e) h)) (λ b. simp b h)
 
-set-up-numbers : (P : List ℕ → Type 0) (w : ℕ) (l : List ℕ) → P l → (boardLength ≤ length l → (v : ℕ) → P (emptied v l)) → P (lentSetUp w l .board)
+set-up-numbers : (P : List ℕ → Type 0) (w : ℕ) (l : List ℕ) → P l → (boardLength ≤ length l → (v : ℕ) → P (emptied v l))
+    → P (lentSetUp w l .board)
 unfolding lentSetUp
 set-up-numbers P w l h g =
     by-test (leb boardLength (length l)) (λ e. simp e (g (leb-true _ _ e) (setUpOf w .board .width))) (λ e. simp e h)
