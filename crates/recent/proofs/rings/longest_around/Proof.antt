@@ -1,6 +1,6 @@
 -- `recent::rings::longest_around` meets its contract: a ring is one straight part, or two, one after the other. Assumes nothing.
-use mathlib.Core.Path.{_≡_}
 use Prim.Native.Nat.{_+_, _-_}
+use mathlib.Core.Path.{_≡_}
 use native.Mathlib.Omega.{arith}
 use borrow.Author.Needs.{needs}
 use Rattle.recent.specs.Boards.{mostKept}

@@ -1,7 +1,7 @@
 -- `recent::rings::look_in` meets its contract: too short a list tells no board, and any other the board of the numbers at its front.
 -- Assumes nothing.
-use native.Mathlib.Omega.{arith}
 use mathlib.Core.Path.{sym}
+use native.Mathlib.Omega.{arith}
 use borrow.Author.Needs.{needs}
 use lib.Seq.{length-take-le}
 use Rattle.recent.specs.Encodings.{boardLength}
