@@ -19,9 +19,10 @@ use Rattle.recent.specs.Encodings.{boardLength, boardIn, isBoard, LentBo
 use Rattle.recent.specs.Looking.{SameFigures}
 use Rattle.recent.specs.Lists.{BoardCall, lentBoardCall, boardAfter, Asked, asked, askedBy, lastTold, acceptedIn, workedOut}
 use Rattle.recent.specs.Lists.{askedOf, boardResults, boardRun, BoardPromise, EveryBoardList}
-use Rattle.recent.specs.Facts.{SoundBoard, BoardStaysSound}
+use Rattle.recent.specs.Facts.{SoundBoard}
 use Rattle.recent.proofs.Figures.{howMany-append, longest-append}
 use Rattle.recent.proofs.Soundness.{board-sound-iff-plain}
+use Rattle.recent.proofs.StaysSound.{board-stays-sound}
 use Rattle.recent.proofs.Numbers.{numbers-follow}
 
 -- What has expired at a time counts at no later one
@@ -204,98 +205,98 @@ pub record LentFollows (w : ℕ) (log : List Asked) (l : List ℕ) : Type 0 wher
   pub board : isBoard l ≡ true
   pub follows : Follows w log (boardIn l)
 
-module _ (stays : BoardStaysSound) where
-  call-sound : (b : Board) (d : BoardCall) → boardSound b ≡ true → boardSound (boardCallOf b d .board) ≡ true
-  call-sound b d s =
-      board-sound-iff-plain (boardCallOf b d .board) .1
-      (by-cond (λ (r : Told). SoundBoard (r .board)) (d .adds) (λ _. stays .add b (d .time) (d .process) (d .wait) (board-sound-iff-plain b .0 s))
-      (λ _. stays .show b (d .time) (board-sound-iff-plain b .0 s)))
+call-sound : (b : Board) (d : BoardCall) → boardSound b ≡ true → boardSound (boardCallOf b d .board) ≡ true
+call-sound b d s =
+    let sound = board-sound-iff-plain b .0 s in
+    board-sound-iff-plain (boardCallOf b d .board) .1
+    (by-cond (λ (r : Told). SoundBoard (r .board)) (d .adds) (λ _. board-stays-sound .add b (d .time) (d .process) (d .wait) sound)
+    (λ _. board-stays-sound .show b (d .time) sound))
 
-  -- a call on a list that tells a board is the call on that board
-  record CallFollows (l : List ℕ) (d : BoardCall) : Type 0 where
-    answer : lentBoardCall l d .answer ≡ boardCallOf (boardIn l) d .answer
-    board : boardIn (lentBoardCall l d .board) ≡ boardCallOf (boardIn l) d .board
-    told : isBoard (lentBoardCall l d .board) ≡ true
+-- a call on a list that tells a board is the call on that board
+record CallFollows (l : List ℕ) (d : BoardCall) : Type 0 where
+  answer : lentBoardCall l d .answer ≡ boardCallOf (boardIn l) d .answer
+  board : boardIn (lentBoardCall l d .board) ≡ boardCallOf (boardIn l) d .board
+  told : isBoard (lentBoardCall l d .board) ≡ true
 
-  call-follows : (l : List ℕ) (d : BoardCall) → isBoard l ≡ true → CallFollows l d
-  unfolding lentBoardCall
-  call-follows l d e =
-      by-test (d .adds)
-      (λ y. let f = numbers-follow .add l (d .time) (d .process) (d .wait) e in
-      record { answer = rw y (f .0); board = rw y (f .1); told = rw y (f .2) })
-      (λ n. let f = numbers-follow .show l (d .time) e in record { answer = rw n (f .0); board = rw n (f .1); told = rw n (f .2) })
+call-follows : (l : List ℕ) (d : BoardCall) → isBoard l ≡ true → CallFollows l d
+unfolding lentBoardCall
+call-follows l d e =
+    by-test (d .adds)
+    (λ y. let f = numbers-follow .add l (d .time) (d .process) (d .wait) e in
+    record { answer = rw y (f .0); board = rw y (f .1); told = rw y (f .2) })
+    (λ n. let f = numbers-follow .show l (d .time) e in record { answer = rw n (f .0); board = rw n (f .1); told = rw n (f .2) })
 
-  module _ {w : ℕ} {log : List Asked} {l : List ℕ} (lent : LentFollows w log l) (d : BoardCall) where
-    abbrev called : CallFollows l d
-    called = call-follows l d (lent .board)
+module _ {w : ℕ} {log : List Asked} {l : List ℕ} (lent : LentFollows w log l) (d : BoardCall) where
+  abbrev called : CallFollows l d
+  called = call-follows l d (lent .board)
 
-    pub lent-answer : lentBoardCall l d .answer ≡ workedOut w log d
-    lent-answer = called .answer ∙ answer-told (lent .follows) d (goes (lent .follows) d)
+  pub lent-answer : lentBoardCall l d .answer ≡ workedOut w log d
+  lent-answer = called .answer ∙ answer-told (lent .follows) d (goes (lent .follows) d)
 
-    pub lent-next : LentFollows w (askedBy d (lentBoardCall l d) ∷ log) (lentBoardCall l d .board)
-    lent-next = record {
-      board = called .told;
-      follows = rw (called .answer, called .board)
-          (next-follows (lent .follows) d (goes (lent .follows) d) (call-sound (boardIn l) d (lent .follows .sound)));
+  pub lent-next : LentFollows w (askedBy d (lentBoardCall l d) ∷ log) (lentBoardCall l d .board)
+  lent-next = record {
+    board = called .told;
+    follows = rw (called .answer, called .board)
+        (next-follows (lent .follows) d (goes (lent .follows) d) (call-sound (boardIn l) d (lent .follows .sound)));
+  }
+
+follows-all : {w : ℕ} (log : List Asked) (l : List ℕ) (ds : List BoardCall) → LentFollows w log l
+    → LentFollows w (logBy askedBy log ds (resultsBy lentBoardCall boardAfter l ds)) (endBy lentBoardCall boardAfter l ds)
+unfolding logBy resultsBy endBy
+follows-all log l [] h = h
+follows-all log l (d ∷ ds) h = follows-all _ (lentBoardCall l d .board) ds (lent-next h d)
+
+-- A list that was set up
+
+module _ (w : ℕ) (board : List ℕ) where
+  abbrev setUp : LentBoard
+  setUp = lentSetUp w board
+
+  data SetUpGiven : Type 0 where
+    stood : setUp .answer .code ≡ 0 → LentFollows w [] (setUp .board) → SetUpGiven
+    fell : setUp .answer .code ≢ 0 → Unsound (setUp .board) → SetUpGiven
+
+  -- a list that is too short stays, and tells no board
+  too-short : leb boardLength (length board) ≡ false → SetUpGiven
+  unfolding lentSetUp isBoard
+  too-short h =
+      fell (rw h (by-cond (λ (r : Answer). r .code ≢ 0) {u = answerOf 16 0 0} {v = answerOf 17 0 0} (widthStands w) (λ _. omega arith)
+      (λ _. omega arith))) (rw (h, h))
+
+  long-enough : boardLength ≤ length board → SetUpGiven
+  long-enough h =
+      let f = numbers-follow .set-up w board h in
+      by-test (widthStands w)
+      (λ y. stood (ap (λ (r : Answer). r .code) (f .0) ∙ set-up-accepted w y)
+      (record { board = f .2; follows = rw (f .1) (set-up-follows w y) }))
+      (λ n. fell (rw (f .0) (set-up-refused w n)) (rw (f .1, f .2) (set-up-unsound w n)))
+
+  set-up-given : SetUpGiven
+  set-up-given = by-test (leb boardLength (length board)) (λ h. long-enough (leb-true _ _ h)) too-short
+
+  pub set-up-lent : setUp .answer .code ≡ 0 → LentFollows w [] (setUp .board)
+  set-up-lent e = elim set-up-given [ stood _ h ↦ h | fell n _ ↦ absurd (n e) ]
+
+board-promise : {w : ℕ} (board : List ℕ) (ds : List BoardCall) (d : BoardCall) → SetUpGiven w board
+    → BoardPromise w (lentSetUp w board .answer .code) (askedOf ds (boardResults w board ds)) d
+    (boardRun w board ds) (lentBoardCall (boardRun w board ds) d)
+board-promise {w} board ds d (SetUpGiven.stood e h) =
+    let lent = follows-all [] (lentSetUp w board .board) ds h in
+    record {
+      answer = λ _. lent-answer lent d;
+      figures = λ _ f. lent-answer lent d ∙ worked-success w _ d (rw (← lent-answer lent d) f);
+      refused = λ n. absurd (n e);
+      refused-stays = λ n. absurd (n e);
+    }
+board-promise {w} board ds d (SetUpGiven.fell n h) =
+    let same = unsound-run (lentSetUp w board .board) h ds in
+    let gave = unsound-call (lentSetUp w board .board) h d in
+    record {
+      answer = λ e. absurd (n e);
+      figures = λ e. absurd (n e);
+      refused = λ _. rw (same, gave);
+      refused-stays = λ _. rw (same, gave);
     }
 
-  follows-all : {w : ℕ} (log : List Asked) (l : List ℕ) (ds : List BoardCall) → LentFollows w log l
-      → LentFollows w (logBy askedBy log ds (resultsBy lentBoardCall boardAfter l ds)) (endBy lentBoardCall boardAfter l ds)
-  unfolding logBy resultsBy endBy
-  follows-all log l [] h = h
-  follows-all log l (d ∷ ds) h = follows-all _ (lentBoardCall l d .board) ds (lent-next h d)
-
-  -- A list that was set up
-
-  module _ (w : ℕ) (board : List ℕ) where
-    abbrev setUp : LentBoard
-    setUp = lentSetUp w board
-
-    data SetUpGiven : Type 0 where
-      stood : setUp .answer .code ≡ 0 → LentFollows w [] (setUp .board) → SetUpGiven
-      fell : setUp .answer .code ≢ 0 → Unsound (setUp .board) → SetUpGiven
-
-    -- a list that is too short stays, and tells no board
-    too-short : leb boardLength (length board) ≡ false → SetUpGiven
-    unfolding lentSetUp isBoard
-    too-short h =
-        fell (rw h (by-cond (λ (r : Answer). r .code ≢ 0) {u = answerOf 16 0 0} {v = answerOf 17 0 0} (widthStands w) (λ _. omega arith)
-        (λ _. omega arith))) (rw (h, h))
-
-    long-enough : boardLength ≤ length board → SetUpGiven
-    long-enough h =
-        let f = numbers-follow .set-up w board h in
-        by-test (widthStands w)
-        (λ y. stood (ap (λ (r : Answer). r .code) (f .0) ∙ set-up-accepted w y)
-        (record { board = f .2; follows = rw (f .1) (set-up-follows w y) }))
-        (λ n. fell (rw (f .0) (set-up-refused w n)) (rw (f .1, f .2) (set-up-unsound w n)))
-
-    set-up-given : SetUpGiven
-    set-up-given = by-test (leb boardLength (length board)) (λ h. long-enough (leb-true _ _ h)) too-short
-
-    pub set-up-lent : setUp .answer .code ≡ 0 → LentFollows w [] (setUp .board)
-    set-up-lent e = elim set-up-given [ stood _ h ↦ h | fell n _ ↦ absurd (n e) ]
-
-  board-promise : {w : ℕ} (board : List ℕ) (ds : List BoardCall) (d : BoardCall) → SetUpGiven w board
-      → BoardPromise w (lentSetUp w board .answer .code) (askedOf ds (boardResults w board ds)) d
-      (boardRun w board ds) (lentBoardCall (boardRun w board ds) d)
-  board-promise {w} board ds d (SetUpGiven.stood e h) =
-      let lent = follows-all [] (lentSetUp w board .board) ds h in
-      record {
-        answer = λ _. lent-answer lent d;
-        figures = λ _ f. lent-answer lent d ∙ worked-success w _ d (rw (← lent-answer lent d) f);
-        refused = λ n. absurd (n e);
-        refused-stays = λ n. absurd (n e);
-      }
-  board-promise {w} board ds d (SetUpGiven.fell n h) =
-      let same = unsound-run (lentSetUp w board .board) h ds in
-      let gave = unsound-call (lentSetUp w board .board) h d in
-      record {
-        answer = λ e. absurd (n e);
-        figures = λ e. absurd (n e);
-        refused = λ _. rw (same, gave);
-        refused-stays = λ _. rw (same, gave);
-      }
-
-  every-board-list-by : EveryBoardList
-  every-board-list-by w board ds d = board-promise board ds d (set-up-given w board)
+pub every-board-list : EveryBoardList
+every-board-list w board ds d = board-promise board ds d (set-up-given w board)
