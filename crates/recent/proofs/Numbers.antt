@@ -11,18 +11,18 @@ use borrow.Author.Tests.{eq-eqb, ne-eqb, le-leb}
 use Rattle.model.specs.declared.Answer.{Answer}
 use Rattle.model.specs.Answers.{answerOf}
 use Rattle.model.proofs.Tests.{by-cond}
-use Rattle.recent.specs.Boards.{Entry, entryOf, boardOf, mostKept, boardSound, widthStands, counting}
+use Rattle.recent.specs.Boards.{Entry, entryOf, boardOf, mostKept, widthStands, counting}
 use Rattle.recent.specs.Boards.{Told, told, keeps, setUpOf, addOf, showOf}
 use Rattle.recent.specs.Encodings.{widthPlace, lastPlace, firstPlace, countPlace, boardLength, wrapped, entryAt, ringFrom, boardIn, isBoard}
 use Rattle.recent.specs.Encodings.{LentBoard, boardGave, stillAt, firstAt, nextAt, headed, placed, shown, added, onNumbers}
 use Rattle.recent.specs.Encodings.{emptied, lentSetUp, lentAdd, lentShow}
 use Rattle.recent.specs.Facts.{NumbersFollow}
-use Rattle.recent.proofs.Figures.{howMany-most}
-use Rattle.recent.proofs.Soundness.{sound-parts}
 use Rattle.recent.proofs.Outcomes.{Came, show-came, add-came}
+use Rattle.recent.proofs.Sights.{widthIn, firstIn, countIn, ringIn, SoundNumbers, sound-numbers}
+use Rattle.recent.proofs.Calls.{still-most, first-inside, next-is}
 use Rattle.recent.proofs.Standing.{board-told-iff}
 use Rattle.recent.proofs.Expiry.{counting-last}
-use Rattle.recent.proofs.Places.{wrapped-below, wrapped-on, wrapped-apart, ring-length, ring-none, ring-same, ring-snoc, ring-drop}
+use Rattle.recent.proofs.Places.{wrapped-below, wrapped-apart, ring-length, ring-none, ring-same, ring-snoc, ring-drop}
 use Rattle.recent.proofs.Writes.{headed-length, headed-other, headed-entry, emptied-length}
 use Rattle.recent.proofs.Writes.{placed-length, placed-other, placed-elsewhere, placed-there}
 
@@ -86,66 +86,39 @@ heads-headed l t k n fits =
 
 -- A board that is sound, and is told by numbers
 
-module _ (l : List ℕ) (t : ℕ) (board : isBoard l ≡ true) (sound : boardSound (boardIn l) ≡ true) where
-  abbrev first : ℕ
-  first = getD l firstPlace 0
-
-  abbrev count : ℕ
-  count = getD l countPlace 0
-
-  abbrev kept : List Entry
-  kept = ringFrom l first count
-
-  fits : boardLength ≤ length l
-  fits = board-told-iff l .0 board .0
-
-  first-fits : first < mostKept
-  first-fits = board-told-iff l .0 board .1
-
-  count-fits : count ≤ mostKept
-  unfolding boardIn
-  count-fits = omega (arith, sound-parts (boardIn l) sound .room, ring-length l first count)
-
-  still-fits : stillAt l t ≤ count
-  unfolding boardIn
-  still-fits = omega (arith, howMany-most (getD l 0 0) t kept, ring-length l first count)
-
-  -- what counts is left, from its first place on
-  rest-is : ringFrom l (firstAt l t) (stillAt l t) ≡ counting (boardIn l .width) t (boardIn l .kept)
-  unfolding boardIn
-  rest-is =
-      let still = stillAt l t in
-      let rest : count - (count - still) ≡ still = omega (arith, still-fits) in
-      sym (
-      counting-last (getD l 0 0) t 0 kept (sound-parts (boardIn l) sound .order)
-      ∙ rw (ring-length l first count) (ring-drop l first count (count - still) first-fits (omega arith) count-fits)
-      ∙ ap (ringFrom l (firstAt l t)) rest
-      )
-
+module _ (l : List ℕ) (t : ℕ) (s : SoundNumbers l) where
   abbrev still : ℕ
   still = stillAt l t
 
+  still-fits : still ≤ mostKept
+  still-fits = omega (arith, still-most l t, s .room)
+
   first-still : firstAt l t < mostKept
-  first-still = wrapped-below _ (omega (arith, first-fits, count-fits))
+  first-still = first-inside l t s
 
   next-fits : nextAt l < mostKept
-  next-fits = wrapped-below _ (omega (arith, first-fits, count-fits))
+  next-fits = wrapped-below _ (omega (arith, s .inside, s .room))
 
-  -- the place after the last of those that count is that after the last kept one
-  next-is : wrapped (firstAt l t + still) ≡ nextAt l
-  next-is =
-      wrapped-on (first + (count - still)) still (omega (arith, first-fits, count-fits, still-fits))
-      ∙ ap wrapped (omega (arith, still-fits))
+  -- what counts is left, from its first place on
+  rest-is : ringFrom l (firstAt l t) still ≡ counting (boardIn l .width) t (boardIn l .kept)
+  unfolding boardIn
+  rest-is =
+      let rest : countIn l - (countIn l - still) ≡ still = omega (arith, still-most l t) in
+      sym
+      (counting-last (widthIn l) t 0 (ringIn l) (s .parts .order)
+      ∙ rw (ring-length l (firstIn l) (countIn l))
+      (ring-drop l (firstIn l) (countIn l) (countIn l - still) (s .inside) (omega arith) (s .room))
+      ∙ ap (ringFrom l (firstAt l t)) rest)
 
   -- [10.140] the ring after a showing
   shown-ring : ringFrom (shown l t) (firstAt l t) still ≡ counting (boardIn l .width) t (boardIn l .kept)
   shown-ring =
-      ring-same (shown l t) l (firstAt l t) still first-still (omega (arith, still-fits, count-fits))
+      ring-same (shown l t) l (firstAt l t) still first-still still-fits
       (λ i _. headed-entry l t (firstAt l t) still (wrapped (firstAt l t + i)))
       ∙ rest-is
 
-  shown-heads : Heads (shown l t) (getD l widthPlace 0) t (firstAt l t) still
-  shown-heads = heads-headed l t (firstAt l t) still fits
+  shown-heads : Heads (shown l t) (widthIn l) t (firstAt l t) still
+  shown-heads = heads-headed l t (firstAt l t) still (s .fits)
 
   shown-follows : (boardIn (shown l t) ≡ keeps (boardIn l) t [] .board) × (isBoard (shown l t) ≡ true)
   unfolding boardIn
@@ -166,20 +139,20 @@ module _ (l : List ℕ) (t : ℕ) (board : isBoard l ≡ true) (sound : boardSou
     added-same : (i : ℕ) → i < still → entryAt (added l t p wait) (wrapped (firstAt l t + i)) ≡ entryAt l (wrapped (firstAt l t + i))
     added-same i b =
         placed-elsewhere header (nextAt l) entry (wrapped (firstAt l t + i))
-        (λ e. wrapped-apart (firstAt l t) i still first-still b (omega (arith, still-fits, count-fits)) (e ∙ sym next-is))
+        (λ e. wrapped-apart (firstAt l t) i still first-still b (omega (arith, still-fits)) (e ∙ sym (next-is l t s)))
         ∙ headed-entry l t (firstAt l t) (still + 1) (wrapped (firstAt l t + i))
 
     added-there : entryAt (added l t p wait) (nextAt l) ≡ entry
-    added-there = placed-there header (nextAt l) entry (omega (arith, next-fits, fits, headed-length l t (firstAt l t) (still + 1)))
+    added-there = placed-there header (nextAt l) entry (omega (arith, next-fits, s .fits, headed-length l t (firstAt l t) (still + 1)))
 
     added-ring : ringFrom (added l t p wait) (firstAt l t) (still + 1) ≡ counting (boardIn l .width) t (boardIn l .kept) ++ (entry ∷ [])
     added-ring =
-        let most : still + 1 ≤ mostKept = omega (arith, still-fits, count-fits) in
+        let most : still + 1 ≤ mostKept = omega (arith, still-fits) in
         ring-snoc (added l t p wait) (firstAt l t) still first-still most
-        ∙ rw (next-is, added-there, ring-same (added l t p wait) l (firstAt l t) still first-still (omega arith) added-same, rest-is)
+        ∙ rw (next-is l t s, added-there, ring-same (added l t p wait) l (firstAt l t) still first-still still-fits added-same, rest-is)
 
-    added-heads : Heads (added l t p wait) (getD l widthPlace 0) t (firstAt l t) (still + 1)
-    added-heads = heads-placed (heads-headed l t (firstAt l t) (still + 1) fits) (nextAt l) entry
+    added-heads : Heads (added l t p wait) (widthIn l) t (firstAt l t) (still + 1)
+    added-heads = heads-placed (heads-headed l t (firstAt l t) (still + 1) (s .fits)) (nextAt l) entry
 
     added-follows : (boardIn (added l t p wait) ≡ keeps (boardIn l) t (entry ∷ []) .board) × (isBoard (added l t p wait) ≡ true)
     unfolding boardIn
@@ -193,12 +166,12 @@ module _ (l : List ℕ) (t : ℕ) (board : isBoard l ≡ true) (sound : boardSou
 show-follows : (l : List ℕ) (t : ℕ) → isBoard l ≡ true → Follows (showOf (boardIn l) t) (lentShow l t)
 unfolding lentShow
 show-follows l t board =
-    follows l (shown l t) board refl (show-came (boardIn l) t) (λ g. shown-follows l t board (g .0))
+    follows l (shown l t) board refl (show-came (boardIn l) t) (λ g. shown-follows l t (sound-numbers l board (g .0)))
 
 add-follows : (l : List ℕ) (t p wait : ℕ) → isBoard l ≡ true → Follows (addOf (boardIn l) t p wait) (lentAdd l t p wait)
 unfolding lentAdd
 add-follows l t p wait board =
-    follows l (added l t p wait) board refl (add-came (boardIn l) t p wait) (λ g. added-follows l t board (g .0) p wait (g .1 .room))
+    follows l (added l t p wait) board refl (add-came (boardIn l) t p wait) (λ g. added-follows l t (sound-numbers l board (g .0)) p wait (g .1 .room))
 
 heads-emptied : (w : ℕ) (l : List ℕ) → boardLength ≤ length l → Heads (emptied w l) w 0 0 0
 heads-emptied w l fits = record {
