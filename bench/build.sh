@@ -29,8 +29,15 @@ quietly cargo build --release --offline --quiet --manifest-path reference/Cargo.
 mkdir -p target/bench
 compile twin twin
 compile twin_apart twin --cfg apart
-compile reference reference --extern reference=reference/target/release/libreference.rlib
+for name in reference board_reference; do
+    compile $name $name --extern reference=reference/target/release/libreference.rlib
+done
+compile reference_told reference --extern reference=reference/target/release/libreference.rlib --cfg told
 
-compile library library -L native=target/staticlib -l static=funnelfawn
-compile library_recorded library -L native=target/staticlib -l static=funnelfawn --cfg recorded
+for name in library board_library; do
+    compile $name $name -L native=target/staticlib -l static=funnelfawn
+done
+for way in recorded told; do
+    compile library_$way library -L native=target/staticlib -l static=funnelfawn --cfg $way
+done
 compile timer timer

@@ -9,6 +9,8 @@ goals() {
         $1 == "called" { note("all called") }
         $1 == "library" { note("library") }
         $1 == "replay" { note("replay") }
+        $1 == "board" { note("board") }
+        $1 == "board" && ($2 == 21 || $2 == 25) { empty++; if ($3 / $5 > dearest) dearest = $3 / $5 }
         function note(goal) { rows[goal]++; if ($3 / $4 > most[goal]) most[goal] = $3 / $4 }
         function met(goal, expected, bound) { return rows[goal] == expected && most[goal] <= bound }
         function say(goal, bound, text, verdict) { printf "goal: %s: at most %.2f; is %.3f: %s\n", text, bound, most[goal], verdict }
@@ -24,6 +26,10 @@ goals() {
             say("all called", 1.0, "the same, called", met("all called", 8, 1.0) ? "met" : "NOT MET, as docs/DECISIONS.md tells")
             judge("library", 11, 1.0, "a step through the C library, in every row, of the twin")
             judge("replay", 2, 0.8, "replay, of the reference")
+            judge("board", 8, 1.0, "a board through the C library, in every row, of the reference")
+            cheap = empty == 2 && dearest < 200
+            printf "goal: an empty board, adding or showing: less than 200 instructions; is %d: %s\n", dearest, cheap ? "met" : "NOT MET"
+            if (!cheap) missed = 1
             exit missed
         }' "$work/rows"
 }

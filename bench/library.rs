@@ -1,4 +1,5 @@
-//! The cases run through the C library; with `--cfg recorded` through its recorded step. The calls are declared as the Rust package does.
+//! The cases run through the C library; with `--cfg recorded` through its recorded step, with `--cfg told` through that which tells a board.
+//! The calls are declared as the Rust package does.
 
 mod cases;
 #[allow(dead_code)]
@@ -33,7 +34,7 @@ fn numbers(answer: Answer) -> [u64; 3] {
     [answer.number, answer.window, answer.moment]
 }
 
-#[cfg(not(recorded))]
+#[cfg(not(any(recorded, told)))]
 fn main() {
     let case = cases::chosen();
     let mut table = table_of(case);
@@ -48,6 +49,22 @@ fn main() {
     let (mut table, mut summary) = (table_of(case), [0u64; raw::SUMMARY]);
     let sum = cases::run(case, |[act, window, moment]| {
         numbers(raw::record(&mut table, &mut summary, act, window, moment))
+    });
+    println!("{} {} {:?}", sum, table[CLOCK], &summary[..raw::TRIES]);
+}
+
+/// Accepted crits, a microsecond after one another, of which the board keeps 100.
+#[cfg(told)]
+fn main() {
+    const ENTERING: u64 = 4;
+    let case = cases::chosen();
+    let (mut table, mut summary, mut board) = (table_of(case), [0u64; raw::SUMMARY], [0u64; raw::BOARD]);
+    assert_eq!(raw::set_up_board(100, &mut board).number, 0);
+    let sum = cases::run(case, |[act, window, moment]| {
+        (table[HEADER], table[HEADER + 1]) = (ENTERING, table[CLOCK]);
+        let told = raw::record_and_tell(&mut table, &mut summary, &mut board, act, window, moment);
+        let (step, board) = (numbers(told.step), numbers(told.board));
+        [step[0] + board[0], step[1] + board[1], step[2] + board[2]]
     });
     println!("{} {} {:?}", sum, table[CLOCK], &summary[..raw::TRIES]);
 }

@@ -33,7 +33,7 @@ heading() {
 
 # row PART CASE LABEL CALLS COUNT COUNT_BESIDE TIME TIME_BESIDE: the counts are of CALLS calls, the times of one; noted for the goals
 row() {
-    echo "$1 $2 $5 $6" >>"$work/rows"
+    echo "$1 $2 $5 $6 $4" >>"$work/rows"
     awk -v label="$3" -v calls="$4" -v ours="$5" -v beside="$6" -v time="$7" -v time_beside="$8" '
         function grouped(n,   tail) {
             for (n = sprintf("%d", n); length(n) > 3; n = substr(n, 1, length(n) - 3)) tail = "," substr(n, length(n) - 2) tail

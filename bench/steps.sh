@@ -1,4 +1,4 @@
-# The rows of bench/run that are made of steps, by the cases of bench/cases.rs. Sourced by it.
+# The rows of bench/run that are made of steps, or of calls on a board, by the cases of bench/cases.rs and bench/boards.rs. Sourced by it.
 
 # parts DO: DO NAME PROGRAM PROGRAM_BESIDE TITLE CASE.. for each part of the table
 parts() {
@@ -6,6 +6,8 @@ parts() {
     "$1" called bin/bench_apart bench/twin_apart 'a step within Rattle, called; the twin, called' 1 2 3 4 5 6 7 8
     "$1" library bench/library bench/twin_apart 'a step through the C library; the twin, called' 1 2 3 9 10 5 11 12 8 7 6
     "$1" recorded bench/library_recorded bench/reference 'a recorded step through the C library; the reference' 1 2 3 5 8
+    "$1" told bench/library_told bench/reference_told 'the same, telling a board that keeps 100 entries; the reference' 13 14
+    "$1" board bench/board_library bench/board_reference 'a board through the C library; the reference' 21 22 23 24 25 26 27 28
 }
 
 label_of() {
@@ -22,6 +24,16 @@ label_of() {
     10) echo 'refused 8, late, n = 24' ;;
     11) echo 'refused 1, the last entry, n = 2' ;;
     12) echo 'refused 1, the last entry, n = 24' ;;
+    13) echo 'an accepted crit, n = 2' ;;
+    14) echo 'an accepted crit, n = 96' ;;
+    21) echo 'adding, none kept' ;;
+    22) echo 'adding, 100 kept, one expires' ;;
+    23) echo 'adding, 1,024 kept, one expires' ;;
+    24) echo 'refused 18, 1,024 kept' ;;
+    25) echo 'showing, none kept' ;;
+    26) echo 'showing, 100 kept' ;;
+    27) echo 'showing, 1,024 kept' ;;
+    28) echo 'showing, 1,024 kept around the end' ;;
     esac
 }
 

@@ -1,9 +1,9 @@
 //! The foyer board, and the recorded step that tells it of an entry: section 10 of the specification.
-//! A board is lent, as a summary is; what is refused leaves it as it was.
+//! A board goes in and comes back by value, as a table does: each call gets the board that the last gave back.
 
 use crate::answer::*;
-use crate::machine::{Table, CLOCK_END, WINDOWS};
-use crate::summary::{waited_step, Summary};
+use crate::machine::{Table, CLOCK_END, CRIT, WINDOWS};
+use crate::summary::{recorded_step, Summary};
 
 /// The greatest W.
 pub const W_END: u64 = 1_000_000_000;
@@ -48,28 +48,28 @@ impl Board {
     }
 
     /// [10.70] An entry more, and the figures with it.
-    pub fn add(&mut self, moment: u64, window: u64, wait: u64) -> Answer {
+    pub fn add(mut self, moment: u64, window: u64, wait: u64) -> (Answer, Board) {
         if let Some(refusal) = self.refusal(moment) {
-            return refusal;
+            return (refusal, self);
         }
         if !(1..=WINDOWS as u64).contains(&window) {
-            return bare(NO_WINDOW);
+            return (bare(NO_WINDOW), self);
         }
         if self.full_at(moment) {
-            return bare(BOARD_FULL);
+            return (bare(BOARD_FULL), self);
         }
         self.move_to(moment);
         self.kept.push(Entry { moment, window, wait });
-        self.figures()
+        (self.figures(), self)
     }
 
     /// [10.80] The figures at a clock, which the board has then been told.
-    pub fn show(&mut self, clock: u64) -> Answer {
+    pub fn show(mut self, clock: u64) -> (Answer, Board) {
         if let Some(refusal) = self.refusal(clock) {
-            return refusal;
+            return (refusal, self);
         }
         self.move_to(clock);
-        self.figures()
+        (self.figures(), self)
     }
 
     /// [10.90] The answers 2, 4 and 5 to a moment or clock.
@@ -114,16 +114,23 @@ pub struct Told {
     pub board: Answer,
 }
 
-/// [10.200] [10.205] The recorded step, of which the board is told if it is an accepted crit. It stands, whatever the board answers.
+/// [10.200] [10.205] The recorded step, of which the board is told if it is an accepted crit, with the wait from the window's try on. It
+/// stands, whatever the board answers.
 pub fn record_and_tell(
     table: Table,
     summary: &mut Summary,
-    board: &mut Board,
+    board: Board,
     act: u64,
     window: u64,
     moment: u64,
-) -> (Told, Table) {
-    let (step, table, wait) = waited_step(table, summary, act, window, moment);
-    let told = wait.map(|wait| board.add(moment, window, wait));
-    (Told { step, board: told.unwrap_or(bare(ACCEPTED)) }, table)
+) -> (Told, Table, Board) {
+    // an accepted crit clears it
+    let tried = summary.tried(window);
+    let (step, table) = recorded_step(table, summary, act, window, moment);
+    let entered = act == CRIT && step.number == ACCEPTED;
+    let (told, board) = match tried.filter(|_| entered) {
+        Some(tried) => board.add(moment, window, moment - tried),
+        None => (bare(ACCEPTED), board),
+    };
+    (Told { step, board: told }, table, board)
 }

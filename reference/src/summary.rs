@@ -35,29 +35,29 @@ impl Summary {
             && self.try_moments.iter().all(|&moment| moment <= clock)
     }
 
+    /// The try moment of a window of 1 to 96.
+    pub fn tried(&self, window: u64) -> Option<u64> {
+        let index = usize::try_from(window.checked_sub(1)?).ok()?;
+        self.try_moments.get(index).copied()
+    }
+
     /// Of a sound summary.
     fn full(&self) -> bool {
         self.accepted + self.refused == SUMMARY_END
     }
 
-    /// Gives back the wait that a crit ends.
-    fn count_accepted(&mut self, act: u64, window: u64, moment: u64) -> Option<u64> {
+    fn count_accepted(&mut self, act: u64, window: u64, moment: u64) {
         self.accepted += 1;
         match act {
             TRY => self.try_moments[window as usize - 1] = moment,
-            CRIT => return Some(self.count_entry(window, moment)),
+            CRIT => {
+                self.entries += 1;
+                let tried = std::mem::take(&mut self.try_moments[window as usize - 1]);
+                self.longest_wait = self.longest_wait.max(moment - tried);
+            }
             EXIT => self.exits += 1,
             _ => {}
         }
-        None
-    }
-
-    /// [5.90] The wait is from the window's try on.
-    fn count_entry(&mut self, window: u64, moment: u64) -> u64 {
-        let wait = moment - std::mem::take(&mut self.try_moments[window as usize - 1]);
-        self.entries += 1;
-        self.longest_wait = self.longest_wait.max(wait);
-        wait
     }
 }
 
@@ -75,32 +75,19 @@ pub fn recorded_step(
     window: u64,
     moment: u64,
 ) -> (Answer, Table) {
-    let (answer, table, _) = waited_step(table, summary, act, window, moment);
-    (answer, table)
-}
-
-/// The same, with the wait that an accepted crit ends.
-pub fn waited_step(
-    table: Table,
-    summary: &mut Summary,
-    act: u64,
-    window: u64,
-    moment: u64,
-) -> (Answer, Table, Option<u64>) {
     if !table.sound() {
-        return (bare(NO_TABLE), table, None);
+        return (bare(NO_TABLE), table);
     }
     if !summary.sound(table.clock) {
-        return (bare(NO_SUMMARY), table, None);
+        return (bare(NO_SUMMARY), table);
     }
     if summary.full() {
-        return (bare(SUMMARY_FULL), table, None);
+        return (bare(SUMMARY_FULL), table);
     }
     if let Some(refusal) = refusal(&table, act, window, moment) {
         summary.refused += 1;
-        return (refusal, table, None);
+        return (refusal, table);
     }
-    let wait = summary.count_accepted(act, window, moment);
-    let (answer, table) = accepted(table, act, window, moment);
-    (answer, table, wait)
+    summary.count_accepted(act, window, moment);
+    accepted(table, act, window, moment)
 }

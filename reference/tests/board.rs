@@ -16,9 +16,21 @@ fn board(w: u64) -> Board {
 fn told(w: u64, moments: &[u64]) -> Board {
     let mut board = board(w);
     for (&moment, wait) in moments.iter().zip(1..) {
-        assert_eq!(board.add(moment, 1, wait).number, ACCEPTED);
+        assert_eq!(add(&mut board, moment, 1, wait).number, ACCEPTED);
     }
     board
+}
+
+fn add(board: &mut Board, moment: u64, window: u64, wait: u64) -> Answer {
+    let answer;
+    (answer, *board) = board.clone().add(moment, window, wait);
+    answer
+}
+
+fn show(board: &mut Board, clock: u64) -> Answer {
+    let answer;
+    (answer, *board) = board.clone().show(clock);
+    answer
 }
 
 fn figures(count: u64, longest: u64) -> Answer {
@@ -41,8 +53,8 @@ fn widths() {
     }
     for w in [0, W_END + 1, u64::MAX] {
         assert_eq!(set_up(w), (bare(WIDTH), Board { w: 0, last: 0, kept: vec![] }));
-        assert_eq!(refused(&board(w), |board| board.show(0)), bare(NO_SUMMARY));
-        assert_eq!(refused(&board(w), |board| board.add(u64::MAX, 0, 0)), bare(NO_SUMMARY));
+        assert_eq!(refused(&board(w), |board| show(board, 0)), bare(NO_SUMMARY));
+        assert_eq!(refused(&board(w), |board| add(board, u64::MAX, 0, 0)), bare(NO_SUMMARY));
     }
 }
 
@@ -50,9 +62,9 @@ fn widths() {
 fn an_entry_counts_while_its_moment_is_above_clock_less_w() {
     for (w, moment) in [(1, 0), (1, 7), (10, 0), (10, 5), (W_END, 0), (W_END, CLOCK_END - W_END)] {
         let mut board = told(w, &[moment]);
-        assert_eq!(board.show(moment), figures(1, 1));
-        assert_eq!(board.show(moment + w - 1), figures(1, 1));
-        assert_eq!(board.show(moment + w), figures(0, 0));
+        assert_eq!(show(&mut board, moment), figures(1, 1));
+        assert_eq!(show(&mut board, moment + w - 1), figures(1, 1));
+        assert_eq!(show(&mut board, moment + w), figures(0, 0));
         assert_eq!(board, Board { w, last: moment + w, kept: vec![] });
     }
 }
@@ -60,62 +72,62 @@ fn an_entry_counts_while_its_moment_is_above_clock_less_w() {
 #[test]
 fn all_count_while_the_clock_is_below_w() {
     let mut board = told(10, &[0, 0, 3]);
-    assert_eq!(board.show(9), figures(3, 3));
-    assert_eq!(board.show(10), figures(1, 3));
+    assert_eq!(show(&mut board, 9), figures(3, 3));
+    assert_eq!(show(&mut board, 10), figures(1, 3));
     let mut late = told(W_END, &[CLOCK_END]);
-    assert_eq!(late.show(CLOCK_END), figures(1, 1));
+    assert_eq!(show(&mut late, CLOCK_END), figures(1, 1));
 }
 
 #[test]
 fn the_longest_is_of_those_that_count() {
     let mut board = board(10);
-    assert_eq!(board.add(1, 1, u64::MAX), figures(1, u64::MAX));
-    assert_eq!(board.add(5, 2, 7), figures(2, u64::MAX));
-    assert_eq!(board.add(11, 3, 0), figures(2, 7));
-    assert_eq!(board.add(15, 4, 0), figures(2, 0));
-    assert_eq!(board.show(25), figures(0, 0));
+    assert_eq!(add(&mut board, 1, 1, u64::MAX), figures(1, u64::MAX));
+    assert_eq!(add(&mut board, 5, 2, 7), figures(2, u64::MAX));
+    assert_eq!(add(&mut board, 11, 3, 0), figures(2, 7));
+    assert_eq!(add(&mut board, 15, 4, 0), figures(2, 0));
+    assert_eq!(show(&mut board, 25), figures(0, 0));
 }
 
 #[test]
 fn windows_of_an_entry() {
     let mut lent = board(10);
-    assert_eq!(lent.add(0, 1, 3), figures(1, 3));
-    assert_eq!(lent.add(0, 96, 3), figures(2, 3));
+    assert_eq!(add(&mut lent, 0, 1, 3), figures(1, 3));
+    assert_eq!(add(&mut lent, 0, 96, 3), figures(2, 3));
     for window in [0, 97, u64::MAX] {
-        assert_eq!(refused(&lent, |board| board.add(20, window, 3)), bare(NO_WINDOW));
+        assert_eq!(refused(&lent, |board| add(board, 20, window, 3)), bare(NO_WINDOW));
     }
 }
 
 #[test]
 fn a_showing_moves_the_last_moment_told() {
     let mut board = told(10, &[3]);
-    assert_eq!(board.show(8), figures(1, 1));
+    assert_eq!(show(&mut board, 8), figures(1, 1));
     assert_eq!(board.last, 8);
-    assert_eq!(refused(&board, |board| board.show(7)), answer(BACKWARD, 0, 8));
-    assert_eq!(refused(&board, |board| board.add(7, 1, 0)), answer(BACKWARD, 0, 8));
-    assert_eq!(board.add(8, 1, 0), figures(2, 1));
+    assert_eq!(refused(&board, |board| show(board, 7)), answer(BACKWARD, 0, 8));
+    assert_eq!(refused(&board, |board| add(board, 7, 1, 0)), answer(BACKWARD, 0, 8));
+    assert_eq!(add(&mut board, 8, 1, 0), figures(2, 1));
 }
 
 #[test]
 fn the_order_of_refusals() {
     let kept = told(10, &[3]);
-    assert_eq!(refused(&kept, |board| board.add(2, 0, 0)), answer(BACKWARD, 0, 3));
-    assert_eq!(refused(&kept, |board| board.add(CLOCK_END + 1, 0, 0)), bare(END_OF_CLOCK));
-    assert_eq!(refused(&kept, |board| board.show(u64::MAX)), bare(END_OF_CLOCK));
+    assert_eq!(refused(&kept, |board| add(board, 2, 0, 0)), answer(BACKWARD, 0, 3));
+    assert_eq!(refused(&kept, |board| add(board, CLOCK_END + 1, 0, 0)), bare(END_OF_CLOCK));
+    assert_eq!(refused(&kept, |board| show(board, u64::MAX)), bare(END_OF_CLOCK));
     // nothing is asked of the last moment told but that the entries are not past it
     let past = Board { last: CLOCK_END + 5, ..kept };
-    assert_eq!(refused(&past, |board| board.show(CLOCK_END + 4)), answer(BACKWARD, 0, CLOCK_END + 5));
-    assert_eq!(refused(&past, |board| board.show(CLOCK_END + 5)), bare(END_OF_CLOCK));
+    assert_eq!(refused(&past, |board| show(board, CLOCK_END + 4)), answer(BACKWARD, 0, CLOCK_END + 5));
+    assert_eq!(refused(&past, |board| show(board, CLOCK_END + 5)), bare(END_OF_CLOCK));
 }
 
 #[test]
 fn a_full_board() {
     let mut board = told(10, &[5; ROOM]);
-    assert_eq!(refused(&board, |board| board.add(5, 1, 0)), bare(BOARD_FULL));
-    assert_eq!(refused(&board, |board| board.add(14, 97, 0)), bare(NO_WINDOW));
-    assert_eq!(refused(&board, |board| board.add(14, 1, 0)), bare(BOARD_FULL));
-    assert_eq!(board.show(14), figures(1024, 1024));
-    assert_eq!(board.add(15, 2, 3), figures(1, 3));
+    assert_eq!(refused(&board, |board| add(board, 5, 1, 0)), bare(BOARD_FULL));
+    assert_eq!(refused(&board, |board| add(board, 14, 97, 0)), bare(NO_WINDOW));
+    assert_eq!(refused(&board, |board| add(board, 14, 1, 0)), bare(BOARD_FULL));
+    assert_eq!(show(&mut board, 14), figures(1024, 1024));
+    assert_eq!(add(&mut board, 15, 2, 3), figures(1, 3));
     assert_eq!(board.kept, [Entry { moment: 15, window: 2, wait: 3 }]);
 }
 
@@ -124,8 +136,8 @@ fn expired_entries_give_up_their_places_first() {
     let mut moments = [8; ROOM];
     moments[..3].copy_from_slice(&[1, 2, 2]);
     let board = told(10, &moments);
-    assert_eq!(refused(&board, |board| board.add(10, 1, 0)), bare(BOARD_FULL));
-    let added = |moment| board.clone().add(moment, 1, 0);
+    assert_eq!(refused(&board, |board| add(board, 10, 1, 0)), bare(BOARD_FULL));
+    let added = |moment| board.clone().add(moment, 1, 0).0;
     assert_eq!(added(11), figures(1024, 1024));
     assert_eq!(added(12), figures(1022, 1024));
     assert_eq!(added(17), figures(1022, 1024));
@@ -150,12 +162,12 @@ fn unsound_boards() {
         with(5, 3, &[3; ROOM + 1]),
     ];
     for board in unsound {
-        assert_eq!(refused(&board, |board| board.add(CLOCK_END, 1, 0)), bare(NO_SUMMARY));
-        assert_eq!(refused(&board, |board| board.add(u64::MAX, 0, 0)), bare(NO_SUMMARY));
-        assert_eq!(refused(&board, |board| board.show(0)), bare(NO_SUMMARY));
+        assert_eq!(refused(&board, |board| add(board, CLOCK_END, 1, 0)), bare(NO_SUMMARY));
+        assert_eq!(refused(&board, |board| add(board, u64::MAX, 0, 0)), bare(NO_SUMMARY));
+        assert_eq!(refused(&board, |board| show(board, 0)), bare(NO_SUMMARY));
     }
     let mut odd = Board { w: 5, last: 3, kept: vec![Entry { moment: 3, window: 4_000, wait: u64::MAX }] };
-    assert_eq!(odd.add(4, 1, 0), figures(2, u64::MAX));
+    assert_eq!(add(&mut odd, 4, 1, 0), figures(2, u64::MAX));
 }
 
 /// The figures of entries at a clock, worked out from all of them.
@@ -176,7 +188,11 @@ fn the_figures_are_those_of_all_entries_since_setting_up() {
             let moment = clock + random.pick(&[0, 0, 0, 1, w]);
             let entry = Entry { moment, window: random.between(0, 97), wait: random.below(1_000) };
             let adds = random.chance(80);
-            let answer = if adds { board.add(moment, entry.window, entry.wait) } else { board.show(moment) };
+            let answer = if adds {
+                add(&mut board, moment, entry.window, entry.wait)
+            } else {
+                show(&mut board, moment)
+            };
             if answer.number == ACCEPTED {
                 all.extend(adds.then_some(entry));
                 assert_eq!(answer, worked_out(&all, w, moment));
@@ -198,8 +214,8 @@ fn the_board_is_told_of_each_accepted_crit() {
         for step in &recording.steps {
             let wanted = recorded_step(table, &mut plain, step.act, step.window, step.time);
             let told;
-            (told, table) =
-                record_and_tell(table, &mut summary, &mut board, step.act, step.window, step.time);
+            (told, table, board) =
+                record_and_tell(table, &mut summary, board, step.act, step.window, step.time);
             assert_eq!((told.step, table, &summary), (wanted.0, wanted.1, &plain));
             let accepted = told.step.number == ACCEPTED;
             if accepted && step.act == TRY {
@@ -223,9 +239,9 @@ fn the_step_stands_whatever_the_board_answers() {
     let (_, mut entering) = fresh(Values { n: 2, a: 5, b: 8, c: 12 });
     (entering.clock, entering.word, entering.places[1]) = (20, 2, Place::Entering(18));
     let summary = Summary { accepted: 9, try_moments: [3; WINDOWS], ..Summary::new() };
-    let crit = |mut board: Board, window, moment| {
+    let crit = |board: Board, window, moment| {
         let (mut counted, mut alone) = (summary.clone(), summary.clone());
-        let (told, table) = record_and_tell(entering, &mut counted, &mut board, CRIT, window, moment);
+        let (told, table, board) = record_and_tell(entering, &mut counted, board, CRIT, window, moment);
         assert_eq!((told.step, table), recorded_step(entering, &mut alone, CRIT, window, moment));
         assert_eq!(counted, alone);
         (told.board, board)

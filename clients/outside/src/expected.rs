@@ -61,15 +61,15 @@ pub fn set_up_board(w: u64, numbers: &mut [u64]) -> Answer {
 }
 
 pub fn add_to_board(numbers: &mut [u64], [moment, window, wait]: [u64; 3]) -> Answer {
-    let Some(mut board) = board_in(numbers) else { return bare(NO_SUMMARY) };
-    let answer = board.add(moment, window, wait);
+    let Some(board) = board_in(numbers) else { return bare(NO_SUMMARY) };
+    let (answer, board) = board.add(moment, window, wait);
     keep(&board, answer, true, numbers);
     answer
 }
 
 pub fn show_board(numbers: &mut [u64], clock: u64) -> Answer {
-    let Some(mut board) = board_in(numbers) else { return bare(NO_SUMMARY) };
-    let answer = board.show(clock);
+    let Some(board) = board_in(numbers) else { return bare(NO_SUMMARY) };
+    let (answer, board) = board.show(clock);
     keep(&board, answer, false, numbers);
     answer
 }
@@ -94,11 +94,12 @@ pub fn record_and_tell(
     let Some(mut counted) = summary_in(summary) else { return alone(NO_SUMMARY) };
     // numbers that tell no board are refused as those of one that is not sound
     let found = board_in(numbers);
-    let mut board = found.clone().unwrap_or_else(|| board::set_up(0).1);
-    let (answers, after) = board::record_and_tell(told, &mut counted, &mut board, act, window, moment);
+    let is_board = found.is_some();
+    let board = found.unwrap_or_else(|| board::set_up(0).1);
+    let (answers, after, board) = board::record_and_tell(told, &mut counted, board, act, window, moment);
     store_table(&after, table);
     store_summary(&counted, summary);
-    if answers.board != bare(ACCEPTED) && found.is_some() {
+    if answers.board != bare(ACCEPTED) && is_board {
         keep(&board, answers.board, true, numbers);
     }
     answers
