@@ -3,7 +3,7 @@
 use Prim.Native.Nat.{ℕ, _+_, _-_, _≤_, _<_}
 use mathlib.Core.Path.{_≡_, refl, sym, ap, _∙_}
 use mathlib.Core.Bool.{true, false, _&&_}
-use mathlib.Core.List.{List}
+use mathlib.Core.List.{List, []}
 use native.Mathlib.Omega.{arith}
 use borrow.Author.Tests.{lt-ltb, le-leb, ltb-true, leb-true}
 use lib.ListN.{length, getD, take}
@@ -12,11 +12,11 @@ use Rattle.model.proofs.Tests.{by-test, if-lt, clash, and-true-iff}
 use Rattle.recent.specs.declared.rings.Rest.{Rest}
 use Rattle.recent.specs.declared.rings.Pass.{Pass}
 use Rattle.recent.specs.declared.rings.Look.{Look}
-use Rattle.recent.specs.Boards.{Entry, boardOf, widthStands, mostKept, inOrder, boardSound, howMany, longestAt}
+use Rattle.recent.specs.Boards.{Entry, boardOf, widthStands, mostKept, inOrder, noneAfter, boardSound, howMany, longestAt}
 use Rattle.recent.specs.Encodings.{widthPlace, lastPlace, firstPlace, countPlace, entryPlace, boardLength, wrapped, entryAt, ringFrom}
 use Rattle.recent.specs.Encodings.{boardIn, isBoard}
 use Rattle.recent.specs.Looking.{latest, Rested, Passed, Passes, Looked, Looks}
-use Rattle.recent.proofs.Places.{wrapped-below, ring-none, ring-length, ring-same}
+use Rattle.recent.proofs.Places.{wrapped-inside, wrapped-below, ring-none, ring-length, ring-same}
 use Rattle.recent.proofs.Passes.{order-from, none-after, some-after, all-count, all-longest}
 use Rattle.recent.proofs.Resting.{ring-left}
 use Rattle.recent.proofs.Soundness.{SoundParts, sound-parts, parts-sound}
@@ -82,6 +82,31 @@ no-sight l t e n =
 -- a look that shows one
 pub sight : (l : List ℕ) (t : ℕ) {r : Look} → r .sound ≡ true → Looked l t r → Looks l t r
 sight l t e seen = record { looked = λ _. seen; unsound = λ f. clash e f }
+
+-- an empty board, whatever the time
+pub empty-seen : (l : List ℕ) (t : ℕ) → countIn l ≡ 0 → boardLength ≤ length l → firstIn l < mostKept → widthStands (widthIn l) ≡ true
+    → Looked l t (record { sound = true; first = firstIn l; count = 0; longest = 0 })
+unfolding boardIn inOrder noneAfter howMany longestAt
+empty-seen l t none fits inside stands =
+    let empty : ringIn l ≡ [] = rw none (ring-none l (firstIn l) (omega arith)) in
+    let s : SoundNumbers l = record {
+      fits = fits;
+      inside = inside;
+      room = omega arith;
+      parts = record {
+        width = width-stands-iff (widthIn l) .0 stands;
+        room = rw empty (omega arith);
+        order = rw empty;
+        none-after = rw empty;
+      };
+    } in
+    record {
+      board = numbers-board l s;
+      sound = numbers-sound l s;
+      first-is = rw (empty, none) (omega (arith, wrapped-inside (firstIn l + 0) (omega arith)));
+      count-is = rw empty;
+      longest-is = rw empty;
+    }
 
 -- The passes over the ring of a list
 

@@ -198,6 +198,15 @@ fn look_whole(board: &[u64], time: u64) -> Look
     }
     let first = board[FIRST] as usize;
     let count = board[COUNT] as usize;
+    // an empty board has nothing to pass over
+    if count == 0 {
+        return Look {
+            sound: true,
+            first: first,
+            count: 0,
+            longest: 0,
+        };
+    }
     let rest = rest_from(board, first, count, since_at(width, time));
     if rest.falls {
         return no_look();
