@@ -12,8 +12,8 @@ use Rattle.model.specs.declared.Answer.{Answer}
 use Rattle.model.specs.Answers.{answerOf, beyond}
 use Rattle.model.proofs.Tests.{by-test}
 use Rattle.recent.specs.declared.rings.Look.{Look}
-use Rattle.recent.specs.Boards.{Board, entryOf, widthStands, mostKept, boardSound, figuresAt}
-use Rattle.recent.specs.Boards.{Told, inTime, isProcess, setUpOf, addOf, showOf}
+use Rattle.recent.specs.Boards.{Board, entryWith, widthStands, mostKept, boardSound, figuresAt}
+use Rattle.recent.specs.Boards.{BoardOutcome, inTime, isProcess, setUpOf, addOf, showOf}
 use Rattle.recent.specs.Encodings.{boardLength, wrapped, boardIn, isBoard}
 use Rattle.recent.specs.Encodings.{boardGave, emptied, lentSetUp, stillAt, firstAt, nextAt, headed, placed}
 use Rattle.recent.specs.Encodings.{shown, added, onNumbers, lentAdd, lentShow}
@@ -101,13 +101,13 @@ timely last t {r} e z =
     (λ f. by-test (beyond t) (λ g. absurd (omega (arith, simp (f, g) at u))) (λ g. record { forward = f; within = g }))
 
 -- a list that tells no sound board
-on-unsound : (l new : List ℕ) (b : Board) (t : ℕ) (after : Told) {r : Answer} → isBoard l && boardSound b ≡ false → r ≡ answerOf 2 0 0
+on-unsound : (l new : List ℕ) (b : Board) (t : ℕ) (after : BoardOutcome) {r : Answer} → isBoard l && boardSound b ≡ false → r ≡ answerOf 2 0 0
     → boardGave r l ≡ onNumbers l (inTime b t after .answer) new
 on-unsound l new b t after e f =
     rw f (by-test (isBoard l) (λ g. let h : boardSound b ≡ false = rw g at e in simp (g, h)) (λ g. simp g))
 
 -- a time that is refused
-on-untimely : (l new : List ℕ) (b : Board) (t : ℕ) (after : Told) {r : Answer} → isBoard l ≡ true → boardSound b ≡ true
+on-untimely : (l new : List ℕ) (b : Board) (t : ℕ) (after : BoardOutcome) {r : Answer} → isBoard l ≡ true → boardSound b ≡ true
     → r ≡ untimelyOf (b .last) t → r .code ≢ 0 → boardGave r l ≡ onNumbers l (inTime b t after .answer) new
 on-untimely l new b t after {r} board sound f n =
     let m : untimelyOf (b .last) t .code ≢ 0 = rw f at n in
@@ -140,13 +140,13 @@ module _ (l : List ℕ) (t p wait : ℕ) {r : Answer} where
 
         pub add-accepted : look .count ≢ mostKept → r ≡ answerOf 0 (look .count + 1) (max (look .longest) wait)
             → {new : List ℕ}
-            → new ≡ placed (headed l t (look .first) (look .count + 1)) (wrapped (look .first + look .count)) (entryOf t p wait)
+            → new ≡ placed (headed l t (look .first) (look .count + 1)) (wrapped (look .first + look .count)) (entryWith t p wait)
             → boardGave r new ≡ lentAdd l t p wait
         unfolding lentAdd addOf
         add-accepted n f {new} g =
             let room = ne-eqb (stillAt l t) mostKept (λ e. n (k .count-is ∙ e)) in
             let b = boardIn l in
-            let figures : r ≡ figuresAt (b .width) t (b .kept ++ (entryOf t p wait ∷ [])) =
+            let figures : r ≡ figuresAt (b .width) t (b .kept ++ (entryWith t p wait ∷ [])) =
             f ∙ rw (k .count-is, k .longest-is) (sym (figures-snoc (b .width) t p wait (sound-parts b (k .sound) .width .least) (b .kept))) in
             let numbers : new ≡ added l t p wait = g ∙ rw (k .count-is, k .first-is, next-is l t (seen-sound k)) in
             board-gave figures numbers ∙ simp (k .board, k .sound, h .forward, h .within, named, room)

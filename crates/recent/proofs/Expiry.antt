@@ -9,28 +9,28 @@ use lib.Dec.{ltb}
 use lib.ListN.{length, drop}
 use borrow.Author.Tests.{ltb-true, ltb-false, lt-ltb, le-ltb}
 use Rattle.model.proofs.Tests.{by-test, if-lt}
-use Rattle.recent.specs.Boards.{Entry, counts, inOrder, howMany, longestAt, counting}
+use Rattle.recent.specs.Boards.{Entry, counts, inOrder, howMany, longestAt, countingAt}
 use Rattle.recent.specs.Facts.{Left}
 use Rattle.recent.proofs.Figures.{howMany-most}
 use Rattle.recent.proofs.Passes.{order-head, all-count}
 
 module _ (w t : ℕ) where
-  pub counting-length : (es : List Entry) → length (counting w t es) ≡ howMany w t es
-  unfolding howMany counting
+  pub counting-length : (es : List Entry) → length (countingAt w t es) ≡ howMany w t es
+  unfolding howMany countingAt
   counting-length [] = refl
   counting-length (e ∷ es) =
       by-test (counts w t e) (λ c. rw (c, counting-length es) (omega arith)) (λ c. rw c (counting-length es))
 
   -- one that counts comes last
-  pub counting-snoc : (d : Entry) → counts w t d ≡ true → (es : List Entry) → counting w t (es ++ (d ∷ [])) ≡ counting w t es ++ (d ∷ [])
-  unfolding counting
+  pub counting-snoc : (d : Entry) → counts w t d ≡ true → (es : List Entry) → countingAt w t (es ++ (d ∷ [])) ≡ countingAt w t es ++ (d ∷ [])
+  unfolding countingAt
   counting-snoc d c [] = simp c
   counting-snoc d c (e ∷ es) =
       by-test (counts w t e) (λ f. rw (f, counting-snoc d c es)) (λ f. rw f (counting-snoc d c es))
 
   -- where one counts, so do those after it
-  counting-all : (since : ℕ) (es : List Entry) → t < since + w → inOrder since es ≡ true → counting w t es ≡ es
-  unfolding counting
+  counting-all : (since : ℕ) (es : List Entry) → t < since + w → inOrder since es ≡ true → countingAt w t es ≡ es
+  unfolding countingAt
   counting-all since [] now order = refl
   counting-all since (e ∷ es) now order =
       let h = order-head since e es order in
@@ -38,8 +38,8 @@ module _ (w t : ℕ) where
       rw (c, counting-all (e .time) es (omega arith) (h .1))
 
   pub counting-last : (since : ℕ) (es : List Entry) → inOrder since es ≡ true
-      → counting w t es ≡ drop (length es - howMany w t es) es
-  unfolding howMany counting
+      → countingAt w t es ≡ drop (length es - howMany w t es) es
+  unfolding howMany countingAt
   counting-last since [] order = refl
   counting-last since (e ∷ es) order =
       let h = order-head since e es order in
@@ -53,8 +53,8 @@ module _ (w t : ℕ) where
 -- What is left, and its figures, by each entry
 
 module _ (w t : ℕ) where
-  pub left-of : (es : List Entry) → Left w t es (counting w t es) (howMany w t es) (longestAt w t es)
-  unfolding counting howMany longestAt
+  pub left-of : (es : List Entry) → Left w t es (countingAt w t es) (howMany w t es) (longestAt w t es)
+  unfolding countingAt howMany longestAt
   left-of [] = Left.none
   left-of (e ∷ es) =
       by-test (counts w t e)
@@ -69,12 +69,12 @@ module _ (w t : ℕ) where
 
   -- they are no others
   pub record LeftIs (es left : List Entry) (many longest : ℕ) : Type 0 where
-    pub those : counting w t es ≡ left
+    pub those : countingAt w t es ≡ left
     pub many-is : howMany w t es ≡ many
     pub longest-is : longestAt w t es ≡ longest
 
   pub left-is : {es left : List Entry} {many longest : ℕ} → Left w t es left many longest → LeftIs es left many longest
-  unfolding counting howMany longestAt
+  unfolding countingAt howMany longestAt
   left-is Left.none = record { those = refl; many-is = refl; longest-is = refl }
   left-is (Left.expired {e = e} b r) =
       let h = left-is r in

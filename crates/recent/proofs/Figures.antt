@@ -8,7 +8,7 @@ use lib.ListN.{length}
 use borrow.Author.Tests.{lt-ltb}
 use Rattle.model.specs.Answers.{answerOf}
 use Rattle.model.proofs.Tests.{by-test}
-use Rattle.recent.specs.Boards.{Entry, entryOf, counts, howMany, longestAt, figuresAt}
+use Rattle.recent.specs.Boards.{Entry, entryWith, counts, howMany, longestAt, figuresAt}
 
 module _ (w t : ℕ) where
   -- no more count than there are
@@ -36,17 +36,17 @@ module _ (w t : ℕ) where
   -- An entry of this time, which counts as a width is not 0
 
   module _ (p wait : ℕ) (some : 1 ≤ w) where
-    it-counts : counts w t (entryOf t p wait) ≡ true
+    it-counts : counts w t (entryWith t p wait) ≡ true
     it-counts = lt-ltb t (t + w) (omega arith)
 
-    howMany-one : howMany w t (entryOf t p wait ∷ []) ≡ 1
+    howMany-one : howMany w t (entryWith t p wait ∷ []) ≡ 1
     unfolding howMany
     howMany-one = simp it-counts
 
-    longest-one : longestAt w t (entryOf t p wait ∷ []) ≡ wait
+    longest-one : longestAt w t (entryWith t p wait ∷ []) ≡ wait
     unfolding longestAt
     longest-one = simp it-counts (omega arith)
 
     pub figures-snoc : (es : List Entry)
-        → figuresAt w t (es ++ (entryOf t p wait ∷ [])) ≡ answerOf 0 (howMany w t es + 1) (max (longestAt w t es) wait)
-    figures-snoc es = rw (howMany-append es (entryOf t p wait ∷ []), longest-append es (entryOf t p wait ∷ []), howMany-one, longest-one)
+        → figuresAt w t (es ++ (entryWith t p wait ∷ [])) ≡ answerOf 0 (howMany w t es + 1) (max (longestAt w t es) wait)
+    figures-snoc es = rw (howMany-append es (entryWith t p wait ∷ []), longest-append es (entryWith t p wait ∷ []), howMany-one, longest-one)

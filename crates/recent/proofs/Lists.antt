@@ -13,8 +13,8 @@ use Rattle.model.specs.declared.Answer.{Answer}
 use Rattle.model.specs.Answers.{answerOf, beyond}
 use Rattle.model.specs.Folds.{endBy, resultsBy, logBy}
 use Rattle.model.proofs.Tests.{by-test, by-cond, clash}
-use Rattle.recent.specs.Boards.{Entry, entryOf, Board, mostKept, inOrder, noneAfter, boardSound, counts, howMany, longestAt}
-use Rattle.recent.specs.Boards.{figuresAt, counting, Told, told, setUpOf, keeps, inTime, isProcess, addOf, showOf, widthStands}
+use Rattle.recent.specs.Boards.{Entry, entryWith, Board, mostKept, inOrder, noneAfter, boardSound, counts, howMany, longestAt}
+use Rattle.recent.specs.Boards.{figuresAt, countingAt, BoardOutcome, outcomeWith, setUpOf, keeps, inTime, isProcess, addOf, showOf, widthStands}
 use Rattle.recent.specs.Encodings.{boardLength, boardIn, isBoard, LentBoard, boardGave, lentSetUp, lentAdd, lentShow}
 use Rattle.recent.specs.Looking.{SameFigures}
 use Rattle.recent.specs.Lists.{BoardCall, lentBoardCall, boardAfter, Asked, asked, askedBy, lastTold, acceptedIn, workedOut}
@@ -31,13 +31,13 @@ module _ (w t u : ℕ) (h : t ≤ u) where
   expired-stays : (e : Entry) → counts w t e ≡ false → counts w u e ≡ false
   expired-stays e f = le-ltb u (e .time + w) (omega (arith, ltb-false t (e .time + w) f))
 
-  pub counting-many : (es : List Entry) → howMany w u (counting w t es) ≡ howMany w u es
-  unfolding howMany counting
+  pub counting-many : (es : List Entry) → howMany w u (countingAt w t es) ≡ howMany w u es
+  unfolding howMany countingAt
   counting-many [] = refl
   counting-many (e ∷ es) = by-test (counts w t e) (λ f. rw (f, counting-many es)) (λ f. rw (f, expired-stays e f, counting-many es))
 
-  pub counting-longest : (es : List Entry) → longestAt w u (counting w t es) ≡ longestAt w u es
-  unfolding longestAt counting
+  pub counting-longest : (es : List Entry) → longestAt w u (countingAt w t es) ≡ longestAt w u es
+  unfolding longestAt countingAt
   counting-longest [] = refl
   counting-longest (e ∷ es) =
       by-test (counts w t e) (λ f. rw (f, counting-longest es)) (λ f. rw (f, expired-stays e f, counting-longest es))
@@ -46,10 +46,10 @@ module _ (w t u : ℕ) (h : t ≤ u) where
 
 -- the entries that a call adds
 abbrev newIn : BoardCall → List Entry
-newIn d = cond (d .adds) (entryOf (d .time) (d .process) (d .wait) ∷ []) []
+newIn d = cond (d .adds) (entryWith (d .time) (d .process) (d .wait) ∷ []) []
 
 -- a call on a board
-abbrev boardCallOf : Board → BoardCall → Told
+abbrev boardCallOf : Board → BoardCall → BoardOutcome
 boardCallOf b d = cond (d .adds) (addOf b (d .time) (d .process) (d .wait)) (showOf b (d .time))
 
 -- the board b after the calls of a log, from one that was set up with w
@@ -60,8 +60,8 @@ pub record Follows (w : ℕ) (log : List Asked) (b : Board) : Type 0 where
   pub figures : (t : ℕ) → lastTold log ≤ t → SameFigures w t (b .kept) (acceptedIn log)
 
 -- a call on it: a refusal gives it back, an acceptance keeps what counts; the answer is the one worked out
-data Goes (w : ℕ) (log : List Asked) (b : Board) (d : BoardCall) : Told → Type 0 where
-  refuses : {r : Answer} → r .code ≢ 0 → r ≡ workedOut w log d → Goes w log b d (told r b)
+data Goes (w : ℕ) (log : List Asked) (b : Board) (d : BoardCall) : BoardOutcome → Type 0 where
+  refuses : {r : Answer} → r .code ≢ 0 → r ≡ workedOut w log d → Goes w log b d (outcomeWith r b)
   accepts : lastTold log ≤ d .time → keeps b (d .time) (newIn d) .answer ≡ workedOut w log d → Goes w log b d (keeps b (d .time) (newIn d))
 
 -- the entries of an adding stand last in the one list and first in the other
@@ -76,7 +76,7 @@ unfolding acceptedIn
 accepted-more d log = by-test (d .adds) (λ e. rw e) (λ e. rw e)
 
 module _ {w : ℕ} {log : List Asked} {b : Board} (follows : Follows w log b) (d : BoardCall) where
-  abbrev Went : Told → Type 0
+  abbrev Went : BoardOutcome → Type 0
   Went = Goes w log b d
 
   -- an answer of success
@@ -86,7 +86,7 @@ module _ {w : ℕ} {log : List Asked} {b : Board} (follows : Follows w log b) (d
       let same = same-more (newIn d) (follows .figures (d .time) h) in
       rw (follows .width, accepted-more d log, same .many, same .longest)
 
-  in-time : {after : Told} → (ltb (d .time) (lastTold log) ≡ false → beyond (d .time) ≡ false → Went after) → Went (inTime b (d .time) after)
+  in-time : {after : BoardOutcome} → (ltb (d .time) (lastTold log) ≡ false → beyond (d .time) ≡ false → Went after) → Went (inTime b (d .time) after)
   unfolding workedOut
   in-time next =
       by-cond Went (not (boardSound b)) (λ e. clash (follows .sound) (not-true _ e))
@@ -121,12 +121,12 @@ module _ {w : ℕ} {log : List Asked} {b : Board} (follows : Follows w log b) (d
 
   -- What comes of it
 
-  answer-told : {r : Told} → Went r → r .answer ≡ workedOut w log d
+  answer-told : {r : BoardOutcome} → Went r → r .answer ≡ workedOut w log d
   answer-told (Goes.refuses _ e) = e
   answer-told (Goes.accepts _ e) = e
 
   -- the log is one call longer, and the board is sound
-  next-follows : {r : Told} → Went r → boardSound (r .board) ≡ true → Follows w (asked d (r .answer .code) ∷ log) (r .board)
+  next-follows : {r : BoardOutcome} → Went r → boardSound (r .board) ≡ true → Follows w (asked d (r .answer .code) ∷ log) (r .board)
   unfolding lastTold acceptedIn
   next-follows (Goes.refuses {r} n _) s =
       let e : eqb (r .code) 0 ≡ false = ne-eqb _ _ n in
@@ -140,7 +140,7 @@ module _ {w : ℕ} {log : List Asked} {b : Board} (follows : Follows w log b) (d
     width = follows .width;
     last = refl;
     sound = s;
-    figures = λ t later. rw (accepted-more d log) (same-more {es = counting (b .width) (d .time) (b .kept)} {ds = acceptedIn log} (newIn d) (record {
+    figures = λ t later. rw (accepted-more d log) (same-more {es = countingAt (b .width) (d .time) (b .kept)} {ds = acceptedIn log} (newIn d) (record {
       many = rw (follows .width, counting-many w (d .time) t later (b .kept)) (follows .figures t (omega arith) .many);
       longest = rw (follows .width, counting-longest w (d .time) t later (b .kept)) (follows .figures t (omega arith) .longest);
     }));
@@ -209,7 +209,7 @@ call-sound : (b : Board) (d : BoardCall) → boardSound b ≡ true → boardSoun
 call-sound b d s =
     let sound = board-sound-iff-plain b .0 s in
     board-sound-iff-plain (boardCallOf b d .board) .1
-    (by-cond (λ (r : Told). SoundBoard (r .board)) (d .adds) (λ _. board-stays-sound .add b (d .time) (d .process) (d .wait) sound)
+    (by-cond (λ (r : BoardOutcome). SoundBoard (r .board)) (d .adds) (λ _. board-stays-sound .add b (d .time) (d .process) (d .wait) sound)
     (λ _. board-stays-sound .show b (d .time) sound))
 
 -- a call on a list that tells a board is the call on that board

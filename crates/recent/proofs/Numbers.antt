@@ -11,9 +11,9 @@ use borrow.Author.Tests.{eq-eqb, ne-eqb, le-leb}
 use Rattle.model.specs.declared.Answer.{Answer}
 use Rattle.model.specs.Answers.{answerOf}
 use Rattle.model.proofs.Tests.{by-cond}
-use Rattle.recent.specs.Boards.{Entry, entryOf, boardOf, mostKept, widthStands, counting}
-use Rattle.recent.specs.Boards.{Told, told, keeps, setUpOf, addOf, showOf}
-use Rattle.recent.specs.Encodings.{widthPlace, lastPlace, firstPlace, countPlace, boardLength, wrapped, entryAt, ringFrom, boardIn, isBoard}
+use Rattle.recent.specs.Boards.{Entry, entryWith, boardOf, mostKept, widthStands, countingAt}
+use Rattle.recent.specs.Boards.{BoardOutcome, outcomeWith, keeps, setUpOf, addOf, showOf}
+use Rattle.recent.specs.Encodings.{widthIndex, lastIndex, firstIndex, countIndex, boardLength, wrapped, entryAt, ringFrom, boardIn, isBoard}
 use Rattle.recent.specs.Encodings.{LentBoard, boardGave, stillAt, firstAt, nextAt, headed, placed, shown, added, onNumbers}
 use Rattle.recent.specs.Encodings.{emptied, lentSetUp, lentAdd, lentShow}
 use Rattle.recent.specs.Facts.{NumbersFollow}
@@ -29,13 +29,13 @@ use Rattle.recent.proofs.Writes.{placed-length, placed-other, placed-el
 -- A call on numbers
 
 -- [10.130] what is given back on a list l that tells a board, where r is what is given back on the board
-pub record Follows (r : Told) (g : LentBoard) : Type 0 where
+pub record Follows (r : BoardOutcome) (g : LentBoard) : Type 0 where
   pub answer : g .answer ≡ r .answer
   pub board : boardIn (g .board) ≡ r .board
   pub tells : isBoard (g .board) ≡ true
 
-module _ (l after : List ℕ) (board : isBoard l ≡ true) {Good : Type 0} {good : Told} (fine : good .answer .code ≡ 0) where
-  follows : {r : Told} → Came (boardIn l) Good good r → (Good → (boardIn after ≡ good .board) × (isBoard after ≡ true))
+module _ (l after : List ℕ) (board : isBoard l ≡ true) {Good : Type 0} {good : BoardOutcome} (fine : good .answer .code ≡ 0) where
+  follows : {r : BoardOutcome} → Came (boardIn l) Good good r → (Good → (boardIn after ≡ good .board) × (isBoard after ≡ true))
       → Follows r (onNumbers l (r .answer) after)
   follows (Came.refused n) h = simp (board, ne-eqb _ _ n) (record { answer = refl; board = refl; tells = board })
   follows (Came.accepted g) h = simp (board, eq-eqb _ _ fine) (record { answer = refl; board = h g .0; tells = h g .1 })
@@ -45,10 +45,10 @@ module _ (l after : List ℕ) (board : isBoard l ≡ true) {Good : Type 0} {good
 -- four numbers in front that tell a board
 record Heads (l : List ℕ) (w t k n : ℕ) : Type 0 where
   fits : boardLength ≤ length l
-  width : getD l widthPlace 0 ≡ w
-  last : getD l lastPlace 0 ≡ t
-  first : getD l firstPlace 0 ≡ k
-  count : getD l countPlace 0 ≡ n
+  width : getD l widthIndex 0 ≡ w
+  last : getD l lastIndex 0 ≡ t
+  first : getD l firstIndex 0 ≡ k
+  count : getD l countIndex 0 ≡ n
 
 module _ {l : List ℕ} {w t k n : ℕ} (h : Heads l w t k n) where
   heads-board : k < mostKept → isBoard l ≡ true
@@ -62,23 +62,23 @@ module _ {l : List ℕ} {w t k n : ℕ} (h : Heads l w t k n) where
   heads-placed : (j : ℕ) (e : Entry) → Heads (placed l j e) w t k n
   heads-placed j e = record {
     fits = omega (arith, h .fits, placed-length l j e);
-    width = placed-other l j e widthPlace (omega arith) ∙ h .width;
-    last = placed-other l j e lastPlace (omega arith) ∙ h .last;
-    first = placed-other l j e firstPlace (omega arith) ∙ h .first;
-    count = placed-other l j e countPlace (omega arith) ∙ h .count;
+    width = placed-other l j e widthIndex (omega arith) ∙ h .width;
+    last = placed-other l j e lastIndex (omega arith) ∙ h .last;
+    first = placed-other l j e firstIndex (omega arith) ∙ h .first;
+    count = placed-other l j e countIndex (omega arith) ∙ h .count;
   }
 
-heads-headed : (l : List ℕ) (t k n : ℕ) → boardLength ≤ length l → Heads (headed l t k n) (getD l widthPlace 0) t k n
+heads-headed : (l : List ℕ) (t k n : ℕ) → boardLength ≤ length l → Heads (headed l t k n) (getD l widthIndex 0) t k n
 heads-headed l t k n fits =
-    let a : lastPlace < length l = omega arith in
-    let b : firstPlace < length l = omega arith in
-    let c : countPlace < length l = omega arith in
-    let x : lastPlace ≢ countPlace = λ e. omega arith in
-    let y : lastPlace ≢ firstPlace = λ e. omega arith in
-    let z : firstPlace ≢ countPlace = λ e. omega arith in
+    let a : lastIndex < length l = omega arith in
+    let b : firstIndex < length l = omega arith in
+    let c : countIndex < length l = omega arith in
+    let x : lastIndex ≢ countIndex = λ e. omega arith in
+    let y : lastIndex ≢ firstIndex = λ e. omega arith in
+    let z : firstIndex ≢ countIndex = λ e. omega arith in
     record {
       fits = omega (arith, headed-length l t k n);
-      width = headed-other l t k n widthPlace (omega arith);
+      width = headed-other l t k n widthIndex (omega arith);
       last = simp (getD-set-other, getD-set-same);
       first = simp (getD-set-other, getD-set-same, lt-length-set);
       count = simp (getD-set-same, lt-length-set);
@@ -100,7 +100,7 @@ module _ (l : List ℕ) (t : ℕ) (s : SoundNumbers l) where
   next-fits = wrapped-below _ (omega (arith, s .inside, s .room))
 
   -- what counts is left, from its first place on
-  rest-is : ringFrom l (firstAt l t) still ≡ counting (boardIn l .width) t (boardIn l .kept)
+  rest-is : ringFrom l (firstAt l t) still ≡ countingAt (boardIn l .width) t (boardIn l .kept)
   unfolding boardIn
   rest-is =
       let rest : countIn l - (countIn l - still) ≡ still = omega (arith, still-most l t) in
@@ -111,7 +111,7 @@ module _ (l : List ℕ) (t : ℕ) (s : SoundNumbers l) where
       ∙ ap (ringFrom l (firstAt l t)) rest)
 
   -- [10.140] the ring after a showing
-  shown-ring : ringFrom (shown l t) (firstAt l t) still ≡ counting (boardIn l .width) t (boardIn l .kept)
+  shown-ring : ringFrom (shown l t) (firstAt l t) still ≡ countingAt (boardIn l .width) t (boardIn l .kept)
   shown-ring =
       ring-same (shown l t) l (firstAt l t) still first-still still-fits
       (λ i _. headed-entry l t (firstAt l t) still (wrapped (firstAt l t + i)))
@@ -123,7 +123,7 @@ module _ (l : List ℕ) (t : ℕ) (s : SoundNumbers l) where
   shown-follows : (boardIn (shown l t) ≡ keeps (boardIn l) t [] .board) × (isBoard (shown l t) ≡ true)
   unfolding boardIn
   shown-follows = (
-    heads-in shown-heads ∙ ap (boardOf (getD l widthPlace 0) t) (shown-ring ∙ sym (append-nil _)),
+    heads-in shown-heads ∙ ap (boardOf (getD l widthIndex 0) t) (shown-ring ∙ sym (append-nil _)),
     heads-board shown-heads first-still,
   )
 
@@ -133,7 +133,7 @@ module _ (l : List ℕ) (t : ℕ) (s : SoundNumbers l) where
     header = headed l t (firstAt l t) (still + 1)
 
     abbrev entry : Entry
-    entry = entryOf t p wait
+    entry = entryWith t p wait
 
     -- the new entry takes the place of none that counts
     added-same : (i : ℕ) → i < still → entryAt (added l t p wait) (wrapped (firstAt l t + i)) ≡ entryAt l (wrapped (firstAt l t + i))
@@ -145,7 +145,7 @@ module _ (l : List ℕ) (t : ℕ) (s : SoundNumbers l) where
     added-there : entryAt (added l t p wait) (nextAt l) ≡ entry
     added-there = placed-there header (nextAt l) entry (omega (arith, next-fits, s .fits, headed-length l t (firstAt l t) (still + 1)))
 
-    added-ring : ringFrom (added l t p wait) (firstAt l t) (still + 1) ≡ counting (boardIn l .width) t (boardIn l .kept) ++ (entry ∷ [])
+    added-ring : ringFrom (added l t p wait) (firstAt l t) (still + 1) ≡ countingAt (boardIn l .width) t (boardIn l .kept) ++ (entry ∷ [])
     added-ring =
         let most : still + 1 ≤ mostKept = omega (arith, still-fits) in
         ring-snoc (added l t p wait) (firstAt l t) still first-still most
@@ -157,7 +157,7 @@ module _ (l : List ℕ) (t : ℕ) (s : SoundNumbers l) where
     added-follows : (boardIn (added l t p wait) ≡ keeps (boardIn l) t (entry ∷ []) .board) × (isBoard (added l t p wait) ≡ true)
     unfolding boardIn
     added-follows = (
-      heads-in added-heads ∙ ap (boardOf (getD l widthPlace 0) t) added-ring,
+      heads-in added-heads ∙ ap (boardOf (getD l widthIndex 0) t) added-ring,
       heads-board added-heads first-still,
     )
 
@@ -182,7 +182,7 @@ heads-emptied w l fits = record {
   count = refl;
 }
 
-empty-follows : (r : Answer) (w : ℕ) (l : List ℕ) → boardLength ≤ length l → Follows (told r (boardOf w 0 [])) (boardGave r (emptied w l))
+empty-follows : (r : Answer) (w : ℕ) (l : List ℕ) → boardLength ≤ length l → Follows (outcomeWith r (boardOf w 0 [])) (boardGave r (emptied w l))
 empty-follows r w l fits = record {
   answer = refl;
   board = heads-in (heads-emptied w l fits) ∙ ap (boardOf w 0) (ring-none (emptied w l) 0 (omega arith));
@@ -193,11 +193,11 @@ set-up-follows : (w : ℕ) (l : List ℕ) → boardLength ≤ length l → Follo
 unfolding lentSetUp setUpOf
 set-up-follows w l fits =
     simp (le-leb _ _ fits)
-    (by-cond (λ (r : Told). Follows r (boardGave (r .answer) (emptied (r .board .width) l))) (widthStands w)
+    (by-cond (λ (r : BoardOutcome). Follows r (boardGave (r .answer) (emptied (r .board .width) l))) (widthStands w)
     (λ _. empty-follows (answerOf 0 0 0) w l fits)
     (λ _. empty-follows (answerOf 17 0 0) 0 l fits))
 
-follows-all : {r : Told} {g : LentBoard} → Follows r g → (g .answer ≡ r .answer) × (boardIn (g .board) ≡ r .board) × (isBoard (g .board) ≡ true)
+follows-all : {r : BoardOutcome} {g : LentBoard} → Follows r g → (g .answer ≡ r .answer) × (boardIn (g .board) ≡ r .board) × (isBoard (g .board) ≡ true)
 follows-all f = (f .answer, f .board, f .tells)
 
 pub numbers-follow : NumbersFollow

@@ -10,20 +10,20 @@ use borrow.Author.Tests.{ltb-true, ltb-false, eqb-true, eqb-false, leb-true, le-
 use Rattle.model.specs.declared.Answer.{Answer}
 use Rattle.model.specs.Answers.{beyond}
 use Rattle.model.proofs.Tests.{by-test, by-cond, clash, and-true-iff}
-use Rattle.recent.specs.Boards.{entryOf, Board, mostKept, boardSound, howMany}
-use Rattle.recent.specs.Boards.{Told, told, keeps, inTime, isProcess, widthStands, setUpOf, addOf, showOf}
+use Rattle.recent.specs.Boards.{entryWith, Board, mostKept, boardSound, howMany}
+use Rattle.recent.specs.Boards.{BoardOutcome, outcomeWith, keeps, inTime, isProcess, widthStands, setUpOf, addOf, showOf}
 use Rattle.recent.specs.Facts.{InTime, IsProcess, Untimely, Adds, Shows, WidthStands, EverySetUp}
 use Rattle.recent.proofs.Expiry.{left-of}
 use Rattle.recent.proofs.Soundness.{board-sound-iff-plain}
 
 -- a refusal leaves the board, and `good` comes of what is accepted, for which `Good` holds
-pub data Came (b : Board) (Good : Type 0) (good : Told) : Told → Type 0 where
-  refused : {r : Answer} → r .code ≢ 0 → Came b Good good (told r b)
+pub data Came (b : Board) (Good : Type 0) (good : BoardOutcome) : BoardOutcome → Type 0 where
+  refused : {r : Answer} → r .code ≢ 0 → Came b Good good (outcomeWith r b)
   accepted : Good → Came b Good good good
 
 -- what holds of each refusal of a time, and of what comes of a call in time, holds of a call
-in-time : (b : Board) (t : ℕ) (P : Told → Type 0) {after : Told}
-    → ((r : Answer) → r .code ≢ 0 → Untimely b t (r .code) (r .process) (r .time) → P (told r b)) → (InTime b t → P after)
+in-time : (b : Board) (t : ℕ) (P : BoardOutcome → Type 0) {after : BoardOutcome}
+    → ((r : Answer) → r .code ≢ 0 → Untimely b t (r .code) (r .process) (r .time) → P (outcomeWith r b)) → (InTime b t → P after)
     → P (inTime b t after)
 in-time b t P untimely timely =
     by-cond P (not (boardSound b))
@@ -38,7 +38,7 @@ in-time b t P untimely timely =
 
 module _ (b : Board) (t : ℕ) where
   -- what holds of each refusal, and of what is accepted, holds of a showing
-  pub show-cases : (P : Told → Type 0) → ((r : Answer) → r .code ≢ 0 → Shows b t (r .code) (r .process) (r .time) b → P (told r b))
+  pub show-cases : (P : BoardOutcome → Type 0) → ((r : Answer) → r .code ≢ 0 → Shows b t (r .code) (r .process) (r .time) b → P (outcomeWith r b))
       → (InTime b t → P (keeps b t [])) → P (showOf b t)
   unfolding showOf
   show-cases P refusal success = in-time b t P (λ r n u. refusal r n (Shows.untimely u)) success
@@ -66,8 +66,8 @@ module _ (b : Board) (t p wait : ℕ) where
   many = howMany (b .width) t (b .kept)
 
   -- what holds of each refusal, and of what is accepted, holds of an adding
-  pub add-cases : (P : Told → Type 0) → ((r : Answer) → r .code ≢ 0 → Adds b t p wait (r .code) (r .process) (r .time) b → P (told r b))
-      → (Addable b t p → P (keeps b t (entryOf t p wait ∷ []))) → P (addOf b t p wait)
+  pub add-cases : (P : BoardOutcome → Type 0) → ((r : Answer) → r .code ≢ 0 → Adds b t p wait (r .code) (r .process) (r .time) b → P (outcomeWith r b))
+      → (Addable b t p → P (keeps b t (entryWith t p wait ∷ []))) → P (addOf b t p wait)
   unfolding addOf
   add-cases P refusal success =
       in-time b t P (λ r n u. refusal r n (Adds.untimely u))
@@ -80,9 +80,9 @@ module _ (b : Board) (t p wait : ℕ) where
       refusal _ (λ z. omega arith) (Adds.full _ _ timely process left))
       (λ f. success (record { timely = timely; process = process; room = eqb-false _ _ f }))))
 
-  pub add-came : Came b ((boardSound b ≡ true) × Addable b t p) (keeps b t (entryOf t p wait ∷ [])) (addOf b t p wait)
+  pub add-came : Came b ((boardSound b ≡ true) × Addable b t p) (keeps b t (entryWith t p wait ∷ [])) (addOf b t p wait)
   add-came =
-      add-cases (Came b ((boardSound b ≡ true) × Addable b t p) (keeps b t (entryOf t p wait ∷ []))) (λ r n _. Came.refused n)
+      add-cases (Came b ((boardSound b ≡ true) × Addable b t p) (keeps b t (entryWith t p wait ∷ []))) (λ r n _. Came.refused n)
       (λ h. Came.accepted (board-sound-iff-plain b .1 (h .timely .sound), h))
 
 -- Setting up

@@ -11,8 +11,8 @@ use borrow.Author.Tests.{lt-ltb, le-ltb, lt-leb, eq-eqb, ne-eqb, leb-true, le-le
 use Rattle.model.specs.declared.Answer.{Answer}
 use Rattle.model.specs.Answers.{answerOf, beyond}
 use Rattle.model.proofs.Tests.{by-test}
-use Rattle.recent.specs.Boards.{Entry, entryOf, Board, widthStands, mostKept, boardSound, howMany, counting}
-use Rattle.recent.specs.Boards.{Told, told, keeps, inTime, isProcess, setUpOf, addOf, showOf}
+use Rattle.recent.specs.Boards.{Entry, entryWith, Board, widthStands, mostKept, boardSound, howMany, countingAt}
+use Rattle.recent.specs.Boards.{BoardOutcome, outcomeWith, keeps, inTime, isProcess, setUpOf, addOf, showOf}
 use Rattle.recent.specs.Encodings.{boardLength, lentSetUp, lentAdd, lentShow}
 use Rattle.recent.specs.Facts.{WidthStands, InTime, Untimely, Adds, Shows, AddedIffAdds, ShownIffShows}
 use Rattle.recent.specs.Facts.{NoBoard, LentSetUps}
@@ -22,11 +22,11 @@ use Rattle.recent.proofs.Soundness.{board-sound-iff-plain}
 use Rattle.recent.proofs.Outcomes.{show-cases, add-cases, is-process-iff, width-stands-iff, every-set-up}
 
 -- what a call gave back, as a fact of its answer and its board
-abbrev Gives : (ℕ → ℕ → ℕ → Board → Type 0) → Told → Type 0
+abbrev Gives : (ℕ → ℕ → ℕ → Board → Type 0) → BoardOutcome → Type 0
 Gives P r = P (r .answer .code) (r .answer .process) (r .answer .time) (r .board)
 
 -- of its parts
-gives-parts : (P : ℕ → ℕ → ℕ → Board → Type 0) (r : Told) → Gives P r → {code process time : ℕ} {after : Board}
+gives-parts : (P : ℕ → ℕ → ℕ → Board → Type 0) (r : BoardOutcome) → Gives P r → {code process time : ℕ} {after : Board}
     → (r .answer ≡ answerOf code process time) × (r .board ≡ after) → P code process time after
 gives-parts P r h {code} {process} {time} {after} e =
     subst (P code process time) (e .1)
@@ -34,14 +34,14 @@ gives-parts P r h {code} {process} {time} {after} e =
 
 -- A time that is refused, whatever would come of the call otherwise
 
-untimely-gives : (b : Board) (t : ℕ) (after : Told) {code process time : ℕ} → Untimely b t code process time
-    → inTime b t after ≡ told (answerOf code process time) b
+untimely-gives : (b : Board) (t : ℕ) (after : BoardOutcome) {code process time : ℕ} → Untimely b t code process time
+    → inTime b t after ≡ outcomeWith (answerOf code process time) b
 untimely-gives b t after (Untimely.unsound n) =
     by-test (boardSound b) (λ e. absurd (n (board-sound-iff-plain b .0 e))) (λ e. simp e)
 untimely-gives b t after (Untimely.backward s h) = simp (board-sound-iff-plain b .1 s, lt-ltb _ _ h)
 untimely-gives b t after (Untimely.beyond s h g) = simp (board-sound-iff-plain b .1 s, le-ltb _ _ h, lt-ltb _ _ g)
 
-timely-gives : (b : Board) (t : ℕ) (after : Told) → InTime b t → inTime b t after ≡ after
+timely-gives : (b : Board) (t : ℕ) (after : BoardOutcome) → InTime b t → inTime b t after ≡ after
 timely-gives b t after h = simp (board-sound-iff-plain b .1 (h .sound), le-ltb _ _ (h .forward), le-ltb _ _ (h .within))
 
 -- Showing
@@ -53,7 +53,7 @@ module _ (b : Board) (t : ℕ) where
       (λ h. simp append-nil (Shows.shown _ _ _ h (left-of (b .width) t (b .kept))))
 
   shows-given : {code process time : ℕ} {after : Board} → Shows b t code process time after
-      → showOf b t ≡ told (answerOf code process time) after
+      → showOf b t ≡ outcomeWith (answerOf code process time) after
   unfolding showOf
   shows-given (Shows.untimely u) = untimely-gives b t (keeps b t []) u
   shows-given (Shows.shown left many longest h r) =
@@ -63,14 +63,14 @@ module _ (b : Board) (t : ℕ) where
 pub shown-iff-shows : ShownIffShows
 shown-iff-shows b t code process time after = (
   gives-parts (Shows b t) (showOf b t) (show-gives b t),
-  λ h. let e = shows-given b t h in (ap (λ (r : Told). r .answer) e, ap (λ (r : Told). r .board) e),
+  λ h. let e = shows-given b t h in (ap (λ (r : BoardOutcome). r .answer) e, ap (λ (r : BoardOutcome). r .board) e),
 )
 
 -- Adding
 
 module _ (b : Board) (t p wait : ℕ) where
   abbrev entry : Entry
-  entry = entryOf t p wait
+  entry = entryWith t p wait
 
   abbrev after-it : List Entry
   after-it = b .kept ++ (entry ∷ [])
@@ -83,7 +83,7 @@ module _ (b : Board) (t p wait : ℕ) where
     many-more : howMany (b .width) t after-it ≡ howMany (b .width) t (b .kept) + 1
     many-more = ap (λ (r : Answer). r .process) (figures-snoc (b .width) t p wait some (b .kept))
 
-    left-more : counting (b .width) t after-it ≡ counting (b .width) t (b .kept) ++ (entry ∷ [])
+    left-more : countingAt (b .width) t after-it ≡ countingAt (b .width) t (b .kept) ++ (entry ∷ [])
     left-more = counting-snoc (b .width) t entry (lt-ltb t (t + b .width) (omega (arith, some))) (b .kept)
 
     few : howMany (b .width) t (b .kept) ≤ mostKept
@@ -95,10 +95,10 @@ module _ (b : Board) (t p wait : ℕ) where
       (λ g. let h = g .timely in
       let left = rw (left-more h, many-more h) at (left-of (b .width) t after-it) in
       let room : howMany (b .width) t (b .kept) < mostKept = omega (arith, few h, g .room) in
-      rw (many-more h) (Adds.added (counting (b .width) t (b .kept)) _ _ h (g .process) room left))
+      rw (many-more h) (Adds.added (countingAt (b .width) t (b .kept)) _ _ h (g .process) room left))
 
   adds-given : {code process time : ℕ} {after : Board} → Adds b t p wait code process time after
-      → addOf b t p wait ≡ told (answerOf code process time) after
+      → addOf b t p wait ≡ outcomeWith (answerOf code process time) after
   unfolding addOf
   adds-given (Adds.untimely u) = untimely-gives b t _ u
   adds-given (Adds.misnamed h n) =
@@ -113,7 +113,7 @@ module _ (b : Board) (t p wait : ℕ) where
 pub added-iff-adds : AddedIffAdds
 added-iff-adds b t p wait code process time after = (
   gives-parts (Adds b t p wait) (addOf b t p wait) (add-gives b t p wait),
-  λ h. let e = adds-given b t p wait h in (ap (λ (r : Told). r .answer) e, ap (λ (r : Told). r .board) e),
+  λ h. let e = adds-given b t p wait h in (ap (λ (r : BoardOutcome). r .answer) e, ap (λ (r : BoardOutcome). r .board) e),
 )
 
 -- On lent numbers

@@ -13,7 +13,7 @@ use Rattle.recent.specs.declared.rings.Rest.{Rest}
 use Rattle.recent.specs.declared.rings.Pass.{Pass}
 use Rattle.recent.specs.declared.rings.Look.{Look}
 use Rattle.recent.specs.Boards.{Entry, boardOf, widthStands, mostKept, inOrder, noneAfter, boardSound, howMany, longestAt}
-use Rattle.recent.specs.Encodings.{widthPlace, lastPlace, firstPlace, countPlace, entryPlace, boardLength, wrapped, entryAt, ringFrom}
+use Rattle.recent.specs.Encodings.{widthIndex, lastIndex, firstIndex, countIndex, entryIndex, boardLength, wrapped, entryAt, ringFrom}
 use Rattle.recent.specs.Encodings.{boardIn, isBoard}
 use Rattle.recent.specs.Looking.{latest, Rested, Passed, Passes, Looked, Looks}
 use Rattle.recent.proofs.Places.{wrapped-inside, wrapped-below, ring-none, ring-length, ring-same}
@@ -24,16 +24,16 @@ use Rattle.recent.proofs.Outcomes.{width-stands-iff}
 
 -- the header of a list, and the ring that it tells
 abbrev pub widthIn : List ℕ → ℕ
-widthIn l = getD l widthPlace 0
+widthIn l = getD l widthIndex 0
 
 abbrev pub lastIn : List ℕ → ℕ
-lastIn l = getD l lastPlace 0
+lastIn l = getD l lastIndex 0
 
 abbrev pub firstIn : List ℕ → ℕ
-firstIn l = getD l firstPlace 0
+firstIn l = getD l firstIndex 0
 
 abbrev pub countIn : List ℕ → ℕ
-countIn l = getD l countPlace 0
+countIn l = getD l countIndex 0
 
 abbrev pub ringIn : List ℕ → List Entry
 ringIn l = ringFrom l (firstIn l) (countIn l)
@@ -201,7 +201,7 @@ module _ (l : List ℕ) (long : boardLength ≤ length l) where
 
   front-entry : (p : ℕ) → p < mostKept → entryAt front p ≡ entryAt l p
   front-entry p h =
-      rw (front-at (entryPlace p) (omega arith), front-at (entryPlace p + 1) (omega arith), front-at (entryPlace p + 2) (omega arith))
+      rw (front-at (entryIndex p) (omega arith), front-at (entryIndex p + 1) (omega arith), front-at (entryIndex p + 2) (omega arith))
 
   front-ring : (k n : ℕ) → k < mostKept → n ≤ mostKept → ringFrom front k n ≡ ringFrom l k n
   front-ring k n h g = ring-same front l k n h g (λ i b. front-entry (wrapped (k + i)) (wrapped-below (k + i) (omega arith)))
@@ -210,10 +210,10 @@ module _ (l : List ℕ) (long : boardLength ≤ length l) where
   unfolding boardIn
   front-board h g =
       rw (
-        front-at firstPlace (omega arith),
-        front-at countPlace (omega arith),
-        front-at widthPlace (omega arith),
-        front-at lastPlace (omega arith),
+        front-at firstIndex (omega arith),
+        front-at countIndex (omega arith),
+        front-at widthIndex (omega arith),
+        front-at lastIndex (omega arith),
         front-ring (firstIn l) (countIn l) h g,
       )
 
@@ -222,20 +222,20 @@ module _ (l : List ℕ) (long : boardLength ≤ length l) where
   front-sound s =
       let size = length-take-le boardLength l long in
       let fits : boardLength ≤ length front = omega arith in
-      let inside : firstIn front < mostKept = rw (front-at firstPlace (omega arith)) (s .inside) in
+      let inside : firstIn front < mostKept = rw (front-at firstIndex (omega arith)) (s .inside) in
       simp (le-leb _ _ fits, lt-ltb _ _ inside) (rw (front-board (s .inside) (s .room)) (numbers-sound l s))
 
   front-seen : (t : ℕ) {r : Look} → Looked front t r → Looked l t r
   unfolding isBoard
   front-seen t seen =
       let s = sound-numbers front (seen .board) (seen .sound) in
-      let inside = rw (front-at firstPlace (omega arith)) at (s .inside) in
-      let room = rw (front-at countPlace (omega arith)) at (s .room) in
+      let inside = rw (front-at firstIndex (omega arith)) at (s .inside) in
+      let room = rw (front-at countIndex (omega arith)) at (s .room) in
       let same = front-board inside room in
       record {
         board = simp (le-leb _ _ long, lt-ltb _ _ inside);
         sound = rw same at (seen .sound);
-        first-is = rw (same, front-at firstPlace (omega arith), front-at countPlace (omega arith)) at (seen .first-is);
+        first-is = rw (same, front-at firstIndex (omega arith), front-at countIndex (omega arith)) at (seen .first-is);
         count-is = rw same at (seen .count-is);
         longest-is = rw same at (seen .longest-is);
       }

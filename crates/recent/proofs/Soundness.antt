@@ -7,7 +7,7 @@ use native.Mathlib.Omega.{arith}
 use lib.ListN.{length}
 use Rattle.model.proofs.Tests.{tests}
 use Rattle.recent.specs.Boards.{Entry, Board, mostKept, inOrder, noneAfter, boardSound}
-use Rattle.recent.specs.Facts.{Stands, WidthStands, BoardSoundIffPlain}
+use Rattle.recent.specs.Facts.{IsAt, WidthStands, BoardSoundIffPlain}
 use Rattle.recent.proofs.Passes.{order-head}
 
 -- The tests of a board
@@ -31,40 +31,40 @@ parts-sound b h = simp tests ((((h .width .least, h .width .most), h .room), h .
 -- Order
 
 -- no entry is before the time that they start from
-order-least : (t : ℕ) {e : Entry} {j : ℕ} {es : List Entry} → inOrder t es ≡ true → Stands e j es → t ≤ e .time
-order-least t {es = e ∷ es} h Stands.here = order-head t e es h .0
-order-least t {es = d ∷ es} h (Stands.later s) =
+order-least : (t : ℕ) {e : Entry} {j : ℕ} {es : List Entry} → inOrder t es ≡ true → IsAt e j es → t ≤ e .time
+order-least t {es = e ∷ es} h IsAt.here = order-head t e es h .0
+order-least t {es = d ∷ es} h (IsAt.later s) =
     let g = order-head t d es h in omega (arith, order-least (d .time) (g .1) s)
 
-order-plain : (t : ℕ) {d e : Entry} {i j : ℕ} {es : List Entry} → inOrder t es ≡ true → Stands d i es → Stands e j es → i ≤ j
+order-plain : (t : ℕ) {d e : Entry} {i j : ℕ} {es : List Entry} → inOrder t es ≡ true → IsAt d i es → IsAt e j es → i ≤ j
     → d .time ≤ e .time
-order-plain t h Stands.here Stands.here b = omega arith
-order-plain t {es = d ∷ es} h Stands.here (Stands.later s) b = order-least (d .time) (order-head t d es h .1) s
-order-plain t h (Stands.later r) Stands.here b = absurd (omega arith)
-order-plain t {es = c ∷ es} h (Stands.later r) (Stands.later s) b = order-plain (c .time) (order-head t c es h .1) r s (omega arith)
+order-plain t h IsAt.here IsAt.here b = omega arith
+order-plain t {es = d ∷ es} h IsAt.here (IsAt.later s) b = order-least (d .time) (order-head t d es h .1) s
+order-plain t h (IsAt.later r) IsAt.here b = absurd (omega arith)
+order-plain t {es = c ∷ es} h (IsAt.later r) (IsAt.later s) b = order-plain (c .time) (order-head t c es h .1) r s (omega arith)
 
-plain-order : (t : ℕ) (es : List Entry) → ((e : Entry) (j : ℕ) → Stands e j es → t ≤ e .time)
-    → ((d e : Entry) (i j : ℕ) → Stands d i es → Stands e j es → i ≤ j → d .time ≤ e .time) → inOrder t es ≡ true
+plain-order : (t : ℕ) (es : List Entry) → ((e : Entry) (j : ℕ) → IsAt e j es → t ≤ e .time)
+    → ((d e : Entry) (i j : ℕ) → IsAt d i es → IsAt e j es → i ≤ j → d .time ≤ e .time) → inOrder t es ≡ true
 unfolding inOrder
 plain-order t [] h g = refl
 plain-order t (e ∷ es) h g =
     simp tests (
-      h e 0 Stands.here,
-      plain-order (e .time) es (λ d j s. g e d 0 (j + 1) Stands.here (Stands.later s) (omega arith))
-          (λ c d i j r s b. g c d (i + 1) (j + 1) (Stands.later r) (Stands.later s) (omega arith)),
+      h e 0 IsAt.here,
+      plain-order (e .time) es (λ d j s. g e d 0 (j + 1) IsAt.here (IsAt.later s) (omega arith))
+          (λ c d i j r s b. g c d (i + 1) (j + 1) (IsAt.later r) (IsAt.later s) (omega arith)),
     )
 
 -- None after the last time told
 
-none-plain : (t : ℕ) {e : Entry} {j : ℕ} {es : List Entry} → noneAfter t es ≡ true → Stands e j es → e .time ≤ t
+none-plain : (t : ℕ) {e : Entry} {j : ℕ} {es : List Entry} → noneAfter t es ≡ true → IsAt e j es → e .time ≤ t
 unfolding noneAfter
-none-plain t h Stands.here = let g = simp tests at h in g .0
-none-plain t h (Stands.later s) = let g = simp tests at h in none-plain t (g .1) s
+none-plain t h IsAt.here = let g = simp tests at h in g .0
+none-plain t h (IsAt.later s) = let g = simp tests at h in none-plain t (g .1) s
 
-plain-none : (t : ℕ) (es : List Entry) → ((e : Entry) (j : ℕ) → Stands e j es → e .time ≤ t) → noneAfter t es ≡ true
+plain-none : (t : ℕ) (es : List Entry) → ((e : Entry) (j : ℕ) → IsAt e j es → e .time ≤ t) → noneAfter t es ≡ true
 unfolding noneAfter
 plain-none t [] h = refl
-plain-none t (e ∷ es) h = simp tests (h e 0 Stands.here, plain-none t es (λ d j s. h d (j + 1) (Stands.later s)))
+plain-none t (e ∷ es) h = simp tests (h e 0 IsAt.here, plain-none t es (λ d j s. h d (j + 1) (IsAt.later s)))
 
 -- The board
 

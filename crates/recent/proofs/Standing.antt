@@ -9,8 +9,8 @@ use lib.ListN.{length, getD}
 use borrow.Author.Tests.{leb-true, ltb-true, le-leb, lt-ltb}
 use Rattle.model.proofs.Tests.{and-true-iff}
 use Rattle.recent.specs.Boards.{Entry, mostKept}
-use Rattle.recent.specs.Encodings.{firstPlace, countPlace, boardLength, entryAt, entriesFrom, ringFrom, boardIn, isBoard}
-use Rattle.recent.specs.Facts.{Stands, BoardToldIff, EveryRing}
+use Rattle.recent.specs.Encodings.{firstIndex, countIndex, boardLength, entryAt, entriesFrom, ringFrom, boardIn, isBoard}
+use Rattle.recent.specs.Facts.{IsAt, BoardToldIff, EveryRing}
 use Rattle.recent.proofs.Places.{entries-length, ring-length}
 
 pub board-told-iff : BoardToldIff
@@ -22,35 +22,35 @@ board-told-iff l = (
 
 -- Where an entry stands
 
-stands-front : {e : Entry} {i : ℕ} {xs : List Entry} (ys : List Entry) → Stands e i xs → Stands e i (xs ++ ys)
-stands-front ys Stands.here = Stands.here
-stands-front ys (Stands.later s) = Stands.later (stands-front ys s)
+stands-front : {e : Entry} {i : ℕ} {xs : List Entry} (ys : List Entry) → IsAt e i xs → IsAt e i (xs ++ ys)
+stands-front ys IsAt.here = IsAt.here
+stands-front ys (IsAt.later s) = IsAt.later (stands-front ys s)
 
-stands-behind : {e : Entry} {i : ℕ} (xs : List Entry) {ys : List Entry} → Stands e i ys → Stands e (i + length xs) (xs ++ ys)
-stands-behind {e} {i} [] {ys} s = subst (λ (k : ℕ). Stands e k ys) (omega arith) s
-stands-behind {e} {i} (x ∷ xs) {ys} s = subst (λ (k : ℕ). Stands e k (x ∷ xs ++ ys)) (omega arith) (Stands.later (stands-behind xs s))
+stands-behind : {e : Entry} {i : ℕ} (xs : List Entry) {ys : List Entry} → IsAt e i ys → IsAt e (i + length xs) (xs ++ ys)
+stands-behind {e} {i} [] {ys} s = subst (λ (k : ℕ). IsAt e k ys) (omega arith) s
+stands-behind {e} {i} (x ∷ xs) {ys} s = subst (λ (k : ℕ). IsAt e k (x ∷ xs ++ ys)) (omega arith) (IsAt.later (stands-behind xs s))
 
-entries-stand : (l : List ℕ) (k n i j : ℕ) → i < n → j ≡ k + i → Stands (entryAt l j) i (entriesFrom l k n)
+entries-stand : (l : List ℕ) (k n i j : ℕ) → i < n → j ≡ k + i → IsAt (entryAt l j) i (entriesFrom l k n)
 unfolding entriesFrom
 entries-stand l k zero i j b e = absurd (omega arith)
 entries-stand l k (suc n) zero j b e =
     let at : j ≡ k = omega arith in
-    rw at Stands.here
-entries-stand l k (suc n) (suc i) j b e = rw (← add-one i) (Stands.later (entries-stand l (k + 1) n i j (omega arith) (omega arith)))
+    rw at IsAt.here
+entries-stand l k (suc n) (suc i) j b e = rw (← add-one i) (IsAt.later (entries-stand l (k + 1) n i j (omega arith) (omega arith)))
 
 -- up to the end of the places
-ring-stands : (l : List ℕ) (k n i j : ℕ) → i < n → j ≡ k + i → j < mostKept → Stands (entryAt l j) i (ringFrom l k n)
+ring-stands : (l : List ℕ) (k n i j : ℕ) → i < n → j ≡ k + i → j < mostKept → IsAt (entryAt l j) i (ringFrom l k n)
 unfolding ringFrom
 ring-stands l k n i j b e h =
     stands-front (entriesFrom l 0 (n - (mostKept - k))) (entries-stand l k (min n (mostKept - k)) i j (omega arith) e)
 
 -- past it
-ring-stands-around : (l : List ℕ) (k n i j : ℕ) → k < mostKept → i < n → j + mostKept ≡ k + i → Stands (entryAt l j) i (ringFrom l k n)
+ring-stands-around : (l : List ℕ) (k n i j : ℕ) → k < mostKept → i < n → j + mostKept ≡ k + i → IsAt (entryAt l j) i (ringFrom l k n)
 unfolding ringFrom
 ring-stands-around l k n i j h b e =
     let front = entriesFrom l k (min n (mostKept - k)) in
     let at : i - (mostKept - k) + length front ≡ i = omega (arith, entries-length l k (min n (mostKept - k))) in
-    subst (λ (m : ℕ). Stands (entryAt l j) m (front ++ entriesFrom l 0 (n - (mostKept - k)))) at
+    subst (λ (m : ℕ). IsAt (entryAt l j) m (front ++ entriesFrom l 0 (n - (mostKept - k)))) at
     (stands-behind front (entries-stand l 0 (n - (mostKept - k)) (i - (mostKept - k)) j (omega arith) (omega arith)))
 
 pub every-ring : EveryRing
@@ -58,8 +58,8 @@ unfolding boardIn
 every-ring l told = record {
   width = refl;
   last = refl;
-  count = ring-length l (getD l firstPlace 0) (getD l countPlace 0);
-  before-the-end = λ i k b e h. ring-stands l (getD l firstPlace 0) (getD l countPlace 0) i k b e h;
+  count = ring-length l (getD l firstIndex 0) (getD l countIndex 0);
+  before-the-end = λ i k b e h. ring-stands l (getD l firstIndex 0) (getD l countIndex 0) i k b e h;
   around-the-end = λ i k b e.
-      ring-stands-around l (getD l firstPlace 0) (getD l countPlace 0) i k (board-told-iff l .0 told .1) b e;
+      ring-stands-around l (getD l firstIndex 0) (getD l countIndex 0) i k (board-told-iff l .0 told .1) b e;
 }

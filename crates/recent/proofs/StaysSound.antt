@@ -7,8 +7,8 @@ use mathlib.Core.List.{List, [], _∷_, _++_, append-nil}
 use native.Mathlib.Omega.{arith}
 use lib.ListN.{length, length-append}
 use Rattle.model.proofs.Tests.{by-test, tests}
-use Rattle.recent.specs.Boards.{Entry, entryOf, Board, boardOf, mostKept, inOrder, noneAfter, counts, counting}
-use Rattle.recent.specs.Boards.{Told}
+use Rattle.recent.specs.Boards.{Entry, entryWith, Board, boardOf, mostKept, inOrder, noneAfter, counts, countingAt}
+use Rattle.recent.specs.Boards.{BoardOutcome}
 use Rattle.recent.specs.Facts.{InTime, SoundBoard, BoardStaysSound}
 use Rattle.recent.proofs.Figures.{howMany-most}
 use Rattle.recent.proofs.Passes.{order-head}
@@ -19,8 +19,8 @@ use Rattle.recent.proofs.Soundness.{SoundParts, sound-parts, parts-soun
 -- What is left
 
 module _ (w t : ℕ) where
-  counting-order : (s since : ℕ) (es : List Entry) → s ≤ since → inOrder since es ≡ true → inOrder s (counting w t es) ≡ true
-  unfolding counting inOrder
+  counting-order : (s since : ℕ) (es : List Entry) → s ≤ since → inOrder since es ≡ true → inOrder s (countingAt w t es) ≡ true
+  unfolding countingAt inOrder
   counting-order s since [] b h = refl
   counting-order s since (e ∷ es) b h =
       let g = order-head since e es h in
@@ -28,8 +28,8 @@ module _ (w t : ℕ) where
       (λ c. rw c (simp tests (omega arith, counting-order (e .time) (e .time) es (omega arith) (g .1))))
       (λ c. rw c (counting-order s (e .time) es (omega arith) (g .1)))
 
-  counting-none-after : (last : ℕ) (es : List Entry) → last ≤ t → noneAfter last es ≡ true → noneAfter t (counting w t es) ≡ true
-  unfolding counting noneAfter
+  counting-none-after : (last : ℕ) (es : List Entry) → last ≤ t → noneAfter last es ≡ true → noneAfter t (countingAt w t es) ≡ true
+  unfolding countingAt noneAfter
   counting-none-after last [] b h = refl
   counting-none-after last (e ∷ es) b h =
       let g = simp tests at h in
@@ -57,7 +57,7 @@ snoc-none-after t d (c ∷ es) e n = let g = simp tests at n in simp tests (g .0
 
 module _ (b : Board) (t : ℕ) (timely : InTime b t) where
   abbrev left : List Entry
-  left = counting (b .width) t (b .kept)
+  left = countingAt (b .width) t (b .kept)
 
   parts : SoundParts b
   parts = sound-parts b (board-sound-iff-plain b .1 (timely .sound))
@@ -91,9 +91,9 @@ board-stays-sound = record {
       rw (every-set-up w .board e)
       (plain-of (boardOf w 0 []) (record { width = every-set-up w .accepted .0 e; room = omega arith; order = refl; none-after = refl }));
   add = λ b t p wait s.
-      add-cases b t p wait (λ (r : Told). SoundBoard (r .board)) (λ r _ _. s)
+      add-cases b t p wait (λ (r : BoardOutcome). SoundBoard (r .board)) (λ r _ _. s)
       (λ g. plain-of _
-      (added-sound b t (g .timely) (entryOf t p wait) refl (λ e. g .room (sym (counting-length (b .width) t (b .kept)) ∙ e))));
+      (added-sound b t (g .timely) (entryWith t p wait) refl (λ e. g .room (sym (counting-length (b .width) t (b .kept)) ∙ e))));
   show = λ b t s.
-      show-cases b t (λ (r : Told). SoundBoard (r .board)) (λ r _ _. s) (λ g. rw append-nil (plain-of _ (left-sound b t g)));
+      show-cases b t (λ (r : BoardOutcome). SoundBoard (r .board)) (λ r _ _. s) (λ g. rw append-nil (plain-of _ (left-sound b t g)));
 }

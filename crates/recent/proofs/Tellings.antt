@@ -31,8 +31,8 @@ use Rattle.layout.specs.Guarantees.{lentCall, bothInNumbers}
 use Rattle.layout.proofs.Encodings.{summary-comes-back}
 use Rattle.layout.proofs.LentSteps.{fresh-given, new-given}
 use Rattle.layout.proofs.LentTallies.{BothWhole, next-whole, record-in-numbers, fresh-in-numbers, fresh-accepted, fresh-whole}
-use Rattle.recent.specs.Boards.{entryOf, Board, mostKept, boardSound, howMany, isProcess, addOf}
-use Rattle.recent.specs.Boards.{Told, keeps}
+use Rattle.recent.specs.Boards.{entryWith, Board, mostKept, boardSound, howMany, isProcess, addOf}
+use Rattle.recent.specs.Boards.{BoardOutcome, keeps}
 use Rattle.recent.specs.Encodings.{boardIn, isBoard, LentBoard, lentSetUp, lentAdd}
 use Rattle.recent.specs.Lists.{BoardCall, lentBoardCall, asked, lastTold, workedOut}
 use Rattle.recent.specs.Tellings.{LentTold, toldGave, entered, leftAlone, lentTell, Tells, EveryTell}
@@ -49,7 +49,7 @@ use Rattle.recent.proofs.Lists.{unsound-call, LentFollows, worked-succe
 
 module _ (t p wait : ℕ) where
   -- a success tells how many count, the new entry among them
-  came-counts : {b : Board} {Good : Type 0} {r : Told} → Came b ((boardSound b ≡ true) × Good) (keeps b t (entryOf t p wait ∷ [])) r
+  came-counts : {b : Board} {Good : Type 0} {r : BoardOutcome} → Came b ((boardSound b ≡ true) × Good) (keeps b t (entryWith t p wait ∷ [])) r
       → r .answer .code ≡ 0 → 1 ≤ r .answer .process
   came-counts (Came.refused n) e = absurd (n e)
   came-counts {b} (Came.accepted (s, _)) e =

@@ -11,8 +11,8 @@ use borrow.Author.Tests.{eqb-true, leb-true, lt-leb}
 use Rattle.model.specs.declared.Answer.{Answer}
 use Rattle.model.proofs.Tests.{by-test}
 use Rattle.model.proofs.Lists.{length-over}
-use Rattle.recent.specs.Boards.{Entry, entryOf, setUpOf, addOf, showOf}
-use Rattle.recent.specs.Encodings.{headerLength, entryPlace, boardLength, entryAt, boardIn, isBoard, stillAt, firstAt, nextAt}
+use Rattle.recent.specs.Boards.{Entry, entryWith, setUpOf, addOf, showOf}
+use Rattle.recent.specs.Encodings.{boardHeader, entryIndex, boardLength, entryAt, boardIn, isBoard, stillAt, firstAt, nextAt}
 use Rattle.recent.specs.Encodings.{emptied, headed, placed, shown, added, onNumbers, lentSetUp, lentAdd, lentShow}
 use Rattle.recent.specs.Facts.{NotHead, NotEntry, RefusedBoardStays, BoardWritesItsOwn}
 
@@ -30,7 +30,7 @@ module _ (l : List ℕ) (t k n : ℕ) where
   headed-entry j =
       let same : (i : ℕ) → 4 ≤ i → getD (headed l t k n) i 0 ≡ getD l i 0 =
       λ i h. headed-other i (omega arith) in
-      rw (same (entryPlace j) (omega arith), same (entryPlace j + 1) (omega arith), same (entryPlace j + 2) (omega arith))
+      rw (same (entryIndex j) (omega arith), same (entryIndex j + 1) (omega arith), same (entryIndex j + 2) (omega arith))
 
 -- An entry
 
@@ -45,9 +45,9 @@ module _ (l : List ℕ) (k : ℕ) (e : Entry) where
   pub placed-elsewhere : (j : ℕ) → j ≢ k → entryAt (placed l k e) j ≡ entryAt l j
   placed-elsewhere j n =
       rw (
-        placed-other (entryPlace j) (omega arith),
-        placed-other (entryPlace j + 1) (omega arith),
-        placed-other (entryPlace j + 2) (omega arith),
+        placed-other (entryIndex j) (omega arith),
+        placed-other (entryIndex j + 1) (omega arith),
+        placed-other (entryIndex j + 2) (omega arith),
       )
 
 -- it is read where it was put
@@ -66,10 +66,10 @@ module _ (l : List ℕ) (at : ℕ) (fits : at + 2 < length l) where
         simp (getD-set-same, lt-length-set),
       )
 
-pub placed-there : (l : List ℕ) (k : ℕ) (e : Entry) → entryPlace k + 2 < length l → entryAt (placed l k e) k ≡ e
+pub placed-there : (l : List ℕ) (k : ℕ) (e : Entry) → entryIndex k + 2 < length l → entryAt (placed l k e) k ≡ e
 placed-there l k e h =
-    let r = three-read l (entryPlace k) h (e .time) (e .process) (e .wait) in
-    λ i. entryOf (r .0 i) (r .1 i) (r .2 i)
+    let r = three-read l (entryIndex k) h (e .time) (e .process) (e .wait) in
+    λ i. entryWith (r .0 i) (r .1 i) (r .2 i)
 
 -- An empty board
 
@@ -77,11 +77,11 @@ pub emptied-length : (w : ℕ) (l : List ℕ) → boardLength ≤ length l → l
 emptied-length w l h = length-over (w ∷ 0 ∷ 0 ∷ 0 ∷ []) l (omega arith)
 
 -- nothing behind the header is written
-emptied-other : (w : ℕ) (l : List ℕ) (i : ℕ) → headerLength ≤ i → getD (emptied w l) i 0 ≡ getD l i 0
+emptied-other : (w : ℕ) (l : List ℕ) (i : ℕ) → boardHeader ≤ i → getD (emptied w l) i 0 ≡ getD l i 0
 emptied-other w l i h =
-    let at : i ≡ headerLength + (i - headerLength) = omega arith in
+    let at : i ≡ boardHeader + (i - boardHeader) = omega arith in
     rw at
-    (getD-append-add (w ∷ 0 ∷ 0 ∷ 0 ∷ []) (drop headerLength l) (i - headerLength) 0 ∙ getD-drop headerLength l (i - headerLength) 0)
+    (getD-append-add (w ∷ 0 ∷ 0 ∷ 0 ∷ []) (drop boardHeader l) (i - boardHeader) 0 ∙ getD-drop boardHeader l (i - boardHeader) 0)
 
 -- What a call gives back on numbers
 
@@ -116,11 +116,11 @@ unfolding lentAdd lentShow
 board-writes-its-own = record {
   add = λ l t p wait i h g.
       on-numbers (λ m. getD m i 0 ≡ getD l i 0) l (addOf (boardIn l) t p wait .answer) (added l t p wait) refl
-      (placed-other (headed l t (firstAt l t) (stillAt l t + 1)) (nextAt l) (entryOf t p wait) i g
+      (placed-other (headed l t (firstAt l t) (stillAt l t + 1)) (nextAt l) (entryWith t p wait) i g
       ∙ headed-other l t (firstAt l t) (stillAt l t + 1) i h);
   add-length = λ l t p wait.
       on-numbers (λ m. length m ≡ length l) l (addOf (boardIn l) t p wait .answer) (added l t p wait) refl
-      (placed-length (headed l t (firstAt l t) (stillAt l t + 1)) (nextAt l) (entryOf t p wait)
+      (placed-length (headed l t (firstAt l t) (stillAt l t + 1)) (nextAt l) (entryWith t p wait)
       ∙ headed-length l t (firstAt l t) (stillAt l t + 1));
   show = λ l t i h.
       on-numbers (λ m. getD m i 0 ≡ getD l i 0) l (showOf (boardIn l) t .answer) (shown l t) refl

@@ -16,8 +16,8 @@ pub record Entry : Type 0 where
   pub wait : ℕ
 
 -- helper: of its parts
-abbrev pub entryOf : ℕ → ℕ → ℕ → Entry
-entryOf time process wait = record { time = time; process = process; wait = wait }
+abbrev pub entryWith : ℕ → ℕ → ℕ → Entry
+entryWith time process wait = record { time = time; process = process; wait = wait }
 
 -- [10.10] the width W, the last time that the board was told, and the entries that it keeps
 pub record Board : Type 0 where
@@ -79,35 +79,35 @@ abbrev pub figuresAt : ℕ → ℕ → List Entry → Answer
 figuresAt w clock es = answerOf 0 (howMany w clock es) (longestAt w clock es)
 
 -- [10.55] the entries that count, in the same order
-unfoldable pub counting : ℕ → ℕ → List Entry → List Entry
-counting w clock [] = []
-counting w clock (e ∷ es) = cond (counts w clock e) (e ∷ counting w clock es) (counting w clock es)
+unfoldable pub countingAt : ℕ → ℕ → List Entry → List Entry
+countingAt w clock [] = []
+countingAt w clock (e ∷ es) = cond (counts w clock e) (e ∷ countingAt w clock es) (countingAt w clock es)
 
 -- The calls
 
 -- helper: the answer of a call, and the board after it
-pub record Told : Type 0 where
+pub record BoardOutcome : Type 0 where
   pub answer : Answer
   pub board : Board
 
 -- helper: of its parts
-abbrev pub told : Answer → Board → Told
-told r b = record { answer = r; board = b }
+abbrev pub outcomeWith : Answer → Board → BoardOutcome
+outcomeWith r b = record { answer = r; board = b }
 
 -- [10.60] [4.17]
-unfoldable pub setUpOf : ℕ → Told
-setUpOf w = cond (widthStands w) (told (answerOf 0 0 0) (boardOf w 0 [])) (told (answerOf 17 0 0) (boardOf 0 0 []))
+unfoldable pub setUpOf : ℕ → BoardOutcome
+setUpOf w = cond (widthStands w) (outcomeWith (answerOf 0 0 0) (boardOf w 0 [])) (outcomeWith (answerOf 17 0 0) (boardOf 0 0 []))
 
 -- [10.55] [10.70] [10.80] at the time t what has expired is dropped, and the entries `new` come after the rest; the board has been told t
-abbrev pub keeps : Board → ℕ → List Entry → Told
-keeps b t new = told (figuresAt (b .width) t (b .kept ++ new)) (boardOf (b .width) t (counting (b .width) t (b .kept) ++ new))
+abbrev pub keeps : Board → ℕ → List Entry → BoardOutcome
+keeps b t new = outcomeWith (figuresAt (b .width) t (b .kept ++ new)) (boardOf (b .width) t (countingAt (b .width) t (b .kept) ++ new))
 
 -- [10.90] [4.2] [4.4] [4.5] what a call at the time t is refused with first; `after` is what comes of it otherwise
-abbrev pub inTime : Board → ℕ → Told → Told
+abbrev pub inTime : Board → ℕ → BoardOutcome → BoardOutcome
 inTime b t after =
-    cond (not (boardSound b)) (told (answerOf 2 0 0) b)
-    (cond (ltb t (b .last)) (told (answerOf 4 0 (b .last)) b)
-    (cond (beyond t) (told (answerOf 5 0 0) b)
+    cond (not (boardSound b)) (outcomeWith (answerOf 2 0 0) b)
+    (cond (ltb t (b .last)) (outcomeWith (answerOf 4 0 (b .last)) b)
+    (cond (beyond t) (outcomeWith (answerOf 5 0 0) b)
     after))
 
 -- [4.7] [10.90] the process of an entry that is told
@@ -115,13 +115,13 @@ abbrev pub isProcess : ℕ → Bool
 isProcess p = leb 1 p && leb p 96
 
 -- [10.70] [10.90] [4.18] what has expired at the time t gives up its place first
-unfoldable pub addOf : Board → ℕ → ℕ → ℕ → Told
+unfoldable pub addOf : Board → ℕ → ℕ → ℕ → BoardOutcome
 addOf b t p wait =
     inTime b t
-    (cond (not (isProcess p)) (told (answerOf 7 0 0) b)
-    (cond (eqb (howMany (b .width) t (b .kept)) mostKept) (told (answerOf 18 0 0) b)
-    (keeps b t (entryOf t p wait ∷ []))))
+    (cond (not (isProcess p)) (outcomeWith (answerOf 7 0 0) b)
+    (cond (eqb (howMany (b .width) t (b .kept)) mostKept) (outcomeWith (answerOf 18 0 0) b)
+    (keeps b t (entryWith t p wait ∷ []))))
 
 -- [10.80] [10.90]
-unfoldable pub showOf : Board → ℕ → Told
+unfoldable pub showOf : Board → ℕ → BoardOutcome
 showOf b clock = inTime b clock (keeps b clock [])

@@ -8,41 +8,41 @@ use lib.Dec.{leb, ltb, eqb}
 use Rattle.model.specs.declared.Answer.{Answer}
 use Rattle.model.specs.Answers.{answerOf}
 use Rattle.model.specs.Readings.{over}
-use Rattle.recent.specs.Boards.{Entry, entryOf, Board, boardOf, widthStands, mostKept, howMany, Told, setUpOf, addOf, showOf}
+use Rattle.recent.specs.Boards.{Entry, entryWith, Board, boardOf, widthStands, mostKept, howMany, BoardOutcome, setUpOf, addOf, showOf}
 
 -- Where what stands
 
 -- [10.110] the width
-abbrev pub widthPlace : ℕ
-widthPlace = 0
+abbrev pub widthIndex : ℕ
+widthIndex = 0
 
 -- [10.110] the last time told
-abbrev pub lastPlace : ℕ
-lastPlace = 1
+abbrev pub lastIndex : ℕ
+lastIndex = 1
 
 -- [10.110] the place of the first entry that is kept
-abbrev pub firstPlace : ℕ
-firstPlace = 2
+abbrev pub firstIndex : ℕ
+firstIndex = 2
 
 -- [10.110] how many entries are kept
-abbrev pub countPlace : ℕ
-countPlace = 3
+abbrev pub countIndex : ℕ
+countIndex = 3
 
 -- [10.110] the numbers before the places
-abbrev pub headerLength : ℕ
-headerLength = 4
+abbrev pub boardHeader : ℕ
+boardHeader = 4
 
 -- [10.110] the numbers of an entry
-abbrev pub stride : ℕ
-stride = 3
+abbrev pub entryLength : ℕ
+entryLength = 3
 
 -- [10.110] the numbers of a board
 abbrev pub boardLength : ℕ
-boardLength = headerLength + stride * mostKept
+boardLength = boardHeader + entryLength * mostKept
 
 -- [10.110] where the numbers of place k begin
-abbrev pub entryPlace : ℕ → ℕ
-entryPlace k = headerLength + stride * k
+abbrev pub entryIndex : ℕ → ℕ
+entryIndex k = boardHeader + entryLength * k
 
 -- [10.115] after the last place comes place 0
 unfoldable pub wrapped : ℕ → ℕ
@@ -52,7 +52,7 @@ wrapped k = cond (ltb k mostKept) k (k - mostKept)
 
 -- [10.110] the entry at place k
 abbrev pub entryAt : List ℕ → ℕ → Entry
-entryAt l k = entryOf (getD l (entryPlace k) 0) (getD l (entryPlace k + 1) 0) (getD l (entryPlace k + 2) 0)
+entryAt l k = entryWith (getD l (entryIndex k) 0) (getD l (entryIndex k + 1) 0) (getD l (entryIndex k + 2) 0)
 
 -- [10.115] the n entries from place k on, where the places do not end
 unfoldable pub entriesFrom : List ℕ → ℕ → ℕ → List Entry
@@ -65,11 +65,11 @@ ringFrom l k n = entriesFrom l k (min n (mostKept - k)) ++ entriesFrom l 0 (n - 
 
 -- [10.110]
 unfoldable pub boardIn : List ℕ → Board
-boardIn l = boardOf (getD l widthPlace 0) (getD l lastPlace 0) (ringFrom l (getD l firstPlace 0) (getD l countPlace 0))
+boardIn l = boardOf (getD l widthIndex 0) (getD l lastIndex 0) (ringFrom l (getD l firstIndex 0) (getD l countIndex 0))
 
 -- [10.120] a list that starts with the numbers of a board
 unfoldable pub isBoard : List ℕ → Bool
-isBoard l = leb boardLength (length l) && ltb (getD l firstPlace 0) mostKept
+isBoard l = leb boardLength (length l) && ltb (getD l firstIndex 0) mostKept
 
 -- Calls on a lent board: the answer, and its numbers
 
@@ -99,19 +99,19 @@ stillAt l t = howMany (boardIn l .width) t (boardIn l .kept)
 
 -- [10.140] the place of the first of them; if there is none, that after the last kept entry
 abbrev pub firstAt : List ℕ → ℕ → ℕ
-firstAt l t = wrapped (getD l firstPlace 0 + (getD l countPlace 0 - stillAt l t))
+firstAt l t = wrapped (getD l firstIndex 0 + (getD l countIndex 0 - stillAt l t))
 
 -- [10.140] the place after that of the last kept entry
 abbrev pub nextAt : List ℕ → ℕ
-nextAt l = wrapped (getD l firstPlace 0 + getD l countPlace 0)
+nextAt l = wrapped (getD l firstIndex 0 + getD l countIndex 0)
 
 -- [10.140] the header after the time t was told, with n entries kept from place k on
 abbrev pub headed : List ℕ → ℕ → ℕ → ℕ → List ℕ
-headed l t k n = set (set (set l lastPlace t) firstPlace k) countPlace n
+headed l t k n = set (set (set l lastIndex t) firstIndex k) countIndex n
 
 -- [10.140] the entry e at place k
 abbrev pub placed : List ℕ → ℕ → Entry → List ℕ
-placed l k e = set (set (set l (entryPlace k) (e .time)) (entryPlace k + 1) (e .process)) (entryPlace k + 2) (e .wait)
+placed l k e = set (set (set l (entryIndex k) (e .time)) (entryIndex k + 1) (e .process)) (entryIndex k + 2) (e .wait)
 
 -- [10.140] the numbers after a showing that is accepted
 abbrev pub shown : List ℕ → ℕ → List ℕ
@@ -120,7 +120,7 @@ shown l clock = headed l clock (firstAt l clock) (stillAt l clock)
 -- [10.140] the numbers after an adding that is accepted
 abbrev pub added : List ℕ → ℕ → ℕ → ℕ → List ℕ
 added l t p wait =
-    placed (headed l t (firstAt l t) (stillAt l t + 1)) (nextAt l) (entryOf t p wait)
+    placed (headed l t (firstAt l t) (stillAt l t + 1)) (nextAt l) (entryWith t p wait)
 
 -- [10.100] [10.120] the answer of a call on the board that the numbers tell; `after` are the numbers after it where it is accepted
 abbrev pub onNumbers : List ℕ → Answer → List ℕ → LentBoard

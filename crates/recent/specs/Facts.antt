@@ -8,16 +8,16 @@ use mathlib.Core.List.{List, [], _∷_, _++_}
 use lib.ListN.{length, getD}
 use Rattle.model.specs.States.{lastTime}
 use Rattle.model.specs.Answers.{answerOf}
-use Rattle.recent.specs.Boards.{Entry, entryOf, Board, boardOf, mostWidth, mostKept, boardSound, setUpOf, addOf, showOf}
-use Rattle.recent.specs.Encodings.{lastPlace, firstPlace, countPlace, headerLength, entryPlace, boardLength, nextAt}
+use Rattle.recent.specs.Boards.{Entry, entryWith, Board, boardOf, mostWidth, mostKept, boardSound, setUpOf, addOf, showOf}
+use Rattle.recent.specs.Encodings.{lastIndex, firstIndex, countIndex, boardHeader, entryIndex, boardLength, nextAt}
 use Rattle.recent.specs.Encodings.{isBoard, boardIn, boardGave, lentSetUp, lentAdd, lentShow}
 
 -- A sound board
 
 -- [10.30] e stands in a list, with n entries ahead of it
-pub data Stands (e : Entry) : ℕ → List Entry → Type 0 where
-  here : {es : List Entry} → Stands e 0 (e ∷ es)
-  later : {n : ℕ} {d : Entry} {es : List Entry} → Stands e n es → Stands e (n + 1) (d ∷ es)
+pub data IsAt (e : Entry) : ℕ → List Entry → Type 0 where
+  here : {es : List Entry} → IsAt e 0 (e ∷ es)
+  later : {n : ℕ} {d : Entry} {es : List Entry} → IsAt e n es → IsAt e (n + 1) (d ∷ es)
 
 -- [10.20]
 pub record WidthStands (w : ℕ) : Type 0 where
@@ -28,8 +28,8 @@ pub record WidthStands (w : ℕ) : Type 0 where
 pub record SoundBoard (b : Board) : Type 0 where
   pub width : WidthStands (b .width)
   pub room : length (b .kept) ≤ mostKept
-  pub ordered : (d e : Entry) (i j : ℕ) → Stands d i (b .kept) → Stands e j (b .kept) → i ≤ j → d .time ≤ e .time
-  pub not-after : (e : Entry) (i : ℕ) → Stands e i (b .kept) → e .time ≤ b .last
+  pub ordered : (d e : Entry) (i j : ℕ) → IsAt d i (b .kept) → IsAt e j (b .kept) → i ≤ j → d .time ≤ e .time
+  pub not-after : (e : Entry) (i : ℕ) → IsAt e i (b .kept) → e .time ≤ b .last
 
 -- [10.30]
 abbrev pub BoardSoundIffPlain : Type 0
@@ -81,8 +81,8 @@ pub data Adds (b : Board) (t p wait : ℕ) : ℕ → ℕ → ℕ → Board → T
       → Adds b t p wait 18 0 0 b
   -- [10.70]
   added : (left : List Entry) (many longest : ℕ) → InTime b t → IsProcess p → many < mostKept
-      → Left (b .width) t (b .kept ++ (entryOf t p wait ∷ [])) (left ++ (entryOf t p wait ∷ [])) (many + 1) longest
-      → Adds b t p wait 0 (many + 1) longest (boardOf (b .width) t (left ++ (entryOf t p wait ∷ [])))
+      → Left (b .width) t (b .kept ++ (entryWith t p wait ∷ [])) (left ++ (entryWith t p wait ∷ [])) (many + 1) longest
+      → Adds b t p wait 0 (many + 1) longest (boardOf (b .width) t (left ++ (entryWith t p wait ∷ [])))
 
 -- [10.80] [10.90] [10.100] a showing gives back this answer and this board
 pub data Shows (b : Board) (t : ℕ) : ℕ → ℕ → ℕ → Board → Type 0 where
@@ -133,9 +133,9 @@ pub record RingIsPlain (l : List ℕ) : Type 0 where
   pub last : boardIn l .last ≡ getD l 1 0
   pub count : length (boardIn l .kept) ≡ getD l 3 0
   pub before-the-end : (i k : ℕ) → i < getD l 3 0 → k ≡ getD l 2 0 + i → k < 1_024
-      → Stands (entryOf (getD l (4 + 3 * k) 0) (getD l (4 + 3 * k + 1) 0) (getD l (4 + 3 * k + 2) 0)) i (boardIn l .kept)
+      → IsAt (entryWith (getD l (4 + 3 * k) 0) (getD l (4 + 3 * k + 1) 0) (getD l (4 + 3 * k + 2) 0)) i (boardIn l .kept)
   pub around-the-end : (i k : ℕ) → i < getD l 3 0 → k + 1_024 ≡ getD l 2 0 + i
-      → Stands (entryOf (getD l (4 + 3 * k) 0) (getD l (4 + 3 * k + 1) 0) (getD l (4 + 3 * k + 2) 0)) i (boardIn l .kept)
+      → IsAt (entryWith (getD l (4 + 3 * k) 0) (getD l (4 + 3 * k + 1) 0) (getD l (4 + 3 * k + 2) 0)) i (boardIn l .kept)
 
 -- [10.110] [10.115]
 abbrev pub EveryRing : Type 0
@@ -173,15 +173,15 @@ pub record RefusedBoardStays : Type 0 where
 
 -- [10.140] i is none of the numbers of the header that a call writes
 pub record NotHead (i : ℕ) : Type 0 where
-  pub not-last : i ≢ lastPlace
-  pub not-first : i ≢ firstPlace
-  pub not-count : i ≢ countPlace
+  pub not-last : i ≢ lastIndex
+  pub not-first : i ≢ firstIndex
+  pub not-count : i ≢ countIndex
 
 -- [10.140] i is none of the three numbers of the entry at place k
 pub record NotEntry (k i : ℕ) : Type 0 where
-  pub not-time : i ≢ entryPlace k
-  pub not-process : i ≢ entryPlace k + 1
-  pub not-wait : i ≢ entryPlace k + 2
+  pub not-time : i ≢ entryIndex k
+  pub not-process : i ≢ entryIndex k + 1
+  pub not-wait : i ≢ entryIndex k + 2
 
 -- [10.140]
 pub record BoardWritesItsOwn : Type 0 where
@@ -189,5 +189,5 @@ pub record BoardWritesItsOwn : Type 0 where
   pub add-length : (l : List ℕ) (t p wait : ℕ) → length (lentAdd l t p wait .board) ≡ length l
   pub show : (l : List ℕ) (t i : ℕ) → NotHead i → getD (lentShow l t .board) i 0 ≡ getD l i 0
   pub show-length : (l : List ℕ) (t : ℕ) → length (lentShow l t .board) ≡ length l
-  pub set-up : (w : ℕ) (l : List ℕ) (i : ℕ) → headerLength ≤ i → getD (lentSetUp w l .board) i 0 ≡ getD l i 0
+  pub set-up : (w : ℕ) (l : List ℕ) (i : ℕ) → boardHeader ≤ i → getD (lentSetUp w l .board) i 0 ≡ getD l i 0
   pub set-up-length : (w : ℕ) (l : List ℕ) → length (lentSetUp w l .board) ≡ length l

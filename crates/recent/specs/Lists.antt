@@ -9,7 +9,7 @@ use lib.Dec.{ltb, eqb}
 use Rattle.model.specs.declared.Answer.{Answer}
 use Rattle.model.specs.Answers.{answerOf, beyond}
 use Rattle.model.specs.Folds.{endBy, resultsBy, logBy}
-use Rattle.recent.specs.Boards.{Entry, entryOf, mostKept, howMany, figuresAt, isProcess}
+use Rattle.recent.specs.Boards.{Entry, entryWith, mostKept, howMany, figuresAt, isProcess}
 use Rattle.recent.specs.Encodings.{LentBoard, lentSetUp, lentAdd, lentShow}
 
 -- Calls
@@ -57,7 +57,7 @@ lastTold (k ∷ log) = cond (eqb (k .code) 0) (k .call .time) (lastTold log)
 unfoldable pub acceptedIn : List Asked → List Entry
 acceptedIn [] = []
 acceptedIn (k ∷ log) =
-    cond (k .call .adds && eqb (k .code) 0) (entryOf (k .call .time) (k .call .process) (k .call .wait) ∷ acceptedIn log) (acceptedIn log)
+    cond (k .call .adds && eqb (k .code) 0) (entryWith (k .call .time) (k .call .process) (k .call .wait) ∷ acceptedIn log) (acceptedIn log)
 
 -- What is worked out
 

@@ -5,7 +5,7 @@ ghost use mathlib.Core.Path.{_≡_};
 ghost use mathlib.Core.Bool.{false};
 ghost use Prim.Native.Nat.{_+_, _-_, _≤_, _<_};
 ghost use lib.ListN.{length};
-ghost use Rattle.recent.specs.Boards.{entryOf, mostKept, widthStands};
+ghost use Rattle.recent.specs.Boards.{entryWith, mostKept, widthStands};
 ghost use Rattle.recent.specs.Encodings.{boardLength, wrapped, entriesFrom, ringFrom, headed, placed, emptied};
 ghost use Rattle.recent.specs.Looking.{Rests, Passes, Looks};
 
@@ -266,7 +266,7 @@ pub(crate) fn put_header(board: &mut [u64], time: u64, first: usize, count: usiz
 pub(crate) fn put_entry(board: &mut [u64], place: usize, time: u64, process: u64, wait: u64)
     requires { ⌜ boardLength ≤ length (now board) ⌝ }
     requires { ⌜ place < mostKept ⌝ }
-    ensures { λ _. ⌜ now (board .exit) ≡ placed (now (board .entry)) place (entryOf time process wait) ⌝ }
+    ensures { λ _. ⌜ now (board .exit) ≡ placed (now (board .entry)) place (entryWith time process wait) ⌝ }
 {
     let at = HEADER + STRIDE * place;
     board[at] = time;
