@@ -9,7 +9,8 @@
  *   A list is a pointer and the count of its elements (not of bytes). The caller owns it; the library keeps no pointer past the call.
  *   The caller sees to these three things, which no test within a call can find out [9.160]: the pointer is aligned for its element and
  *   leads to that many elements (with a count of 0 nothing is read through it, and it may be null); lists that are lent to one call do not
- *   overlap; and nobody else touches them during the call. So one table is for one thread at a time; two tables have nothing in common.
+ *   overlap; and nobody else touches them during the call. So one table, one summary or one board is for one thread at a time (to show a
+ *   board writes it); two of them have nothing in common.
  *   Elements past those that a call speaks of stay as they are. A call that is refused leaves all that was lent as it was, but for the
  *   count of refused acts in a lent summary, which 4 to 10 raise by one [9.120], and for a board that is not set up, 17, whose list then
  *   holds one that no call accepts [10.65].
@@ -137,7 +138,8 @@ struct funnelfawn_answer {
 enum funnelfawn_number {
     FUNNELFAWN_OK = 0,                    /* accepted, or done: each function says what stands beside it */
     FUNNELFAWN_REFUSED_NO_TABLE = 1,      /* the numbers are those of no sound table, or too few */
-    FUNNELFAWN_REFUSED_NO_SUMMARY = 2,    /* the summary, or the board, is not sound, or has too few numbers */
+    FUNNELFAWN_REFUSED_NO_SUMMARY = 2,    /* the summary is not sound, or has too few numbers */
+    FUNNELFAWN_REFUSED_NO_BOARD = 2,      /* the same number: so it is with the board, or the place of its first entry is none */
     FUNNELFAWN_REFUSED_SUMMARY_FULL = 3,  /* accepted + refused is 1,000,000,000,000 */
     FUNNELFAWN_REFUSED_BACKWARD = 4,      /* the moment is before the clock: 0, the clock; of a board, before the last moment that it was
                                              told: 0, that moment */
@@ -185,16 +187,18 @@ struct funnelfawn_answer funnelfawn_record(uint64_t *FUNNELFAWN_RESTRICT table, 
 
 /* [10.60] A new board: it keeps no entry, and has been told the moment 0. Only its first four numbers are written [10.130].
  *   0, 0, 0; or 17, and then W is 0 and every call on the list is answered 2 until it is set up anew, so that an older board in it does not
- *   live on [10.65]. A list that is too short stays as it was, with 17 or else 16. */
+ *   live on [10.65]. A list that is too short stays as it was, with 17 or else 16.
+ *   Set it up anew with each fresh table: the clock starts at 0 again, and an older board answers 4 until it has caught up. */
 struct funnelfawn_answer funnelfawn_set_up_board(uint64_t w, uint64_t *board, size_t board_length);
 
-/* [10.70] An entry more, which becomes the last moment told; what has expired by then gives up its place first.
+/* [10.70] An entry more. Its moment becomes the last moment told; what has expired by then gives up its place first.
  *   0, how many entries count, this one included, and the longest wait among them: these two stand where an answer has its window and its
  *   moment. The last moment told, the first place, the count and the entry's own place are written, and no other number [10.140].
  *   Or the first of 2, 4, 5, 7, 18 whose condition holds, in this order [10.90]. funnelfawn_record_and_tell makes this call by itself. */
 struct funnelfawn_answer funnelfawn_add_to_board(uint64_t *board, size_t board_length, uint64_t moment, uint64_t window, uint64_t wait);
 
-/* [10.80] The figures at a clock, which becomes the last moment told: a later entry must not be before it.
+/* [10.80] The figures at a clock, which becomes the last moment told: from then on an entry or a showing before it is refused with 4. So show
+ * at the table's clock; to look further ahead, show a copy of the numbers and throw it away.
  *   0, how many entries count, and the longest wait among them, 0 if none does, as above; the last moment told, the first place and the
  *   count are written. Or the first of 2, 4, 5 whose condition holds. */
 struct funnelfawn_answer funnelfawn_show_board(uint64_t *board, size_t board_length, uint64_t clock);

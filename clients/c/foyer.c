@@ -1,10 +1,12 @@
 /* The foyer board of a short sale: how many windows were let in during the last 30 microseconds, and the longest wait among them.
- * A line comes out whenever a window is let in, and whenever the screen is drawn anew in between. */
+ * A line comes out whenever a window is let in, and whenever the screen is drawn anew. */
 #include "funnelfawn.h"
 
 #include <inttypes.h>
 #include <stdio.h>
+#include <string.h>
 
+/* In microseconds; ten minutes would be 600000000. */
 enum { WIDTH = 30 };
 
 /* What the box keeps from call to call. */
@@ -32,7 +34,7 @@ static void say_board(uint64_t moment, struct funnelfawn_answer answer)
 }
 
 /* One act. The step stands whatever the board answers, and the board is told of nothing but an accepted crit. */
-static void act(struct box *box, uint64_t act, uint64_t window, uint64_t moment)
+static void make(struct box *box, uint64_t act, uint64_t window, uint64_t moment)
 {
     struct funnelfawn_told told =
         funnelfawn_record_and_tell(box->table, FUNNELFAWN_TABLE_LENGTH, box->summary, FUNNELFAWN_SUMMARY_LENGTH, box->board,
@@ -44,11 +46,21 @@ static void act(struct box *box, uint64_t act, uint64_t window, uint64_t moment)
         say_board(moment, told.board);
 }
 
-/* The screen at a clock. From then on the board takes no entry of an earlier moment, so this is for the clock that the acts have reached,
- * or for the end of a sale. */
-static void show(struct box *box, uint64_t clock)
+/* The screen at the clock that the acts have reached: shown at a later one, the board would refuse the entries before that. */
+static void show(struct box *box)
 {
+    uint64_t clock = box->table[FUNNELFAWN_AT_CLOCK];
+
     say_board(clock, funnelfawn_show_board(box->board, FUNNELFAWN_BOARD_LENGTH, clock));
+}
+
+/* The screen while nobody acts: a copy is shown, and thrown away, so that the board itself goes on from the acts' clock. */
+static void show_ahead(const struct box *box, uint64_t now)
+{
+    static uint64_t copy[FUNNELFAWN_BOARD_LENGTH];
+
+    memcpy(copy, box->board, sizeof copy);
+    say_board(now, funnelfawn_show_board(copy, FUNNELFAWN_BOARD_LENGTH, now));
 }
 
 int main(void)
@@ -64,11 +76,14 @@ int main(void)
 
     if (!open_box(&box))
         return 1;
-    for (size_t i = 0; i < sizeof sale / sizeof sale[0]; i++)
-        act(&box, sale[i].act, sale[i].window, sale[i].moment);
-    show(&box, 41);
-    show(&box, 42);
-    show(&box, 58);
+    for (size_t i = 0; i < sizeof sale / sizeof sale[0]; i++) {
+        make(&box, sale[i].act, sale[i].window, sale[i].moment);
+        if (sale[i].act == FUNNELFAWN_ACT_REM)
+            show(&box);
+    }
+    show_ahead(&box, 41);
+    show_ahead(&box, 42);
+    show_ahead(&box, 58);
     printf("in all: %" PRIu64 " let in, longest wait %" PRIu64 "\n", box.summary[FUNNELFAWN_AT_ENTRIES],
            box.summary[FUNNELFAWN_AT_LONGEST_WAIT]);
     return 0;

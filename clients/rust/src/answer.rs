@@ -118,11 +118,11 @@ impl Display for Refusal {
             Refusal::NoSummary => write!(to, "the summary, or the board, is not sound"),
             Refusal::SummaryFull => write!(to, "the summary is full"),
             Refusal::Backward { clock } => {
-                write!(to, "the moment is before {clock}, where clock or board is")
+                write!(to, "the moment is before {clock}, the clock or the last moment told")
             }
             Refusal::EndOfClock => write!(to, "the moment is past the clock's end"),
             Refusal::NoAct => write!(to, "there is no such act"),
-            Refusal::NoWindow => write!(to, "there is no such window, or a wait names one"),
+            Refusal::NoWindow => write!(to, "there is no such window, or the act wait names one"),
             Refusal::Late { window, latest } => write!(to, "window {window} has to act by {latest}"),
             Refusal::OutOfPlace { window } => write!(to, "window {window} is not where the act starts from"),
             Refusal::Early { window, earliest } => write!(to, "window {window} may check from {earliest} on"),

@@ -39,7 +39,8 @@ impl Board {
         raw::add_to_board(&mut self.numbers[..], moment, window, wait).figures()
     }
 
-    /// The figures at a clock, which becomes the last moment told: the board takes no entry before it from then on.
+    /// The figures at a clock, which becomes the last moment told: the board takes no entry before it from then on. So show at the table's
+    /// clock; to look further ahead, show a clone: `board.clone().show(now)`.
     pub fn show(&mut self, clock: u64) -> Result<Figures, Refusal> {
         raw::show_board(&mut self.numbers[..], clock).figures()
     }
@@ -49,6 +50,7 @@ impl Board {
         self.numbers[0]
     }
 
+    /// The moment of the last entry that was accepted, or of the last showing if that was later.
     pub fn last_told(&self) -> u64 {
         self.numbers[1]
     }

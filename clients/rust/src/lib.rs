@@ -20,6 +20,8 @@
 //! # Ok::<(), Refusal>(())
 //! ```
 //!
+//! For a screen in the foyer there is [`Board`], which [`Table::record_and_tell`] tells of each window that is let in.
+//!
 //! The only unsafe code is in [`raw`], which lends slices to the library; all the rest stands on it.
 #![deny(unsafe_code)]
 

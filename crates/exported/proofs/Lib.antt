@@ -1,1 +1,1 @@
-pub mod Boards
+pub mod Chain

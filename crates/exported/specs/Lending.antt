@@ -6,8 +6,6 @@ use mathlib.Core.List.{List}
 use contract.Lifetimes.{Lfts}
 use denote.Ref.{RefT}
 use Rattle.model.specs.declared.Parameters.{Parameters}
-use Rattle.model.specs.declared.Answer.{Answer}
-use Rattle.funnelfawn.specs.declared.Told.{Told}
 use Rattle.layout.specs.Interface.{Lent, LentSummary}
 use Rattle.recent.specs.Encodings.{LentBoard}
 use Rattle.recent.specs.Tellings.{LentTold}
@@ -18,7 +16,7 @@ use Rattle.funnelfawn.proofs.funnelfawn_add_to_board.Reads as add-reads
 use Rattle.funnelfawn.proofs.funnelfawn_show_board.Reads as show-reads
 use Rattle.funnelfawn.proofs.funnelfawn_record_and_tell.Reads as tell-reads
 
--- [10.160] a list is lent that holds the numbers `before`, and is left with the numbers `after`
+-- [10.236] a list is lent that holds the numbers `before`, and is left with the numbers `after`
 pub record Lends (before after : List ℕ) : Type 0 where
   pub lent : RefT (List ℕ)
   pub left : RefT (List ℕ)
@@ -27,36 +25,36 @@ pub record Lends (before after : List ℕ) : Type 0 where
 
 -- Starts
 
--- [10.160] `funnelfawn_fresh` may give r
+-- [10.236] `funnelfawn_fresh` may give r
 abbrev pub Starts : Parameters → List ℕ → Lent → Type 0
 Starts k table r =
     (κs : Lfts 1) × (t : Lends table (r .table))
     × fresh-reads.Post κs (k .n, (k .a, (k .b, (k .c, (t .lent, tt))))) (r .answer) (k .n, (k .a, (k .b, (k .c, (t .left, tt)))))
 
--- [10.160] `funnelfawn_new_summary` may give r
+-- [10.236] `funnelfawn_new_summary` may give r
 abbrev pub StartsSummary : List ℕ → LentSummary → Type 0
 StartsSummary summary r = (κs : Lfts 1) × (x : Lends summary (r .summary)) × new-reads.Post κs (x .lent, tt) (r .answer) (x .left, tt)
 
--- [10.160] `funnelfawn_set_up_board` may give r
+-- [10.236] `funnelfawn_set_up_board` may give r
 abbrev pub SetsUp : ℕ → List ℕ → LentBoard → Type 0
 SetsUp w board r = (κs : Lfts 1) × (b : Lends board (r .board)) × set-up-reads.Post κs (w, (b .lent, tt)) (r .answer) (w, (b .left, tt))
 
 -- Calls
 
--- [10.160] `funnelfawn_add_to_board` may give r
+-- [10.236] `funnelfawn_add_to_board` may give r
 abbrev pub AddsTo : List ℕ → ℕ → ℕ → ℕ → LentBoard → Type 0
 AddsTo board t p wait r =
     (κs : Lfts 1) × (b : Lends board (r .board))
     × add-reads.Post κs (b .lent, (t, (p, (wait, tt)))) (r .answer) (b .left, (t, (p, (wait, tt))))
 
--- [10.160] `funnelfawn_show_board` may give r
+-- [10.236] `funnelfawn_show_board` may give r
 abbrev pub ShowsOn : List ℕ → ℕ → LentBoard → Type 0
 ShowsOn board clock r =
     (κs : Lfts 1) × (b : Lends board (r .board)) × show-reads.Post κs (b .lent, (clock, tt)) (r .answer) (b .left, (clock, tt))
 
--- [10.160] `funnelfawn_record_and_tell` may give r
+-- [10.236] `funnelfawn_record_and_tell` may give r
 abbrev pub TellsTo : List ℕ → List ℕ → List ℕ → ℕ → ℕ → ℕ → LentTold → Type 0
 TellsTo table summary board act p m r =
     (κs : Lfts 3) × (t : Lends table (r .table)) × (x : Lends summary (r .summary)) × (b : Lends board (r .board))
-    × tell-reads.Post κs (t .lent, (x .lent, (b .lent, (act, (p, (m, tt)))))) (record { step = r .answer; board = r .told })
+    × tell-reads.Post κs (t .lent, (x .lent, (b .lent, (act, (p, (m, tt)))))) (record { answer = r .answer; told = r .told })
     (t .left, (x .left, (b .left, (act, (p, (m, tt))))))

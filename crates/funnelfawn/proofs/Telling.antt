@@ -63,7 +63,7 @@ has-try table summary p m (RecordGiven.taken _ h) e =
 module _ (table summary board : List ℕ) (act p m : ℕ) {step : Answer} {t x : List ℕ}
     (stepped : recordGave step t x ≡ lentRecord table summary act p m) where
   abbrev Gives : Told → List ℕ → Type 0
-  Gives r b = toldGave (recordGave (r .step) t x) (boardGave (r .board) b) ≡ lentTell table summary board act p m
+  Gives r b = toldGave (recordGave (r .answer) t x) (boardGave (r .told) b) ≡ lentTell table summary board act p m
 
   pub tell-refused : step .code ≢ 0 → {r : Told} → r ≡ aloneWith step → Gives r board
   unfolding lentTell
@@ -74,7 +74,7 @@ module _ (table summary board : List ℕ) (act p m : ℕ) {step : Answer} {t x :
   tell-other a n e = rw (e, ← stepped, a, ne-eqb _ _ n)
 
   pub tell-entered : step .code ≡ 0 → act ≡ critAct → {wait : ℕ} {told : Answer} {b : List ℕ} → wait ≡ waitIn summary p m
-      → boardGave told b ≡ lentAdd board m p wait → Gives (record { step = step; board = told }) b
+      → boardGave told b ≡ lentAdd board m p wait → Gives (record { answer = step; told = told }) b
   unfolding lentTell
   tell-entered a c w e =
       let own : recordGave step t x ≡ lentRecord table summary critAct p m = rw c at stepped in

@@ -66,4 +66,4 @@ waitIn numbers p m =
 -- Where the board is told nothing
 
 abbrev pub aloneWith : Answer → Told
-aloneWith r = record { step = r; board = answerOf 0 0 0 }
+aloneWith r = record { answer = r; told = answerOf 0 0 0 }

@@ -189,20 +189,20 @@ pub extern "C" fn funnelfawn_show_board(board: &mut [u64], clock: u64) -> Answer
     recent::show(board, clock)
 }
 
-// [10.200] The answer of a recorded step, and that of the board.
+// [10.200] The answer of a recorded step, and what the board answered.
 #[repr(C)]
 pub struct Told {
-    pub step: Answer,
-    pub board: Answer,
+    pub answer: Answer,
+    pub told: Answer,
 }
 
 // [10.205] The board was told nothing.
-fn alone(step: Answer) -> Told
-    ensures { λ r. ⌜ r ≡ aloneWith step ⌝ }
+fn alone(answer: Answer) -> Told
+    ensures { λ r. ⌜ r ≡ aloneWith answer ⌝ }
 {
     Told {
-        step: step,
-        board: answer_with(0, 0, 0),
+        answer: answer,
+        told: answer_with(0, 0, 0),
     }
 }
 
@@ -217,20 +217,20 @@ pub extern "C" fn funnelfawn_record_and_tell(
     process: u64,
     time: u64,
 ) -> Told
-    ensures { λ r. ⌜ toldGave (recordGave (r .step) (now (table .exit)) (now (summary .exit))) (boardGave (r .board) (now (board .exit)))
+    ensures { λ r. ⌜ toldGave (recordGave (r .answer) (now (table .exit)) (now (summary .exit))) (boardGave (r .told) (now (board .exit)))
         ≡ lentTell (now (table .entry)) (now (summary .entry)) (now (board .entry)) action process time ⌝ }
 {
     let wait = summaries::wait_in(summary, process, time);
-    let step = funnelfawn_record(table, summary, action, process, time);
-    if step.code != 0 {
-        return alone(step);
+    let answer = funnelfawn_record(table, summary, action, process, time);
+    if answer.code != 0 {
+        return alone(answer);
     }
     if action != CRIT {
-        return alone(step);
+        return alone(answer);
     }
     let told = recent::add(board, time, process, wait);
     Told {
-        step: step,
-        board: told,
+        answer: answer,
+        told: told,
     }
 }

@@ -13,7 +13,7 @@ use Rattle.model.specs.Answers.{answerOf, beyond}
 use Rattle.model.proofs.Tests.{by-test}
 use Rattle.recent.specs.declared.rings.Look.{Look}
 use Rattle.recent.specs.Boards.{Board, entryWith, widthStands, mostKept, boardSound, figuresAt}
-use Rattle.recent.specs.Boards.{BoardOutcome, inTime, isProcess, setUpOf, addOf, showOf}
+use Rattle.recent.specs.Boards.{BoardOutcome, unlessBarred, isProcess, setUpOf, addOf, showOf}
 use Rattle.recent.specs.Encodings.{boardLength, wrapped, boardIn, isBoard}
 use Rattle.recent.specs.Encodings.{boardGave, emptied, lentSetUp, stillAt, firstAt, nextAt, headed, placed}
 use Rattle.recent.specs.Encodings.{shown, added, onNumbers, lentAdd, lentShow}
@@ -102,13 +102,13 @@ timely last t {r} e z =
 
 -- a list that tells no sound board
 on-unsound : (l new : List ℕ) (b : Board) (t : ℕ) (after : BoardOutcome) {r : Answer} → isBoard l && boardSound b ≡ false → r ≡ answerOf 2 0 0
-    → boardGave r l ≡ onNumbers l (inTime b t after .answer) new
+    → boardGave r l ≡ onNumbers l (unlessBarred b t after .answer) new
 on-unsound l new b t after e f =
     rw f (by-test (isBoard l) (λ g. let h : boardSound b ≡ false = rw g at e in simp (g, h)) (λ g. simp g))
 
 -- a time that is refused
 on-untimely : (l new : List ℕ) (b : Board) (t : ℕ) (after : BoardOutcome) {r : Answer} → isBoard l ≡ true → boardSound b ≡ true
-    → r ≡ untimelyOf (b .last) t → r .code ≢ 0 → boardGave r l ≡ onNumbers l (inTime b t after .answer) new
+    → r ≡ untimelyOf (b .last) t → r .code ≢ 0 → boardGave r l ≡ onNumbers l (unlessBarred b t after .answer) new
 on-untimely l new b t after {r} board sound f n =
     let m : untimelyOf (b .last) t .code ≢ 0 = rw f at n in
     rw f (by-test (ltb t (b .last)) (λ e. simp (board, sound, e))

@@ -14,7 +14,7 @@ use Rattle.model.specs.Answers.{answerOf, beyond}
 use Rattle.model.specs.Folds.{endBy, resultsBy, logBy}
 use Rattle.model.proofs.Tests.{by-test, by-cond, clash}
 use Rattle.recent.specs.Boards.{Entry, entryWith, Board, mostKept, inOrder, noneAfter, boardSound, counts, howMany, longestAt}
-use Rattle.recent.specs.Boards.{figuresAt, countingAt, BoardOutcome, outcomeWith, setUpOf, keeps, inTime, isProcess, addOf, showOf, widthStands}
+use Rattle.recent.specs.Boards.{figuresAt, countingAt, BoardOutcome, outcomeWith, setUpOf, keeps, unlessBarred, isProcess, addOf, showOf, widthStands}
 use Rattle.recent.specs.Encodings.{boardLength, boardIn, isBoard, LentBoard, boardGave, lentSetUp, lentAdd, lentShow}
 use Rattle.recent.specs.Looking.{SameFigures}
 use Rattle.recent.specs.Lists.{BoardCall, lentBoardCall, boardAfter, Asked, asked, askedBy, lastTold, acceptedIn, workedOut}
@@ -86,7 +86,7 @@ module _ {w : ℕ} {log : List Asked} {b : Board} (follows : Follows w log b) (d
       let same = same-more (newIn d) (follows .figures (d .time) h) in
       rw (follows .width, accepted-more d log, same .many, same .longest)
 
-  in-time : {after : BoardOutcome} → (ltb (d .time) (lastTold log) ≡ false → beyond (d .time) ≡ false → Went after) → Went (inTime b (d .time) after)
+  in-time : {after : BoardOutcome} → (ltb (d .time) (lastTold log) ≡ false → beyond (d .time) ≡ false → Went after) → Went (unlessBarred b (d .time) after)
   unfolding workedOut
   in-time next =
       by-cond Went (not (boardSound b)) (λ e. clash (follows .sound) (not-true _ e))

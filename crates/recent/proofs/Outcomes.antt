@@ -11,8 +11,8 @@ use Rattle.model.specs.declared.Answer.{Answer}
 use Rattle.model.specs.Answers.{beyond}
 use Rattle.model.proofs.Tests.{by-test, by-cond, clash, and-true-iff}
 use Rattle.recent.specs.Boards.{entryWith, Board, mostKept, boardSound, howMany}
-use Rattle.recent.specs.Boards.{BoardOutcome, outcomeWith, keeps, inTime, isProcess, widthStands, setUpOf, addOf, showOf}
-use Rattle.recent.specs.Facts.{InTime, IsProcess, Untimely, Adds, Shows, WidthStands, EverySetUp}
+use Rattle.recent.specs.Boards.{BoardOutcome, outcomeWith, keeps, unlessBarred, isProcess, widthStands, setUpOf, addOf, showOf}
+use Rattle.recent.specs.Facts.{InTime, IsProcess, Barred, Adds, Shows, WidthStands, EverySetUp}
 use Rattle.recent.proofs.Expiry.{left-of}
 use Rattle.recent.proofs.Soundness.{board-sound-iff-plain}
 
@@ -23,17 +23,17 @@ pub data Came (b : Board) (Good : Type 0) (good : BoardOutcome) : BoardOutcome �
 
 -- what holds of each refusal of a time, and of what comes of a call in time, holds of a call
 in-time : (b : Board) (t : ℕ) (P : BoardOutcome → Type 0) {after : BoardOutcome}
-    → ((r : Answer) → r .code ≢ 0 → Untimely b t (r .code) (r .process) (r .time) → P (outcomeWith r b)) → (InTime b t → P after)
-    → P (inTime b t after)
+    → ((r : Answer) → r .code ≢ 0 → Barred b t (r .code) (r .process) (r .time) → P (outcomeWith r b)) → (InTime b t → P after)
+    → P (unlessBarred b t after)
 in-time b t P untimely timely =
     by-cond P (not (boardSound b))
-    (λ e. untimely _ (λ z. omega arith) (Untimely.unsound (λ s. clash (board-sound-iff-plain b .1 s) (not-true _ e))))
+    (λ e. untimely _ (λ z. omega arith) (Barred.unsound (λ s. clash (board-sound-iff-plain b .1 s) (not-true _ e))))
     (λ e. let sound = board-sound-iff-plain b .0 (not-false _ e) in
     by-cond P (ltb t (b .last))
-    (λ f. untimely _ (λ z. omega arith) (Untimely.backward sound (ltb-true _ _ f)))
+    (λ f. untimely _ (λ z. omega arith) (Barred.backward sound (ltb-true _ _ f)))
     (λ f. let forward = ltb-false _ _ f in
     by-cond P (beyond t)
-    (λ g. untimely _ (λ z. omega arith) (Untimely.beyond sound forward (ltb-true _ _ g)))
+    (λ g. untimely _ (λ z. omega arith) (Barred.beyond sound forward (ltb-true _ _ g)))
     (λ g. timely (record { sound = sound; forward = forward; within = ltb-false _ _ g }))))
 
 module _ (b : Board) (t : ℕ) where
@@ -41,7 +41,7 @@ module _ (b : Board) (t : ℕ) where
   pub show-cases : (P : BoardOutcome → Type 0) → ((r : Answer) → r .code ≢ 0 → Shows b t (r .code) (r .process) (r .time) b → P (outcomeWith r b))
       → (InTime b t → P (keeps b t [])) → P (showOf b t)
   unfolding showOf
-  show-cases P refusal success = in-time b t P (λ r n u. refusal r n (Shows.untimely u)) success
+  show-cases P refusal success = in-time b t P (λ r n u. refusal r n (Shows.barred u)) success
 
   pub show-came : Came b ((boardSound b ≡ true) × InTime b t) (keeps b t []) (showOf b t)
   show-came =
@@ -70,7 +70,7 @@ module _ (b : Board) (t p wait : ℕ) where
       → (Addable b t p → P (keeps b t (entryWith t p wait ∷ []))) → P (addOf b t p wait)
   unfolding addOf
   add-cases P refusal success =
-      in-time b t P (λ r n u. refusal r n (Adds.untimely u))
+      in-time b t P (λ r n u. refusal r n (Adds.barred u))
       (λ timely. by-cond P (not (isProcess p))
       (λ e. refusal _ (λ z. omega arith) (Adds.misnamed timely (λ h. clash (is-process-iff p .1 h) (not-true _ e))))
       (λ e. let process = is-process-iff p .0 (not-false _ e) in

@@ -12,9 +12,9 @@ use Rattle.model.specs.declared.Answer.{Answer}
 use Rattle.model.specs.Answers.{answerOf, beyond}
 use Rattle.model.proofs.Tests.{by-test}
 use Rattle.recent.specs.Boards.{Entry, entryWith, Board, widthStands, mostKept, boardSound, howMany, countingAt}
-use Rattle.recent.specs.Boards.{BoardOutcome, outcomeWith, keeps, inTime, isProcess, setUpOf, addOf, showOf}
+use Rattle.recent.specs.Boards.{BoardOutcome, outcomeWith, keeps, unlessBarred, isProcess, setUpOf, addOf, showOf}
 use Rattle.recent.specs.Encodings.{boardLength, lentSetUp, lentAdd, lentShow}
-use Rattle.recent.specs.Facts.{WidthStands, InTime, Untimely, Adds, Shows, AddedIffAdds, ShownIffShows}
+use Rattle.recent.specs.Facts.{WidthStands, InTime, Barred, Adds, Shows, AddedIffAdds, ShownIffShows}
 use Rattle.recent.specs.Facts.{NoBoard, LentSetUps}
 use Rattle.recent.proofs.Figures.{howMany-most, figures-snoc}
 use Rattle.recent.proofs.Expiry.{counting-snoc, left-of, left-is}
@@ -34,14 +34,14 @@ gives-parts P r h {code} {process} {time} {after} e =
 
 -- A time that is refused, whatever would come of the call otherwise
 
-untimely-gives : (b : Board) (t : ℕ) (after : BoardOutcome) {code process time : ℕ} → Untimely b t code process time
-    → inTime b t after ≡ outcomeWith (answerOf code process time) b
-untimely-gives b t after (Untimely.unsound n) =
+barred-gives : (b : Board) (t : ℕ) (after : BoardOutcome) {code process time : ℕ} → Barred b t code process time
+    → unlessBarred b t after ≡ outcomeWith (answerOf code process time) b
+barred-gives b t after (Barred.unsound n) =
     by-test (boardSound b) (λ e. absurd (n (board-sound-iff-plain b .0 e))) (λ e. simp e)
-untimely-gives b t after (Untimely.backward s h) = simp (board-sound-iff-plain b .1 s, lt-ltb _ _ h)
-untimely-gives b t after (Untimely.beyond s h g) = simp (board-sound-iff-plain b .1 s, le-ltb _ _ h, lt-ltb _ _ g)
+barred-gives b t after (Barred.backward s h) = simp (board-sound-iff-plain b .1 s, lt-ltb _ _ h)
+barred-gives b t after (Barred.beyond s h g) = simp (board-sound-iff-plain b .1 s, le-ltb _ _ h, lt-ltb _ _ g)
 
-timely-gives : (b : Board) (t : ℕ) (after : BoardOutcome) → InTime b t → inTime b t after ≡ after
+timely-gives : (b : Board) (t : ℕ) (after : BoardOutcome) → InTime b t → unlessBarred b t after ≡ after
 timely-gives b t after h = simp (board-sound-iff-plain b .1 (h .sound), le-ltb _ _ (h .forward), le-ltb _ _ (h .within))
 
 -- Showing
@@ -55,7 +55,7 @@ module _ (b : Board) (t : ℕ) where
   shows-given : {code process time : ℕ} {after : Board} → Shows b t code process time after
       → showOf b t ≡ outcomeWith (answerOf code process time) after
   unfolding showOf
-  shows-given (Shows.untimely u) = untimely-gives b t (keeps b t []) u
+  shows-given (Shows.barred u) = barred-gives b t (keeps b t []) u
   shows-given (Shows.shown left many longest h r) =
       let e = left-is (b .width) t r in
       timely-gives b t (keeps b t []) h ∙ simp (append-nil, e .those, e .many-is, e .longest-is)
@@ -100,7 +100,7 @@ module _ (b : Board) (t p wait : ℕ) where
   adds-given : {code process time : ℕ} {after : Board} → Adds b t p wait code process time after
       → addOf b t p wait ≡ outcomeWith (answerOf code process time) after
   unfolding addOf
-  adds-given (Adds.untimely u) = untimely-gives b t _ u
+  adds-given (Adds.barred u) = barred-gives b t _ u
   adds-given (Adds.misnamed h n) =
       timely-gives b t _ h ∙ by-test (isProcess p) (λ e. absurd (n (is-process-iff p .0 e))) (λ e. simp e)
   adds-given (Adds.full left longest h q r) =

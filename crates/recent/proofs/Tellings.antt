@@ -35,9 +35,9 @@ use Rattle.recent.specs.Boards.{entryWith, Board, mostKept, boardSound, 
 use Rattle.recent.specs.Boards.{BoardOutcome, keeps}
 use Rattle.recent.specs.Encodings.{boardIn, isBoard, LentBoard, lentSetUp, lentAdd}
 use Rattle.recent.specs.Lists.{BoardCall, lentBoardCall, asked, lastTold, workedOut}
-use Rattle.recent.specs.Tellings.{LentTold, toldGave, entered, leftAlone, lentTell, Tells, EveryTell}
+use Rattle.recent.specs.Tellings.{LentTold, toldGave, entered, leftAlone, lentTell, Tells, TellIsPlain}
 use Rattle.recent.specs.Tellings.{TellCall, lentShowing, lentTellCall, Noted, noted, attemptsIn, showing, adding, tellingsIn, entriesIn}
-use Rattle.recent.specs.Tellings.{ShownAt, CritCode, Telling, tellStart, tellResults, tellAll, EveryTelling}
+use Rattle.recent.specs.Tellings.{ShownAt, CritCode, ToldFigures, tellStart, tellResults, tellAll, EveryToldFigures}
 use Rattle.recent.proofs.Figures.{figures-snoc}
 use Rattle.recent.proofs.Outcomes.{Came, add-came}
 use Rattle.recent.proofs.Soundness.{sound-parts}
@@ -105,8 +105,8 @@ module _ (table summary board : List ℕ) (act p m : ℕ) where
         length-stays = board-writes-its-own .add-length board m p wait;
       }
 
-pub every-tell : EveryTell
-every-tell table summary board act p m = tells table summary board act p m (tell-given table summary board act p m)
+pub tell-is-plain : TellIsPlain
+tell-is-plain table summary board act p m = tells table summary board act p m (tell-given table summary board act p m)
 
 -- One call more in a log
 
@@ -165,7 +165,7 @@ record TellsAlong (w : ℕ) (rest spare : List ℕ) (log : List Noted) (g : Lent
 
 -- the next one keeps its promise, and they go on
 record TellNext (w : ℕ) (rest spare : List ℕ) (log : List Noted) (d : TellCall) (g : LentTold) : Type 0 where
-  promise : Telling w log d g
+  promise : ToldFigures w log d g
   next : TellsAlong w rest spare (noted d g ∷ log) g
 
 module _ {w : ℕ} {rest spare : List ℕ} {log : List Noted} {g : LentTold} (h : TellsAlong w rest spare log g) (d : TellCall) where
@@ -355,7 +355,7 @@ tell-start k w table summary board e f u =
       last = ToldBy.by-step (omega arith);
     }
 
-pub every-telling : EveryTelling
-every-telling k w table summary board ds d e f u =
+pub every-told-figures : EveryToldFigures
+every-told-figures k w table summary board ds d e f u =
     let start = tellStart k w table summary board in
     tell-next (tells-all [] start ds (tell-start k w table summary board e f u)) d .promise

@@ -12,7 +12,7 @@ use Rattle.layout.specs.Guarantees.{lentCall, lentRun, lentAll}
 use Rattle.layout.proofs.LentSteps.{recordCall}
 use Rattle.layout.proofs.LentLists.{every-lent-list}
 use Rattle.layout.proofs.LentTallies.{every-lent-tally}
-use Rattle.recent.specs.Tellings.{LentTold, lentTell, TellCall, lentTellCall, tellStart, tellAll, stepsTold, actsTold, EveryToldList}
+use Rattle.recent.specs.Tellings.{LentTold, lentTell, TellCall, lentTellCall, tellStart, tellAll, stepsTold, actsTold, EveryToldSteps}
 
 -- table and summary of what a call gave back
 abbrev bothOf : Answer → LentTold → LentBoth
@@ -83,8 +83,8 @@ unfolding endBy actsTold
 summary-told r [] a = refl
 summary-told r (d ∷ ds) a = summary-next r d ds (summary-told (lentTellCall r d) ds) a
 
-pub every-told-list : EveryToldList
-every-told-list k w table summary board ds e f =
+pub every-told-steps : EveryToldSteps
+every-told-steps k w table summary board ds e f =
     let start = tellStart k w table summary board in
     record {
       demand3 = every-lent-list k table (stepsTold start ds) e;

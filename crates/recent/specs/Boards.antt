@@ -6,7 +6,6 @@ use mathlib.Core.List.{List, [], _∷_, _++_}
 use lib.ListN.{length}
 use lib.Dec.{leb, ltb, eqb}
 use Rattle.model.specs.declared.Answer.{Answer}
-use Rattle.model.specs.States.{lastTime}
 use Rattle.model.specs.Answers.{answerOf, beyond}
 
 -- [10.10] that a process was let in
@@ -98,13 +97,14 @@ outcomeWith r b = record { answer = r; board = b }
 unfoldable pub setUpOf : ℕ → BoardOutcome
 setUpOf w = cond (widthStands w) (outcomeWith (answerOf 0 0 0) (boardOf w 0 [])) (outcomeWith (answerOf 17 0 0) (boardOf 0 0 []))
 
--- [10.55] [10.70] [10.80] at the time t what has expired is dropped, and the entries `new` come after the rest; the board has been told t
+-- [10.55] [10.70] [10.80] at the time t what has expired is dropped, and the entries `new` come after the rest: an entry that is told counts
+-- at its own time, as W is not 0; the board has been told t
 abbrev pub keeps : Board → ℕ → List Entry → BoardOutcome
 keeps b t new = outcomeWith (figuresAt (b .width) t (b .kept ++ new)) (boardOf (b .width) t (countingAt (b .width) t (b .kept) ++ new))
 
 -- [10.90] [4.2] [4.4] [4.5] what a call at the time t is refused with first; `after` is what comes of it otherwise
-abbrev pub inTime : Board → ℕ → BoardOutcome → BoardOutcome
-inTime b t after =
+abbrev pub unlessBarred : Board → ℕ → BoardOutcome → BoardOutcome
+unlessBarred b t after =
     cond (not (boardSound b)) (outcomeWith (answerOf 2 0 0) b)
     (cond (ltb t (b .last)) (outcomeWith (answerOf 4 0 (b .last)) b)
     (cond (beyond t) (outcomeWith (answerOf 5 0 0) b)
@@ -117,11 +117,11 @@ isProcess p = leb 1 p && leb p 96
 -- [10.70] [10.90] [4.18] what has expired at the time t gives up its place first
 unfoldable pub addOf : Board → ℕ → ℕ → ℕ → BoardOutcome
 addOf b t p wait =
-    inTime b t
+    unlessBarred b t
     (cond (not (isProcess p)) (outcomeWith (answerOf 7 0 0) b)
     (cond (eqb (howMany (b .width) t (b .kept)) mostKept) (outcomeWith (answerOf 18 0 0) b)
     (keeps b t (entryWith t p wait ∷ []))))
 
 -- [10.80] [10.90]
 unfoldable pub showOf : Board → ℕ → BoardOutcome
-showOf b clock = inTime b clock (keeps b clock [])
+showOf b clock = unlessBarred b clock (keeps b clock [])

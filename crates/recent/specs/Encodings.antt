@@ -8,7 +8,7 @@ use lib.Dec.{leb, ltb, eqb}
 use Rattle.model.specs.declared.Answer.{Answer}
 use Rattle.model.specs.Answers.{answerOf}
 use Rattle.model.specs.Readings.{over}
-use Rattle.recent.specs.Boards.{Entry, entryWith, Board, boardOf, widthStands, mostKept, howMany, BoardOutcome, setUpOf, addOf, showOf}
+use Rattle.recent.specs.Boards.{Entry, entryWith, Board, boardOf, widthStands, mostKept, howMany, setUpOf, addOf, showOf}
 
 -- Where what stands
 
@@ -44,7 +44,7 @@ boardLength = boardHeader + entryLength * mostKept
 abbrev pub entryIndex : ℕ → ℕ
 entryIndex k = boardHeader + entryLength * k
 
--- [10.115] after the last place comes place 0
+-- [10.115] after the last place comes place 0; of places that are less than twice around
 unfoldable pub wrapped : ℕ → ℕ
 wrapped k = cond (ltb k mostKept) k (k - mostKept)
 
@@ -93,11 +93,11 @@ lentSetUp w board =
     cond (not (leb boardLength (length board))) (boardGave (cond (widthStands w) (answerOf 16 0 0) (answerOf 17 0 0)) board)
     (boardGave (setUpOf w .answer) (emptied (setUpOf w .board .width) board))
 
--- [10.55] how many of the kept entries count at the time t
+-- [10.50] how many of the kept entries count at the time t
 abbrev pub stillAt : List ℕ → ℕ → ℕ
 stillAt l t = howMany (boardIn l .width) t (boardIn l .kept)
 
--- [10.140] the place of the first of them; if there is none, that after the last kept entry
+-- [10.140] the place of the first kept entry that counts at the time t; if none does, that after the last kept entry
 abbrev pub firstAt : List ℕ → ℕ → ℕ
 firstAt l t = wrapped (getD l firstIndex 0 + (getD l countIndex 0 - stillAt l t))
 

@@ -37,13 +37,13 @@ BoardSoundIffPlain = (b : Board) → (boardSound b ≡ true) ↔ SoundBoard b
 
 -- What is left after a call
 
--- [10.40] [10.55] `left` are the entries of `kept` that count at the time t, in their order; `many` says how many they are, and `longest` is
+-- [10.40] [10.50] [10.55] `left` are the entries of `kept` that count at the time t, in their order; `many` says how many they are, and `longest` is
 -- the longest wait among them
 pub data Left (w t : ℕ) : List Entry → List Entry → ℕ → ℕ → Type 0 where
   none : Left w t [] [] 0 0
   expired : {e : Entry} {kept left : List Entry} {many longest : ℕ} → e .time + w ≤ t → Left w t kept left many longest
       → Left w t (e ∷ kept) left many longest
-  -- its wait is the longest so far
+  -- no wait behind it is longer
   longer : {e : Entry} {kept left : List Entry} {many longest : ℕ} → t < e .time + w → longest ≤ e .wait
       → Left w t kept left many longest → Left w t (e ∷ kept) (e ∷ left) (many + 1) (e .wait)
   shorter : {e : Entry} {kept left : List Entry} {many longest : ℕ} → t < e .time + w → e .wait < longest
@@ -63,17 +63,17 @@ pub record IsProcess (p : ℕ) : Type 0 where
 -- The answers, with what a success leaves
 
 -- [10.90] a call at the time t is refused with this code, process and time, whatever else it is handed
-pub data Untimely (b : Board) (t : ℕ) : ℕ → ℕ → ℕ → Type 0 where
+pub data Barred (b : Board) (t : ℕ) : ℕ → ℕ → ℕ → Type 0 where
   -- [4.2]
-  unsound : (SoundBoard b → ⊥) → Untimely b t 2 0 0
+  unsound : (SoundBoard b → ⊥) → Barred b t 2 0 0
   -- [4.4]
-  backward : SoundBoard b → t < b .last → Untimely b t 4 0 (b .last)
+  backward : SoundBoard b → t < b .last → Barred b t 4 0 (b .last)
   -- [4.5]
-  beyond : SoundBoard b → b .last ≤ t → lastTime < t → Untimely b t 5 0 0
+  beyond : SoundBoard b → b .last ≤ t → lastTime < t → Barred b t 5 0 0
 
 -- [10.70] [10.90] [10.100] an adding gives back this answer and this board
 pub data Adds (b : Board) (t p wait : ℕ) : ℕ → ℕ → ℕ → Board → Type 0 where
-  untimely : {code process time : ℕ} → Untimely b t code process time → Adds b t p wait code process time b
+  barred : {code process time : ℕ} → Barred b t code process time → Adds b t p wait code process time b
   -- [4.7]
   misnamed : InTime b t → (IsProcess p → ⊥) → Adds b t p wait 7 0 0 b
   -- [4.18]
@@ -86,7 +86,7 @@ pub data Adds (b : Board) (t p wait : ℕ) : ℕ → ℕ → ℕ → Board → T
 
 -- [10.80] [10.90] [10.100] a showing gives back this answer and this board
 pub data Shows (b : Board) (t : ℕ) : ℕ → ℕ → ℕ → Board → Type 0 where
-  untimely : {code process time : ℕ} → Untimely b t code process time → Shows b t code process time b
+  barred : {code process time : ℕ} → Barred b t code process time → Shows b t code process time b
   -- [10.80]
   shown : (left : List Entry) (many longest : ℕ) → InTime b t → Left (b .width) t (b .kept) left many longest
       → Shows b t 0 many longest (boardOf (b .width) t left)
@@ -165,7 +165,7 @@ pub record NumbersFollow : Type 0 where
       → (lentSetUp w l .answer ≡ setUpOf w .answer) × (boardIn (lentSetUp w l .board) ≡ setUpOf w .board)
       × (isBoard (lentSetUp w l .board) ≡ true)
 
--- [10.100] [10.120]
+-- [10.100] [10.130] of setting up, where the list is too short
 pub record RefusedBoardStays : Type 0 where
   pub add : (l : List ℕ) (t p wait : ℕ) → lentAdd l t p wait .answer .code ≢ 0 → lentAdd l t p wait .board ≡ l
   pub show : (l : List ℕ) (t : ℕ) → lentShow l t .answer .code ≢ 0 → lentShow l t .board ≡ l
@@ -183,7 +183,7 @@ pub record NotEntry (k i : ℕ) : Type 0 where
   pub not-process : i ≢ entryIndex k + 1
   pub not-wait : i ≢ entryIndex k + 2
 
--- [10.140]
+-- [10.130] [10.140]
 pub record BoardWritesItsOwn : Type 0 where
   pub add : (l : List ℕ) (t p wait i : ℕ) → NotHead i → NotEntry (nextAt l) i → getD (lentAdd l t p wait .board) i 0 ≡ getD l i 0
   pub add-length : (l : List ℕ) (t p wait : ℕ) → length (lentAdd l t p wait .board) ≡ length l

@@ -1,6 +1,6 @@
 pub mod Boards
 pub mod Encodings
-pub mod Facts
 pub mod Lists
 pub mod Tellings
+pub mod Facts
 pub mod Looking

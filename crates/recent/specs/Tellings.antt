@@ -67,8 +67,8 @@ pub record Tells (table summary board : List ℕ) (act p m : ℕ) (r : LentTold)
   pub length-stays : length (r .board) ≡ length board
 
 -- [10.200] [10.205]
-abbrev pub EveryTell : Type 0
-EveryTell = (table summary board : List ℕ) (act p m : ℕ) → Tells table summary board act p m (lentTell table summary board act p m)
+abbrev pub TellIsPlain : Type 0
+TellIsPlain = (table summary board : List ℕ) (act p m : ℕ) → Tells table summary board act p m (lentTell table summary board act p m)
 
 -- Lists of such calls, with showings among them
 
@@ -143,7 +143,7 @@ pub data CritCode (w : ℕ) (log : List Noted) (t : ℕ) : ℕ → Type 0 where
   full : howMany w t (entriesIn log) ≡ mostKept → CritCode w log t 18
 
 -- [10.220] [10.230] the call d after the calls of a log gave back r; W is the width of the board
-pub record Telling (w : ℕ) (log : List Noted) (d : TellCall) (r : LentTold) : Type 0 where
+pub record ToldFigures (w : ℕ) (log : List Noted) (d : TellCall) (r : LentTold) : Type 0 where
   -- [10.220] the board's answer to an accepted crit
   pub told : d .shows ≡ false → entered (r .answer .code) (d .action) ≡ true → r .told ≡ workedOut w (tellingsIn log) (adding log d)
   -- [10.230] its code
@@ -168,10 +168,10 @@ abbrev pub tellAll : LentTold → List TellCall → LentTold
 tellAll r ds = endBy lentTellCall itself r ds
 
 -- [10.220] of every list of calls, and every call after it
-abbrev pub EveryTelling : Type 0
-EveryTelling = (k : Parameters) (w : ℕ) (table summary board : List ℕ) (ds : List TellCall) (d : TellCall)
+abbrev pub EveryToldFigures : Type 0
+EveryToldFigures = (k : Parameters) (w : ℕ) (table summary board : List ℕ) (ds : List TellCall) (d : TellCall)
     → lentFresh k table .answer .code ≡ 0 → lentSummary summary .answer .code ≡ 0 → lentSetUp w board .answer .code ≡ 0
-    → Telling w (notedOf ds (tellResults (tellStart k w table summary board) ds)) d
+    → ToldFigures w (notedOf ds (tellResults (tellStart k w table summary board) ds)) d
     (lentTellCall (tellAll (tellStart k w table summary board) ds) d)
 
 -- The recorded steps of such a list are a list of recorded steps, so what holds of these holds of it
@@ -198,6 +198,6 @@ pub record ToldHolds (k : Parameters) (w : ℕ) (table summary board : List ℕ)
   pub summary-is : tellAll (tellStart k w table summary board) ds .summary ≡ lentAll (lentStart k table summary) (actsTold ds) .summary
 
 -- [10.225]
-abbrev pub EveryToldList : Type 0
-EveryToldList = (k : Parameters) (w : ℕ) (table summary board : List ℕ) (ds : List TellCall)
+abbrev pub EveryToldSteps : Type 0
+EveryToldSteps = (k : Parameters) (w : ℕ) (table summary board : List ℕ) (ds : List TellCall)
     → lentFresh k table .answer .code ≡ 0 → lentSummary summary .answer .code ≡ 0 → ToldHolds k w table summary board ds

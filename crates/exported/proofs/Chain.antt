@@ -12,12 +12,14 @@ use Rattle.recent.specs.Lists.{BoardCall, lentBoardCall, boardAfter}
 use Rattle.recent.specs.Tellings.{LentTold, toldGave, TellCall, lentTell, lentTellCall, tellStart}
 use Rattle.model.proofs.Tests.{by-test}
 use Rattle.model.proofs.Folds.{chain-results, chain-last, list-chain}
+use Rattle.layout.proofs.Refusals.{lent-successes}
+use Rattle.recent.proofs.Refusals.{lent-set-ups}
 use Rattle.recent.proofs.Lists.{every-board-list}
-use Rattle.recent.proofs.Tellings.{every-telling}
-use Rattle.recent.proofs.ToldLists.{every-told-list}
+use Rattle.recent.proofs.Tellings.{every-told-figures}
+use Rattle.recent.proofs.ToldLists.{every-told-steps}
 use Rattle.exported.specs.Lending.{Lends, Starts, StartsSummary, SetsUp, AddsTo, ShowsOn, TellsTo}
-use Rattle.exported.specs.Boards.{MadeOnBoard, EveryBoardChain, SomeBoardChain}
-use Rattle.exported.specs.Boards.{MadeTelling, startsWith, EveryTellChain, EveryToldChain, SomeTellChain}
+use Rattle.exported.specs.Chains.{MadeOnBoard, EveryBoardChain, SomeBoardChain}
+use Rattle.exported.specs.Chains.{MadeTelling, startsWith, EveryToldFiguresChain, EveryToldStepsChain, SomeToldChain}
 
 -- One result is allowed
 
@@ -95,21 +97,21 @@ start-is : (k : Parameters) (w : ℕ) (table summary board : List ℕ) (f : Lent
 start-is k w table summary board f x b s n u =
     λ i. startsWith (starts-is k table f s i) (new-is summary x n i) (sets-up-is w board b u i)
 
-pub every-tell-chain : EveryTellChain
-every-tell-chain k w table summary board f x b ds rs d r s n u fe xe be ch m =
+pub every-told-figures-chain : EveryToldFiguresChain
+every-told-figures-chain k w table summary board f x b ds rs d r s n u fe xe be ch m =
     rw (
       tell-made-is _ d r m,
       chain-last itself tell-made-is ch,
       chain-results itself tell-made-is ch,
       start-is k w table summary board f x b s n u,
     )
-    (every-telling k w table summary board ds d
+    (every-told-figures k w table summary board ds d
     (rw (starts-is k table f s) at fe) (rw (new-is summary x n) at xe) (rw (sets-up-is w board b u) at be))
 
-pub every-told-chain : EveryToldChain
-every-told-chain k w table summary board f x b ds rs s n u fe xe ch = record {
+pub every-told-steps-chain : EveryToldStepsChain
+every-told-steps-chain k w table summary board f x b ds rs s n u fe xe ch = record {
   results-are = rw (← start-is k w table summary board f x b s n u) (chain-results itself tell-made-is ch);
-  holds = every-told-list k w table summary board ds (rw (starts-is k table f s) at fe) (rw (new-is summary x n) at xe);
+  holds = every-told-steps k w table summary board ds (rw (starts-is k table f s) at fe) (rw (new-is summary x n) at xe);
 }
 
 tell-callable : (r : LentTold) (d : TellCall) → MadeTelling r d (lentTellCall r d)
@@ -120,5 +122,22 @@ tell-callable r d = by-test (d .shows)
     (let t = lentTell (r .table) (r .summary) (r .board) (d .action) (d .process) (d .time) in
     rw e (([], ([], ([], tt))), lending (r .table) (t .table), lending (r .summary) (t .summary), lending (r .board) (t .board), refl)))
 
-pub some-tell-chain : SomeTellChain
-some-tell-chain r ds = (resultsBy lentTellCall itself r ds, list-chain lentTellCall itself tell-callable r ds)
+pub some-told-chain : SomeToldChain
+some-told-chain = record {
+  table = λ k table stand long. (
+    lentFresh k table,
+    (([], tt), lending table (lentFresh k table .table), refl),
+    lent-successes .fresh-iff k table .1 (stand, long),
+  );
+  summary = λ summary long. (
+    lentSummary summary,
+    (([], tt), lending summary (lentSummary summary .summary), refl),
+    lent-successes .new-summary-iff summary .1 long,
+  );
+  board = λ w board stand long. (
+    lentSetUp w board,
+    (([], tt), lending board (lentSetUp w board .board), refl),
+    lent-set-ups .accepted w board .1 (stand, long),
+  );
+  chain = λ r ds. (resultsBy lentTellCall itself r ds, list-chain lentTellCall itself tell-callable r ds);
+}
