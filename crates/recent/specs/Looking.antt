@@ -5,13 +5,14 @@ use mathlib.Core.Path.{_≡_}
 use mathlib.Core.Bool.{true, false, cond, _&&_}
 use mathlib.Core.List.{List, [], _∷_}
 use lib.Dec.{ltb}
+use lib.ListN.{getD}
 use Rattle.model.specs.declared.Answer.{Answer}
 use Rattle.model.specs.Answers.{answerOf, beyond}
 use Rattle.recent.specs.declared.rings.Rest.{Rest}
 use Rattle.recent.specs.declared.rings.Pass.{Pass}
 use Rattle.recent.specs.declared.rings.Look.{Look}
-use Rattle.recent.specs.Boards.{Entry, mostKept, boardSound, inOrder, howMany, longestAt}
-use Rattle.recent.specs.Encodings.{wrapped, entryAt, ringFrom, boardIn, isBoard, stillAt, firstAt}
+use Rattle.recent.specs.Boards.{Entry, widthStands, mostKept, boardSound, inOrder, howMany, longestAt}
+use Rattle.recent.specs.Encodings.{widthIndex, firstIndex, countIndex, wrapped, entryAt, ringFrom, boardIn, isBoard, stillAt, firstAt}
 
 -- the time of the last of these entries, t where there is none
 unfoldable pub latest : ℕ → List Entry → ℕ
@@ -55,6 +56,12 @@ pub record Passed (es : List Entry) (pass r : Pass) : Type 0 where
 pub record Passes (es : List Entry) (pass r : Pass) : Type 0 where
   pub falls : r .falls ≡ true → inOrder (pass .time) es ≡ false
   pub passed : r .falls ≡ false → Passed es pass r
+
+-- the header of a list, but for the last time told
+pub record HeaderStands (l : List ℕ) : Type 0 where
+  pub width : widthStands (getD l widthIndex 0) ≡ true
+  pub inside : getD l firstIndex 0 < mostKept
+  pub room : getD l countIndex 0 ≤ mostKept
 
 -- the whole look at a list of numbers, at a time
 pub record Looked (l : List ℕ) (t : ℕ) (r : Look) : Type 0 where

@@ -7,7 +7,7 @@ ghost use Prim.Native.Nat.{_+_, _-_, _≤_, _<_};
 ghost use lib.ListN.{length};
 ghost use Rattle.recent.specs.Boards.{entryWith, mostKept, widthStands};
 ghost use Rattle.recent.specs.Encodings.{boardLength, wrapped, entriesFrom, ringFrom, headed, placed, emptied};
-ghost use Rattle.recent.specs.Looking.{Rests, Passes, Looks};
+ghost use Rattle.recent.specs.Looking.{Rests, Passes, HeaderStands, Looks};
 
 // [10.110] where the numbers of the header stand
 const WIDTH: usize = 0;
@@ -170,7 +170,7 @@ pub(crate) struct Look {
     pub longest: u64,
 }
 
-fn no_look() -> Look
+fn no_board() -> Look
     ensures { λ r. ⌜ r .sound ≡ false ⌝ }
 {
     Look {
@@ -181,35 +181,17 @@ fn no_look() -> Look
     }
 }
 
-// [10.30] [10.55] Of just the numbers of a board.
-fn look_whole(board: &[u64], time: u64) -> Look
+// [10.30] [10.55] The passes over the entries of a board whose header stands.
+fn look_kept(board: &[u64], time: u64) -> Look
     requires { ⌜ length (now board) ≡ boardLength ⌝ }
+    requires { ⌜ HeaderStands (now board) ⌝ }
     ensures { λ r. ⌜ Looks (now (board .entry)) time r ⌝ }
 {
-    let width = board[WIDTH];
-    if !width_stands(width) {
-        return no_look();
-    }
-    if (PLACES as u64) <= board[FIRST] {
-        return no_look();
-    }
-    if (PLACES as u64) < board[COUNT] {
-        return no_look();
-    }
     let first = board[FIRST] as usize;
     let count = board[COUNT] as usize;
-    // saves 10 of 80 instructions
-    if count == 0 {
-        return Look {
-            sound: true,
-            first: first,
-            count: 0,
-            longest: 0,
-        };
-    }
-    let rest = rest_from(board, first, count, since_at(width, time));
+    let rest = rest_from(board, first, count, since_at(board[WIDTH], time));
     if rest.falls {
-        return no_look();
+        return no_board();
     }
     let start = Pass {
         falls: false,
@@ -218,10 +200,10 @@ fn look_whole(board: &[u64], time: u64) -> Look
     };
     let pass = longest_around(board, rest.first, rest.count, start);
     if pass.falls {
-        return no_look();
+        return no_board();
     }
     if board[LAST] < pass.time {
-        return no_look();
+        return no_board();
     }
     Look {
         sound: true,
@@ -231,12 +213,38 @@ fn look_whole(board: &[u64], time: u64) -> Look
     }
 }
 
+// [10.30] Of just the numbers of a board.
+fn look_whole(board: &[u64], time: u64) -> Look
+    requires { ⌜ length (now board) ≡ boardLength ⌝ }
+    ensures { λ r. ⌜ Looks (now (board .entry)) time r ⌝ }
+{
+    if !width_stands(board[WIDTH]) {
+        return no_board();
+    }
+    if (PLACES as u64) <= board[FIRST] {
+        return no_board();
+    }
+    if (PLACES as u64) < board[COUNT] {
+        return no_board();
+    }
+    // saves 10 of 80 instructions
+    if board[COUNT] == 0 {
+        return Look {
+            sound: true,
+            first: board[FIRST] as usize,
+            count: 0,
+            longest: 0,
+        };
+    }
+    look_kept(board, time)
+}
+
 // [10.30] [10.55] [10.120] Of a list of any length.
 pub(crate) fn look_in(board: &[u64], time: u64) -> Look
     ensures { λ r. ⌜ Looks (now (board .entry)) time r ⌝ }
 {
     if board.len() < BOARD {
-        return no_look();
+        return no_board();
     }
     look_whole(&board[..BOARD], time)
 }

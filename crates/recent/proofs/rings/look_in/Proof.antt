@@ -9,11 +9,11 @@ use Rattle.recent.proofs.Sights.{no-sight, front-looks}
 use Rattle.recent.proofs.rings.look_in.Statement.{statement}
 use Rattle.recent.proofs.rings.look_in.Tie as tie
 
-no-look-requires : tie.Need-no-look-requires
-no-look-requires c κs = search needs
+no-board-requires : tie.Need-no-board-requires
+no-board-requires c κs = search needs
 
 returns : tie.Need-returns
-returns c = no-sight _ _ (c .no-look .ensures) (λ s. omega (arith, s .fits, c .before .if1 .taken))
+returns c = no-sight _ _ (c .no-board .ensures) (λ s. omega (arith, s .fits, c .before .if1 .taken))
 
 slice-aggregate-look-whole : tie.Need-slice-aggregate-look-whole
 slice-aggregate-look-whole c = sym (length-take-le boardLength (c .before .before .before .args .board .now) (c .before .if1 .left))
@@ -27,4 +27,4 @@ returns-2 c = front-looks _ (c .before .before .if1 .left) _ (c .look-whole .ens
 pub look-in-spec : {M : Type 1} → statement M
 look-in-spec =
     tie.close
-    (tie.spec no-look-requires returns slice-aggregate-look-whole look-whole-requires returns-2)
+    (tie.spec no-board-requires returns slice-aggregate-look-whole look-whole-requires returns-2)
