@@ -15,7 +15,7 @@ use Rattle.model.proofs.Folds.{chain-results, chain-last, list-chain}
 use Rattle.layout.proofs.Refusals.{lent-successes}
 use Rattle.recent.proofs.Refusals.{lent-set-ups}
 use Rattle.recent.proofs.Lists.{every-board-list}
-use Rattle.recent.proofs.Tellings.{every-told-figures}
+use Rattle.recent.proofs.Tellings.{tell-is-plain, every-told-figures}
 use Rattle.recent.proofs.ToldLists.{every-told-steps}
 use Rattle.exported.specs.Lending.{Lends, Starts, StartsSummary, SetsUp, AddsTo, ShowsOn, TellsTo}
 use Rattle.exported.specs.Chains.{MadeOnBoard, EveryBoardChain, SomeBoardChain}
@@ -49,6 +49,9 @@ made-is : (l : List ℕ) (d : BoardCall) (r : LentBoard) → MadeOnBoard l d r �
 unfolding lentBoardCall
 made-is l d r (MadeOnBoard.by-add e a) = rw e (adds-is l (d .time) (d .process) (d .wait) r a)
 made-is l d r (MadeOnBoard.by-show e a) = rw e (shows-is l (d .time) r a)
+made-is l d r (MadeOnBoard.by-tell e table summary act t a h w f) =
+    let is = tells-is table summary l act (d .process) (d .time) t a in
+    rw (e, w) (f ∙ rw (← is) at (tell-is-plain table summary l act (d .process) (d .time) .told) h)
 
 pub every-board-chain : EveryBoardChain
 every-board-chain w board start ds rs d r s ch m =

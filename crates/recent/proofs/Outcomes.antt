@@ -103,6 +103,7 @@ every-set-up w =
       board = simp e (λ _. refl);
       refused = simp e (λ n. absurd (n refl));
       no-board = simp e (λ n. absurd (n refl));
+      unsound = simp e (λ n. absurd (n refl));
     })
     (λ e. record {
       accepted = simp e (λ z. absurd (omega arith), λ h. clash (width-stands-iff w .1 h) e);
@@ -110,4 +111,5 @@ every-set-up w =
       board = simp e (λ z. absurd (omega arith));
       refused = simp e (λ _. refl);
       no-board = simp e (λ _. refl);
+      unsound = simp e (λ _ s. omega (arith, s .width .least));
     })

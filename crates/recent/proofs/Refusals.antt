@@ -137,4 +137,5 @@ lent-set-ups = record {
       by-test (widthStands w) (λ e. absurd (n (width-stands-iff w .0 e)))
       (λ e. by-test (leb boardLength (length l)) (λ f. simp (e, f)) (λ f. simp (e, f)));
   short = λ w l h g. simp (lt-leb _ _ g, width-stands-iff w .1 h);
+  first = λ w l h. simp (le-leb _ _ h);
 }

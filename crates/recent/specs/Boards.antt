@@ -93,7 +93,7 @@ pub record BoardOutcome : Type 0 where
 abbrev pub outcomeWith : Answer → Board → BoardOutcome
 outcomeWith r b = record { answer = r; board = b }
 
--- [10.60] [4.17]
+-- [10.60] [10.65] [4.17]
 unfoldable pub setUpOf : ℕ → BoardOutcome
 setUpOf w = cond (widthStands w) (outcomeWith (answerOf 0 0 0) (boardOf w 0 [])) (outcomeWith (answerOf 17 0 0) (boardOf 0 0 []))
 

@@ -109,6 +109,7 @@ pub record SetUp (w : ℕ) : Type 0 where
   pub board : setUpOf w .answer .code ≡ 0 → setUpOf w .board ≡ boardOf w 0 []
   pub refused : setUpOf w .answer .code ≢ 0 → setUpOf w .answer ≡ answerOf 17 0 0
   pub no-board : setUpOf w .answer .code ≢ 0 → setUpOf w .board ≡ boardOf 0 0 []
+  pub unsound : setUpOf w .answer .code ≢ 0 → SoundBoard (setUpOf w .board) → ⊥
 
 -- [10.60] [10.65]
 abbrev pub EverySetUp : Type 0
@@ -151,6 +152,7 @@ pub record LentSetUps : Type 0 where
   pub accepted : (w : ℕ) (l : List ℕ) → (lentSetUp w l .answer .code ≡ 0) ↔ (WidthStands w × (boardLength ≤ length l))
   pub no-width : (w : ℕ) (l : List ℕ) → (WidthStands w → ⊥) → lentSetUp w l .answer ≡ answerOf 17 0 0
   pub short : (w : ℕ) (l : List ℕ) → WidthStands w → length l < boardLength → lentSetUp w l .answer ≡ answerOf 16 0 0
+  pub first : (w : ℕ) (l : List ℕ) → boardLength ≤ length l → getD (lentSetUp w l .board) 2 0 ≡ 0
 
 -- [10.130] [10.140] [10.145] on a list that tells a board a call gives back the answer of the call on that board, and the list then tells
 -- the board of that call
