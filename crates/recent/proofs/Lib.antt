@@ -3,7 +3,11 @@ pub mod Calls
 pub mod Places
 pub mod Passes
 pub mod Resting
+pub mod Following
 pub mod Lists
+pub mod OneTelling
+pub mod TellingsAlong
+pub mod TellingSteps
 pub mod Tellings
 pub mod Expiry
 pub mod Writes
