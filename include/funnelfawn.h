@@ -212,8 +212,9 @@ struct funnelfawn_told {
 /* [10.200] The act of funnelfawn_record; and with an accepted crit the entry of funnelfawn_add_to_board, which has the act's moment and
  * window, and the wait that the summary counts.
  *   Look at both answers. The step stands whatever the board answers, which is 0, 0, 0 where no crit was accepted and the board was left
- *   alone [10.205]. From a fresh table, a new summary and a new board on, the board refuses an accepted crit in two cases alone: with 18,
- *   and with 4 where it was shown at a clock past the crit's moment [10.230]; the entry is then missing from the board. */
+ *   alone [10.205]. From a fresh table, a new summary and a new board on, if nothing but this call and showings tells the board, it refuses
+ *   an accepted crit in two cases alone: with 18, and with 4 where it was shown at a clock past the crit's moment [10.230]; the entry is then
+ *   missing from the board. */
 struct funnelfawn_told funnelfawn_record_and_tell(uint64_t *FUNNELFAWN_RESTRICT table, size_t table_length,
                                                   uint64_t *FUNNELFAWN_RESTRICT summary, size_t summary_length,
                                                   uint64_t *FUNNELFAWN_RESTRICT board, size_t board_length, uint64_t act, uint64_t window,

@@ -84,8 +84,9 @@ impl Table {
     }
 
     /// The same, and the board is told of an accepted crit, with the wait that the summary counts. The step stands, whatever the board
-    /// answers: it refuses an entry with [`BoardFull`](Refusal::BoardFull), or with [`Backward`](Refusal::Backward) where it was shown at a
-    /// later clock.
+    /// answers: a new board that only this call and showings tell refuses an entry with [`BoardFull`](Refusal::BoardFull), or with
+    /// [`Backward`](Refusal::Backward) where it was shown at a later clock; one of stored numbers may answer
+    /// [`NoSummary`](Refusal::NoSummary).
     ///
     /// ```
     /// use funnelfawn::{Act, Board, Figures, Refusal, Summary, Table};

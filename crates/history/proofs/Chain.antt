@@ -1,7 +1,7 @@
 -- The statements about chains: where one result alone is allowed for each call, a chain is the list of calls of the plain table, so what
 -- holds of every list holds of every chain; and every list has a chain. Assumes nothing.
-use mathlib.Core.Path.{_≡_, refl, ap, _∙_}
-use mathlib.Core.List.{List, [], _∷_}
+use mathlib.Core.Path.{_≡_, refl, _∙_}
+use mathlib.Core.List.{List, []}
 use Rattle.model.specs.declared.State.{State}
 use Rattle.model.specs.declared.Recorded.{Recorded}
 use Rattle.model.specs.Answers.{freshOf}
