@@ -15,7 +15,8 @@ use Rattle.model.proofs.Folds.{chain-results, chain-last, list-chain}
 use Rattle.layout.proofs.Refusals.{lent-successes}
 use Rattle.recent.proofs.Refusals.{lent-set-ups}
 use Rattle.recent.proofs.Lists.{every-board-list}
-use Rattle.recent.proofs.Tellings.{tell-is-plain, every-told-figures}
+use Rattle.recent.proofs.OneTelling.{tell-is-plain}
+use Rattle.recent.proofs.Tellings.{every-told-figures}
 use Rattle.recent.proofs.ToldLists.{every-told-steps}
 use Rattle.exported.specs.Lending.{Lends, Starts, StartsSummary, SetsUp, AddsTo, ShowsOn, TellsTo}
 use Rattle.exported.specs.Chains.{MadeOnBoard, EveryBoardChain, SomeBoardChain}

@@ -1,6 +1,6 @@
 -- Laws of a pass over entries: their order, the time of the last one and the longest wait, taken apart at a place; and the figures of entries
 -- in order, which go on from the first that counts. Assumes nothing.
-use Prim.Native.Nat.{ℕ, _+_, _-_, _≤_, _<_, max}
+use Prim.Native.Nat.{ℕ, _+_, _≤_, _<_, max}
 use mathlib.Core.Path.{_≡_, refl, _∙_}
 use mathlib.Core.Bool.{true, false, _&&_}
 use mathlib.Core.List.{List, [], _∷_, _++_}

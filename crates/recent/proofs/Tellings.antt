@@ -25,7 +25,6 @@ use Rattle.recent.proofs.Following.{worked-success}
 use Rattle.recent.proofs.Lists.{lent-answer, lent-next, set-up-lent}
 use Rattle.recent.proofs.TellingsAlong.{attempts-shown, tellings-shown, ToldBy, told-last, TellsAlong, TellNext}
 use Rattle.recent.proofs.TellingSteps.{step-next}
-pub use Rattle.recent.proofs.OneTelling.{tell-is-plain}
 
 -- One call more
 

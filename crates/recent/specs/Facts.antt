@@ -1,6 +1,6 @@
 -- Section 10 of the specification from a second side: a sound board, each refusal and each success in plain facts, and what becomes of the
 -- numbers of a lent board. Assumes nothing.
-use Prim.Native.Nat.{ℕ, _+_, _*_, _-_, _≤_, _<_}
+use Prim.Native.Nat.{ℕ, _+_, _*_, _≤_, _<_}
 use mathlib.Core.Path.{_≡_}
 use mathlib.Core.Logic.{_≢_, _↔_}
 use mathlib.Core.Bool.{true, false}
