@@ -1,6 +1,7 @@
-//! Seeded recordings for `compare`: walks that follow the machine and hit its edges, damaged texts, long texts; and lists of calls.
-//! The same seed and index always give the same recording, and the same list.
+//! Seeded recordings for `compare`: walks that follow the machine and hit its edges, damaged texts, long texts; and lists of calls, of
+//! steps and of boards. The same seed and index always give the same recording, and the same list.
 
+pub mod boards;
 mod damage;
 mod length;
 pub mod lists;

@@ -1,7 +1,9 @@
-//! The foyer board at its edges, the recorded step that tells it, and, over random calls, the figures from the list of all entries.
+//! The foyer board at its edges, the recorded step that tells it, and, over generated lists of calls, the list of all entries.
 
 use reference::answer::*;
 use reference::board::*;
+use reference::board_list::{make, BoardCall, FullList};
+use reference::generator::boards::{list, Family};
 use reference::generator::generate;
 use reference::generator::random::Random;
 use reference::machine::*;
@@ -170,35 +172,23 @@ fn unsound_boards() {
     assert_eq!(add(&mut odd, 4, 1, 0), figures(2, u64::MAX));
 }
 
-/// The figures of entries at a clock, worked out from all of them.
-fn worked_out(all: &[Entry], w: u64, clock: u64) -> Answer {
-    let waits: Vec<u64> =
-        all.iter().filter(|entry| entry.moment + w > clock).map(|entry| entry.wait).collect();
-    figures(waits.len() as u64, waits.iter().copied().max().unwrap_or(0))
-}
-
-/// [10.150] Of lists of calls from setting up on, the successes.
+/// [10.150] [10.155] Of generated lists of calls. They fill a board and come to use its places again, or they would show little.
 #[test]
-fn the_figures_are_those_of_all_entries_since_setting_up() {
-    for index in 0..200 {
-        let mut random = Random::new(11, index);
-        let w = random.pick(&[1, 3, 10, 1_000]);
-        let (mut board, mut all, mut clock) = (board(w), Vec::new(), 0);
-        for _ in 0..random.pick(&[10, 100, 2_000]) {
-            let moment = clock + random.pick(&[0, 0, 0, 1, w]);
-            let entry = Entry { moment, window: random.between(0, 97), wait: random.below(1_000) };
-            let adds = random.chance(80);
-            let answer = if adds {
-                add(&mut board, moment, entry.window, entry.wait)
-            } else {
-                show(&mut board, moment)
-            };
-            if answer.number == ACCEPTED {
-                all.extend(adds.then_some(entry));
-                assert_eq!(answer, worked_out(&all, w, moment));
-                clock = moment;
-            }
+fn each_answer_is_that_of_the_full_list() {
+    for (family, index) in Family::ALL.into_iter().zip(0..) {
+        let (mut board, mut full) = (board(0), FullList::default());
+        let (mut came, mut most) = ([0; BOARD_FULL as usize + 1], 0);
+        for call in list(&mut Random::new(11, index), family, 5_000) {
+            let answer;
+            (answer, board) = make(board, call);
+            assert_eq!(answer, full.answer(call), "{family:?}: {call:?}");
+            came[answer.number as usize] += 1;
+            most = full.entries().len().max(most);
         }
+        let due = [ACCEPTED, BACKWARD, END_OF_CLOCK, NO_WINDOW, BOARD_FULL];
+        let due = &due[..if family == Family::Few { 4 } else { 5 }];
+        assert!(due.iter().all(|&number| came[number as usize] > 0), "{family:?}: {came:?}");
+        assert!(most > 2 * ROOM, "{family:?}: {most} entries");
     }
 }
 
@@ -210,7 +200,8 @@ fn the_board_is_told_of_each_accepted_crit() {
         let w = 40;
         let (_, mut table) = fresh(recording.values);
         let (mut summary, mut plain, mut board) = (Summary::new(), Summary::new(), board(w));
-        let (mut tried, mut all) = ([0; WINDOWS], Vec::new());
+        let (mut tried, mut full) = ([0; WINDOWS], FullList::default());
+        full.answer(BoardCall::SetUp(w));
         for step in &recording.steps {
             let wanted = recorded_step(table, &mut plain, step.act, step.window, step.time);
             let told;
@@ -223,8 +214,8 @@ fn the_board_is_told_of_each_accepted_crit() {
             }
             if accepted && step.act == CRIT {
                 let wait = step.time - tried[step.window as usize - 1];
-                all.push(Entry { moment: step.time, window: step.window, wait });
-                assert_eq!(told.board, worked_out(&all, w, step.time));
+                let entry = Entry { moment: step.time, window: step.window, wait };
+                assert_eq!(told.board, full.answer(BoardCall::Add(entry)));
                 entered += 1;
             } else {
                 assert_eq!(told.board, bare(ACCEPTED));

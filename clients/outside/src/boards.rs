@@ -1,12 +1,47 @@
 //! Random boards as lent numbers: new ones, those that a long sale leaves, full ones, damaged and short ones; and what they are told.
 
 use crate::acts::any_number;
+use crate::calls::{self, Verdict};
 use crate::encoding::entry_at;
+use crate::expected;
 use crate::lists::{change, cut, lengthen, Made};
 use funnelfawn::raw::{BOARD, BOARD_HEADER, PLACES};
-use reference::board::W_END;
+use reference::answer::Answer;
+use reference::board::{Entry, W_END};
+use reference::board_list::BoardCall;
 use reference::generator::random::Random;
 use reference::machine::CLOCK_END;
+
+/// Makes a call on lent numbers, which become those that it has to leave: the answer that is due, and whether it and all numbers came.
+pub fn make(call: BoardCall, numbers: &mut Vec<u64>) -> (Answer, Verdict) {
+    let lent = numbers.clone();
+    match call {
+        BoardCall::SetUp(w) => {
+            let answer = expected::set_up_board(w, numbers);
+            (answer, calls::set_up_board(w, &lent, (answer, numbers)))
+        }
+        BoardCall::Add(Entry { moment, window, wait }) => {
+            let entry = [moment, window, wait];
+            let answer = expected::add_to_board(numbers, entry);
+            (answer, calls::add_to_board(&lent, entry, (answer, numbers)))
+        }
+        BoardCall::Show(clock) => {
+            let answer = expected::show_board(numbers, clock);
+            (answer, calls::show_board(&lent, clock, (answer, numbers)))
+        }
+    }
+}
+
+/// As many numbers as a board has, or a few more: any, or those of an older board.
+pub fn any_list(random: &mut Random) -> Vec<u64> {
+    let mut numbers = if random.chance(50) {
+        start(random, CLOCK_END)
+    } else {
+        (0..BOARD).map(|_| any_number(random, 0)).collect()
+    };
+    numbers.extend((0..random.below(5)).map(|_| random.below(u64::MAX)));
+    numbers
+}
 
 /// A width in its range, mostly one that entries of a walk outlive.
 pub fn width(random: &mut Random) -> u64 {
@@ -129,12 +164,11 @@ pub fn moment(random: &mut Random, board: &[u64], clock: u64) -> u64 {
     }
 }
 
-/// Moment, window and wait.
-pub fn entry(random: &mut Random, board: &[u64], clock: u64) -> [u64; 3] {
+pub fn entry(random: &mut Random, board: &[u64], clock: u64) -> Entry {
     let mut window = random.between(1, 96);
     if random.chance(8) {
         window = random.pick(&[0, 97, u64::MAX]);
     }
     let wait = random.pick(&[0, 1, 40, CLOCK_END, u64::MAX]);
-    [moment(random, board, clock), window, wait]
+    Entry { moment: moment(random, board, clock), window, wait }
 }

@@ -23,6 +23,10 @@ impl<T: Copy + PartialEq + Debug> Lent<T> {
     /// Where the list is not what it should be, or the first element behind it that was touched.
     pub fn difference(&self, name: &str, wanted: &[T]) -> Option<String> {
         assert_eq!(wanted.len(), self.length, "{name}: a list keeps its length");
+        // at once, as nearly always there is none
+        if self.all[..self.length] == *wanted && self.all[self.length..] == [self.guard; BEHIND] {
+            return None;
+        }
         let wanted = [wanted, &[self.guard; BEHIND]].concat();
         let differ = |(index, (got, wanted)): (usize, (&T, &T))| {
             (got != wanted).then(|| format!("{name}[{index}] is {got:?}, not {wanted:?}"))

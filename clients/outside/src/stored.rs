@@ -1,10 +1,12 @@
 //! The stored calls of reference/vectors, one a line, made and held to what stands beside them. The files leave out what is the same in
 //! all of them: windows 9 to 96 are in remainder, with the try moment 0. What a board's numbers are after a call is worked out.
 
+use crate::boards;
 use crate::calls::{self, Verdict};
-use crate::expected;
 use funnelfawn::raw::{BOARD, SUMMARY, TABLE};
 use reference::answer::{answer, Answer};
+use reference::board::Entry;
+use reference::board_list::BoardCall;
 use reference::machine::Values;
 
 /// What fills the lists of a reading, and the elements that are lent past a table, a summary and the steps of a writing.
@@ -94,27 +96,22 @@ impl Board {
     /// `setup W`, `add moment window wait` or `show clock`: the answer that is due, and whether it and all numbers came.
     fn make(&mut self, call: &str) -> Result<(Answer, Verdict), String> {
         let (name, rest) = call.trim().split_once(' ').ok_or("no call")?;
-        let mut after = self.lent.clone();
-        let made = match name {
+        let call = match name {
             "setup" => {
                 let [w] = fixed(rest)?;
-                let answer = expected::set_up_board(w, &mut after);
-                (answer, calls::set_up_board(w, &self.lent, (answer, &after)))
+                BoardCall::SetUp(w)
             }
             "add" => {
-                let entry = fixed(rest)?;
-                let answer = expected::add_to_board(&mut after, entry);
-                (answer, calls::add_to_board(&self.lent, entry, (answer, &after)))
+                let [moment, window, wait] = fixed(rest)?;
+                BoardCall::Add(Entry { moment, window, wait })
             }
             "show" => {
                 let [clock] = fixed(rest)?;
-                let answer = expected::show_board(&mut after, clock);
-                (answer, calls::show_board(&self.lent, clock, (answer, &after)))
+                BoardCall::Show(clock)
             }
             _ => return Err(format!("there is no call `{name}`")),
         };
-        self.lent = after;
-        Ok(made)
+        Ok(boards::make(call, &mut self.lent))
     }
 }
 

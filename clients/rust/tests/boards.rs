@@ -1,7 +1,7 @@
 //! The foyer board: what counts, its ring, and the acts that tell it.
 
 use funnelfawn::Act::*;
-use funnelfawn::{raw, Accepted, Act, Board, Figures, Refusal, Summary, Table};
+use funnelfawn::{raw, Accepted, Act, Board, Figures, Place, Refusal, Summary, Table};
 
 const PLACES: u64 = raw::PLACES as u64;
 
@@ -70,6 +70,12 @@ struct Sale {
 }
 
 impl Sale {
+    /// Of two windows, on a board of the last w.
+    fn new(w: u64) -> Sale {
+        let table = Table::fresh(2, 5, 8, 12).unwrap();
+        Sale { table, summary: Summary::new(), board: Board::set_up(w).unwrap() }
+    }
+
     /// What an accepted act tells the board.
     fn accept(&mut self, act: Act, window: u64, moment: u64) -> Option<Result<Figures, Refusal>> {
         let told = self.table.record_and_tell(&mut self.summary, &mut self.board, act, window, moment);
@@ -77,23 +83,25 @@ impl Sale {
         told.board
     }
 
-    /// The acts of a window from its try to the check that lets it in.
-    fn to_entering(&mut self, window: u64, tried: u64) {
-        for (act, moment) in [(Try, tried), (Test, tried + 1), (Set, tried + 2), (Check, tried + 10)] {
+    /// Acts of a window of which the board is not told.
+    fn untold(&mut self, window: u64, acts: &[(Act, u64)]) {
+        for &(act, moment) in acts {
             assert_eq!(self.accept(act, window, moment), None);
         }
+    }
+
+    /// The acts of a window from its try to the check that lets it in.
+    fn to_entering(&mut self, window: u64, tried: u64) {
+        self.untold(window, &[(Try, tried), (Test, tried + 1), (Set, tried + 2), (Check, tried + 10)]);
     }
 }
 
 #[test]
 fn acts_that_tell_a_board() {
-    let table = Table::fresh(2, 5, 8, 12).unwrap();
-    let mut sale = Sale { table, summary: Summary::new(), board: Board::set_up(30).unwrap() };
+    let mut sale = Sale::new(30);
     sale.to_entering(1, 0);
     assert_eq!(sale.accept(Crit, 1, 12), Some(figures(1, 12)));
-    for (act, moment) in [(Exit, 13), (Reset, 14), (Rem, 15)] {
-        assert_eq!(sale.accept(act, 1, moment), None);
-    }
+    sale.untold(1, &[(Exit, 13), (Reset, 14), (Rem, 15)]);
     sale.to_entering(2, 15);
     // a crit that is refused, and one at which the board has been shown at a later clock
     let refused = sale.table.record_and_tell(&mut sale.summary, &mut sale.board, Crit, 1, 26);
@@ -103,4 +111,31 @@ fn acts_that_tell_a_board() {
     assert_eq!(told.step, Ok(Accepted { selling: Some(2), clock: 26 }));
     assert_eq!(told.board, Some(Err(Refusal::Backward { clock: 27 })));
     assert_eq!((sale.summary.entries(), sale.board.show(27)), (2, figures(1, 12)));
+}
+
+/// The table under "The foyer board" in README.md, row by row, with the acts that it leaves out.
+#[test]
+fn the_readme_s_board() {
+    let answer = raw::set_up_board(60, &mut [0; raw::BOARD]);
+    assert_eq!(answer, raw::Answer { number: 0, window: 0, moment: 0 });
+    let mut sale = Sale::new(60);
+    sale.untold(2, &[(Try, 3), (Test, 4), (Set, 8)]);
+    sale.untold(1, &[(Try, 16)]);
+    sale.untold(2, &[(Check, 18)]);
+    assert_eq!(sale.accept(Crit, 2, 20), Some(figures(1, 17)));
+    // the word is window 2's until it resets it
+    sale.untold(1, &[(Test, 21), (Test, 26)]);
+    sale.untold(2, &[(Exit, 27), (Reset, 31)]);
+    sale.untold(1, &[(Test, 31)]);
+    sale.untold(2, &[(Rem, 32)]);
+    sale.untold(1, &[(Set, 36), (Check, 46)]);
+    assert_eq!(sale.accept(Crit, 1, 50), Some(figures(2, 34)));
+    sale.untold(1, &[(Exit, 52), (Reset, 54), (Rem, 56)]);
+    sale.to_entering(2, 65);
+    assert_eq!(sale.board.show(79), figures(2, 34));
+    assert_eq!(sale.board.show(80), figures(1, 34));
+    assert_eq!(sale.accept(Crit, 2, 79), Some(Err(Refusal::Backward { clock: 80 })));
+    assert_eq!(sale.table.place(2), Some((Place::Selling, None)));
+    assert_eq!(sale.board.show(110), figures(0, 0));
+    assert_eq!(sale.summary.entries(), 3);
 }

@@ -1,14 +1,17 @@
 //! differential [COUNT [SEED]]: makes COUNT random calls of the library and compares all that comes of them with the reference.
-//! Exit status 0 only if none differs, each number of an answer came up, and boards took and refused the entries of accepted crits.
+//! Exit status 0 only if none differs, each number of an answer came up, from boards too, boards took and refused the entries of accepted
+//! crits, and lists of board calls went around the places.
 
 use funnelfawn::raw::BOARD;
 use outside::calls::{self, Verdict};
 use outside::encoding::{summary_in, table_in};
-use outside::lists::{lent_summary, lent_table};
+use outside::lists::{lent_summary, lent_table, Made};
 use outside::tables::start;
 use outside::{acts, boards, expected, texts};
-use reference::answer::{bare, Answer, ACCEPTED, BOARD_FULL};
+use reference::answer::*;
 use reference::board::Told;
+use reference::board_list::{BoardCall, FullList};
+use reference::generator::boards::{list, Family};
 use reference::generator::random::Random;
 use reference::machine::{Table, Values};
 use reference::summary::Summary;
@@ -18,8 +21,18 @@ const COUNT: u64 = 300_000;
 const SEED: u64 = 1;
 /// The calls of a walk at most.
 const LONGEST: u64 = 120;
+/// The calls of a list on one board.
+const LISTED: u64 = 6_000;
+/// Of so many walks one is such a list.
+const LISTS: u64 = 400;
 /// Differences beyond these are only counted.
 const SHOWN: u64 = 5;
+
+/// What all but boards may answer.
+const OTHERS: std::ops::RangeInclusive<u64> = ACCEPTED..=SHORT_OUTPUT;
+/// What a board may answer: set up, told of an entry, shown.
+const OF_BOARDS: [u64; 8] =
+    [ACCEPTED, NO_SUMMARY, BACKWARD, END_OF_CLOCK, NO_WINDOW, SHORT_OUTPUT, WIDTH, BOARD_FULL];
 
 fn main() {
     let Some((count, seed)) = arguments() else {
@@ -29,20 +42,27 @@ fn main() {
     let mut tally = Tally::default();
     let mut index = 0;
     while tally.calls < count {
-        walk(seed, index, count, &mut tally);
+        match index % LISTS {
+            0 => board_list(seed, index, count, &mut tally),
+            _ => walk(seed, index, count, &mut tally),
+        }
         index += 1;
     }
-    let answers: Vec<String> =
-        (0..).zip(tally.answers).map(|(number, times)| format!("{number}: {times}")).collect();
-    println!("answers: {}", answers.join(", "));
-    let Tellings { taken, refused } = tally.tellings;
+    println!("answers: {}", tally.others.said(OTHERS));
+    println!("answers of boards: {}", tally.boards.said(OF_BOARDS));
+    let Tally { calls, differ, taken, refused, lists, listed, rounds, .. } = tally;
     println!("accepted crits that a board was told of: it took {taken}, refused {refused}");
-    let missing = tally.answers.contains(&0) || taken == 0 || refused == 0;
+    println!("lists of board calls: {lists}, of {listed} calls, which went around the places {rounds} times");
+    let missing = tally.others.missing(OTHERS) || tally.boards.missing(OF_BOARDS);
     if missing {
-        println!("not every number of an answer came up, or no board was told of a crit");
+        println!("not every number of an answer came up");
     }
-    println!("differential: {} calls, {} differ", tally.calls, tally.differ);
-    exit(if missing || tally.differ > 0 { 1 } else { 0 });
+    let idle = taken == 0 || refused == 0 || rounds == 0;
+    if idle {
+        println!("no board took or refused the entry of a crit, or none went around its places");
+    }
+    println!("differential: {calls} calls, {differ} differ");
+    exit(if missing || idle || differ > 0 { 1 } else { 0 });
 }
 
 fn arguments() -> Option<(u64, u64)> {
@@ -56,26 +76,96 @@ fn arguments() -> Option<(u64, u64)> {
 struct Tally {
     calls: u64,
     differ: u64,
-    /// how often each number was due
-    answers: [u64; BOARD_FULL as usize + 1],
-    tellings: Tellings,
-}
-
-/// Accepted crits of which boards were told, by what the boards answered.
-#[derive(Clone, Copy, Default)]
-struct Tellings {
+    others: Answers,
+    boards: Answers,
+    /// accepted crits whose entries boards took and refused
     taken: u64,
     refused: u64,
+    /// lists on one board, their calls, and how often a first place came around the end
+    lists: u64,
+    listed: u64,
+    rounds: u64,
 }
 
-impl Tellings {
-    fn count(&mut self, board: Answer) {
-        if board.number != ACCEPTED {
-            self.refused += 1;
-        } else if board != bare(ACCEPTED) {
-            self.taken += 1;
+/// How often each number was due.
+#[derive(Default)]
+struct Answers([u64; BOARD_FULL as usize + 1]);
+
+impl Answers {
+    fn said(&self, due: impl IntoIterator<Item = u64>) -> String {
+        let times = due.into_iter().map(|number| format!("{number}: {}", self.0[number as usize]));
+        times.collect::<Vec<String>>().join(", ")
+    }
+
+    fn missing(&self, due: impl IntoIterator<Item = u64>) -> bool {
+        due.into_iter().any(|number| self.0[number as usize] == 0)
+    }
+}
+
+/// What is due from a call, of a board, of the rest or of both, and whether it and all else came.
+struct Outcome {
+    other: Option<Answer>,
+    board: Option<Answer>,
+    verdict: Verdict,
+}
+
+fn of_other((answer, verdict): (Answer, Verdict)) -> Outcome {
+    Outcome { other: Some(answer), board: None, verdict }
+}
+
+fn of_board((answer, verdict): (Answer, Verdict)) -> Outcome {
+    Outcome { other: None, board: Some(answer), verdict }
+}
+
+impl Tally {
+    fn count(&mut self, outcome: Outcome, place: impl Fn() -> String) {
+        let Outcome { other, board, verdict } = outcome;
+        self.calls += 1;
+        if let Some(answer) = other {
+            self.others.0[answer.number as usize] += 1;
+        }
+        if let Some(answer) = board {
+            self.boards.0[answer.number as usize] += 1;
+        }
+        if let (Some(_), Some(answer)) = (other, board) {
+            *(if answer.number == ACCEPTED { &mut self.taken } else { &mut self.refused }) += 1;
+        }
+        if let Err(difference) = verdict {
+            self.differ += 1;
+            if self.differ <= SHOWN {
+                println!("{}: {difference}", place());
+            }
         }
     }
+}
+
+/// Calls of one board from setting up on, each with the numbers that the one before left. The answers are also held to the request's own
+/// words, by a list of all entries that were accepted.
+fn board_list(seed: u64, index: u64, count: u64, tally: &mut Tally) {
+    let mut random = Random::new(seed, index);
+    let family = Family::ALL[(index / LISTS) as usize % Family::ALL.len()];
+    let calls = list(&mut random, family, LISTED.min(count - tally.calls));
+    let mut numbers = boards::any_list(&mut random);
+    let mut full = FullList::default();
+    tally.lists += 1;
+    tally.listed += calls.len() as u64;
+    for (place, call) in calls.into_iter().enumerate() {
+        let first = numbers[2];
+        let (answer, verdict) = boards::make(call, &mut numbers);
+        let verdict = verdict.and(same(answer, full.answer(call)));
+        let around = numbers[2] < first && !matches!(call, BoardCall::SetUp(_));
+        tally.rounds += u64::from(around);
+        tally.count(of_board((answer, verdict)), || {
+            format!("seed {seed}, list {index}, call {place}, {call:?}")
+        });
+    }
+}
+
+fn same(answer: Answer, worked_out: Answer) -> Verdict {
+    if answer != worked_out {
+        return Err(format!("of all entries since setting up, the answer is {worked_out:?}, not {answer:?}"));
+    }
+    Ok(())
 }
 
 /// A table, a summary and a board that calls bring up to date, and damaged copies of them on the way.
@@ -84,7 +174,6 @@ struct Walk {
     table: Table,
     summary: Summary,
     board: Vec<u64>,
-    tellings: Tellings,
 }
 
 fn walk(seed: u64, index: u64, count: u64, tally: &mut Tally) {
@@ -92,35 +181,24 @@ fn walk(seed: u64, index: u64, count: u64, tally: &mut Tally) {
     let table = start(&mut random);
     let length = random.between(1, LONGEST).min(count - tally.calls);
     let board = boards::start(&mut random, table.clock);
-    let tellings = tally.tellings;
-    let mut walk = Walk { random, table, summary: Summary::new(), board, tellings };
+    let mut walk = Walk { random, table, summary: Summary::new(), board };
     for call in 0..length {
-        let (answer, verdict) = walk.call();
-        tally.calls += 1;
-        tally.answers[answer.number as usize] += 1;
-        if let Err(difference) = verdict {
-            tally.differ += 1;
-            if tally.differ <= SHOWN {
-                println!("seed {seed}, walk {index}, call {call}: {difference}");
-            }
-        }
+        tally.count(walk.call(), || format!("seed {seed}, walk {index}, call {call}"));
     }
-    tally.tellings = walk.tellings;
 }
 
 impl Walk {
-    /// One call: the answer that is due, and whether it and all the rest came.
-    fn call(&mut self) -> (Answer, Verdict) {
+    fn call(&mut self) -> Outcome {
         match self.random.below(100) {
-            0 => texts::call(&mut self.random),
-            1..=3 => self.fresh(),
-            4 => self.new_summary(),
-            5..=39 => self.step(),
-            40..=74 => self.record(),
+            0 => of_other(texts::call(&mut self.random)),
+            1..=3 => of_other(self.fresh()),
+            4 => of_other(self.new_summary()),
+            5..=39 => of_other(self.step()),
+            40..=74 => of_other(self.record()),
             75..=89 => self.record_and_tell(),
-            90 => self.set_up_board(),
-            91..=96 => self.add_to_board(),
-            _ => self.show_board(),
+            90 => of_board(self.set_up_board()),
+            91..=96 => of_board(self.add_to_board()),
+            _ => of_board(self.show_board()),
         }
     }
 
@@ -174,7 +252,7 @@ impl Walk {
         (answer, verdict.map_err(|what| format!("record {call:?} on {lists:?}: {what}")))
     }
 
-    fn record_and_tell(&mut self) -> (Answer, Verdict) {
+    fn record_and_tell(&mut self) -> Outcome {
         let call = acts::act_or_crit(&mut self.random, &self.table);
         let table = lent_table(&mut self.random, &self.table, 5);
         let summary = lent_summary(&mut self.random, self.table.clock, &self.summary);
@@ -186,13 +264,13 @@ impl Walk {
         let wanted = (answers, [&after[..], &counted, &told]);
         let verdict = calls::record_and_tell(lists, call, wanted);
         let verdict = verdict.map_err(|what| format!("record and tell {call:?} on {lists:?}: {what}"));
-        self.tellings.count(answer);
         self.keep(table.own, &after);
         if table.own && summary.own {
             self.summary = summary_in(&counted).expect("a call keeps a list's length");
         }
         self.keep_board(board.own, &told);
-        (step, verdict)
+        let was_told = answer != bare(ACCEPTED);
+        Outcome { other: Some(step), board: was_told.then_some(answer), verdict }
     }
 
     fn set_up_board(&mut self) -> (Answer, Verdict) {
@@ -201,32 +279,31 @@ impl Walk {
             w = acts::any_number(&mut self.random, w);
         }
         let lent = boards::lent_board(&mut self.random, &self.board, 50);
-        let mut after = lent.numbers.clone();
-        let answer = expected::set_up_board(w, &mut after);
-        let verdict = calls::set_up_board(w, &lent.numbers, (answer, &after));
-        // one that is not set up would be refused for the rest of the walk
-        self.keep_board(answer.number == ACCEPTED, &after);
-        (answer, verdict.map_err(|what| format!("set up a board {w} on {:?}: {what}", lent.numbers)))
+        self.call_board(BoardCall::SetUp(w), lent)
     }
 
     fn add_to_board(&mut self) -> (Answer, Verdict) {
         let entry = boards::entry(&mut self.random, &self.board, self.table.clock);
         let lent = boards::lent_board(&mut self.random, &self.board, 20);
-        let mut after = lent.numbers.clone();
-        let answer = expected::add_to_board(&mut after, entry);
-        let verdict = calls::add_to_board(&lent.numbers, entry, (answer, &after));
-        self.keep_board(lent.own, &after);
-        (answer, verdict.map_err(|what| format!("add {entry:?} to the board {:?}: {what}", lent.numbers)))
+        self.call_board(BoardCall::Add(entry), lent)
     }
 
     fn show_board(&mut self) -> (Answer, Verdict) {
         let clock = boards::moment(&mut self.random, &self.board, self.table.clock);
         let lent = boards::lent_board(&mut self.random, &self.board, 20);
+        self.call_board(BoardCall::Show(clock), lent)
+    }
+
+    fn call_board(&mut self, call: BoardCall, lent: Made) -> (Answer, Verdict) {
         let mut after = lent.numbers.clone();
-        let answer = expected::show_board(&mut after, clock);
-        let verdict = calls::show_board(&lent.numbers, clock, (answer, &after));
-        self.keep_board(lent.own, &after);
-        (answer, verdict.map_err(|what| format!("show at {clock} the board {:?}: {what}", lent.numbers)))
+        let (answer, verdict) = boards::make(call, &mut after);
+        let own = match call {
+            // whatever it was before; and one that is not set up would be refused for the rest of the walk
+            BoardCall::SetUp(_) => answer.number == ACCEPTED,
+            _ => lent.own,
+        };
+        self.keep_board(own, &after);
+        (answer, verdict.map_err(|what| format!("{call:?} on the board {:?}: {what}", lent.numbers)))
     }
 
     /// The walk goes on from what is left of its own board.
