@@ -10,4 +10,5 @@ pub mod lent;
 pub mod lists;
 pub mod stored;
 pub mod tables;
+pub mod tally;
 pub mod texts;

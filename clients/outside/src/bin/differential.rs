@@ -7,8 +7,9 @@ use outside::calls::{self, Verdict};
 use outside::encoding::{summary_in, table_in};
 use outside::lists::{lent_summary, lent_table, Made};
 use outside::tables::start;
+use outside::tally::{of_board, of_other, Outcome, Tally};
 use outside::{acts, boards, expected, texts};
-use reference::answer::*;
+use reference::answer::{bare, Answer, ACCEPTED};
 use reference::board::Told;
 use reference::board_list::{BoardCall, FullList};
 use reference::generator::boards::{list, Family};
@@ -23,16 +24,8 @@ const SEED: u64 = 1;
 const LONGEST: u64 = 120;
 /// The calls of a list on one board.
 const LISTED: u64 = 6_000;
-/// Of so many walks one is such a list.
-const LISTS: u64 = 400;
-/// Differences beyond these are only counted.
-const SHOWN: u64 = 5;
-
-/// What all but boards may answer.
-const OTHERS: std::ops::RangeInclusive<u64> = ACCEPTED..=SHORT_OUTPUT;
-/// What a board may answer: set up, told of an entry, shown.
-const OF_BOARDS: [u64; 8] =
-    [ACCEPTED, NO_SUMMARY, BACKWARD, END_OF_CLOCK, NO_WINDOW, SHORT_OUTPUT, WIDTH, BOARD_FULL];
+/// Such a list stands in the place of the last of so many walks.
+const LISTS: u64 = 380;
 
 fn main() {
     let Some((count, seed)) = arguments() else {
@@ -42,27 +35,11 @@ fn main() {
     let mut tally = Tally::default();
     let mut index = 0;
     while tally.calls < count {
-        match index % LISTS {
-            0 => board_list(seed, index, count, &mut tally),
-            _ => walk(seed, index, count, &mut tally),
-        }
+        let make = if index % LISTS == LISTS - 1 { board_list } else { walk };
+        make(seed, index, count, &mut tally);
         index += 1;
     }
-    println!("answers: {}", tally.others.said(OTHERS));
-    println!("answers of boards: {}", tally.boards.said(OF_BOARDS));
-    let Tally { calls, differ, taken, refused, lists, listed, rounds, .. } = tally;
-    println!("accepted crits that a board was told of: it took {taken}, refused {refused}");
-    println!("lists of board calls: {lists}, of {listed} calls, which went around the places {rounds} times");
-    let missing = tally.others.missing(OTHERS) || tally.boards.missing(OF_BOARDS);
-    if missing {
-        println!("not every number of an answer came up");
-    }
-    let idle = taken == 0 || refused == 0 || rounds == 0;
-    if idle {
-        println!("no board took or refused the entry of a crit, or none went around its places");
-    }
-    println!("differential: {calls} calls, {differ} differ");
-    exit(if missing || idle || differ > 0 { 1 } else { 0 });
+    exit(if tally.report() { 0 } else { 1 });
 }
 
 fn arguments() -> Option<(u64, u64)> {
@@ -70,73 +47,6 @@ fn arguments() -> Option<(u64, u64)> {
     let count = words.next().unwrap_or(Ok(COUNT)).ok()?;
     let seed = words.next().unwrap_or(Ok(SEED)).ok()?;
     words.next().is_none().then_some((count, seed))
-}
-
-#[derive(Default)]
-struct Tally {
-    calls: u64,
-    differ: u64,
-    others: Answers,
-    boards: Answers,
-    /// accepted crits whose entries boards took and refused
-    taken: u64,
-    refused: u64,
-    /// lists on one board, their calls, and how often a first place came around the end
-    lists: u64,
-    listed: u64,
-    rounds: u64,
-}
-
-/// How often each number was due.
-#[derive(Default)]
-struct Answers([u64; BOARD_FULL as usize + 1]);
-
-impl Answers {
-    fn said(&self, due: impl IntoIterator<Item = u64>) -> String {
-        let times = due.into_iter().map(|number| format!("{number}: {}", self.0[number as usize]));
-        times.collect::<Vec<String>>().join(", ")
-    }
-
-    fn missing(&self, due: impl IntoIterator<Item = u64>) -> bool {
-        due.into_iter().any(|number| self.0[number as usize] == 0)
-    }
-}
-
-/// What is due from a call, of a board, of the rest or of both, and whether it and all else came.
-struct Outcome {
-    other: Option<Answer>,
-    board: Option<Answer>,
-    verdict: Verdict,
-}
-
-fn of_other((answer, verdict): (Answer, Verdict)) -> Outcome {
-    Outcome { other: Some(answer), board: None, verdict }
-}
-
-fn of_board((answer, verdict): (Answer, Verdict)) -> Outcome {
-    Outcome { other: None, board: Some(answer), verdict }
-}
-
-impl Tally {
-    fn count(&mut self, outcome: Outcome, place: impl Fn() -> String) {
-        let Outcome { other, board, verdict } = outcome;
-        self.calls += 1;
-        if let Some(answer) = other {
-            self.others.0[answer.number as usize] += 1;
-        }
-        if let Some(answer) = board {
-            self.boards.0[answer.number as usize] += 1;
-        }
-        if let (Some(_), Some(answer)) = (other, board) {
-            *(if answer.number == ACCEPTED { &mut self.taken } else { &mut self.refused }) += 1;
-        }
-        if let Err(difference) = verdict {
-            self.differ += 1;
-            if self.differ <= SHOWN {
-                println!("{}: {difference}", place());
-            }
-        }
-    }
 }
 
 /// Calls of one board from setting up on, each with the numbers that the one before left. The answers are also held to the request's own
@@ -153,6 +63,7 @@ fn board_list(seed: u64, index: u64, count: u64, tally: &mut Tally) {
         let first = numbers[2];
         let (answer, verdict) = boards::make(call, &mut numbers);
         let verdict = verdict.and(same(answer, full.answer(call)));
+        // a setting up makes it 0 too
         let around = numbers[2] < first && !matches!(call, BoardCall::SetUp(_));
         tally.rounds += u64::from(around);
         tally.count(of_board((answer, verdict)), || {
