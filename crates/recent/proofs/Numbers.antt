@@ -28,7 +28,7 @@ use Rattle.recent.proofs.Writes.{placed-length, placed-other, placed-el
 
 -- A call on numbers
 
--- [10.130] what is given back on a list l that tells a board, where r is what is given back on the board
+-- what is given back on numbers that tell a board, where r is what is given back on the board
 pub record Follows (r : BoardOutcome) (g : LentBoard) : Type 0 where
   pub answer : g .answer ≡ r .answer
   pub board : boardIn (g .board) ≡ r .board
@@ -110,7 +110,7 @@ module _ (l : List ℕ) (t : ℕ) (s : SoundNumbers l) where
       (ring-drop l (firstIn l) (countIn l) (countIn l - still) (s .inside) (omega arith) (s .room))
       ∙ ap (ringFrom l (firstAt l t)) rest)
 
-  -- [10.140] the ring after a showing
+  -- the ring after a showing
   shown-ring : ringFrom (shown l t) (firstAt l t) still ≡ countingAt (boardIn l .width) t (boardIn l .kept)
   shown-ring =
       ring-same (shown l t) l (firstAt l t) still first-still still-fits
@@ -127,7 +127,7 @@ module _ (l : List ℕ) (t : ℕ) (s : SoundNumbers l) where
     heads-board shown-heads first-still,
   )
 
-  -- [10.140] with room for one more, the ring after an adding
+  -- with room for one more, the ring after an adding
   module _ (p wait : ℕ) (room : still ≢ mostKept) where
     abbrev header : List ℕ
     header = headed l t (firstAt l t) (still + 1)

@@ -48,7 +48,6 @@ module _ (b : Board) (t : ℕ) where
       show-cases (Came b ((boardSound b ≡ true) × InTime b t) (keeps b t [])) (λ r n _. Came.refused n)
       (λ h. Came.accepted (board-sound-iff-plain b .1 (h .sound), h))
 
--- [4.7]
 pub is-process-iff : (p : ℕ) → (isProcess p ≡ true) ↔ IsProcess p
 is-process-iff p = (
   λ e. let h = and-true-iff (leb 1 p) _ .0 e in record { some = leb-true _ _ (h .0); most = leb-true _ _ (h .1) },

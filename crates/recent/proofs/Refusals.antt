@@ -122,7 +122,7 @@ pub no-board : NoBoard
 unfolding lentAdd lentShow
 no-board = record { add = λ l t p wait e. simp e; show = λ l t e. simp e }
 
--- [10.130] setting up is accepted on numbers where it is accepted and they are enough
+-- setting up is accepted on numbers where it is accepted and they are enough
 set-up-accepted : (w : ℕ) (l : List ℕ) → lentSetUp w l .answer .code ≡ 0 → WidthStands w × (boardLength ≤ length l)
 unfolding lentSetUp
 set-up-accepted w l z =

@@ -192,7 +192,7 @@ module _ (l : List ℕ) (t : ℕ) {rest : Rest} (gone : Rested l (firstIn l) (co
 -- A list that is longer tells the same as the numbers of a board at its front
 
 module _ (l : List ℕ) (long : boardLength ≤ length l) where
-  -- these
+  -- its front
   abbrev front : List ℕ
   front = take boardLength l
 

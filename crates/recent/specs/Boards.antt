@@ -73,7 +73,7 @@ unfoldable pub longestAt : ℕ → ℕ → List Entry → ℕ
 longestAt w clock [] = 0
 longestAt w clock (e ∷ es) = cond (counts w clock e) (max (e .wait) (longestAt w clock es)) (longestAt w clock es)
 
--- [10.50] the two as the answer of a success
+-- [10.50] [4.70] the two as the answer of a success
 abbrev pub figuresAt : ℕ → ℕ → List Entry → Answer
 figuresAt w clock es = answerOf 0 (howMany w clock es) (longestAt w clock es)
 
@@ -93,7 +93,7 @@ pub record BoardOutcome : Type 0 where
 abbrev pub outcomeWith : Answer → Board → BoardOutcome
 outcomeWith r b = record { answer = r; board = b }
 
--- [10.60] [10.65] [4.17]
+-- [10.60] [10.65] [4.17] [4.70]
 unfoldable pub setUpOf : ℕ → BoardOutcome
 setUpOf w = cond (widthStands w) (outcomeWith (answerOf 0 0 0) (boardOf w 0 [])) (outcomeWith (answerOf 17 0 0) (boardOf 0 0 []))
 

@@ -86,7 +86,7 @@ boardGave r board = record { answer = r; board = board }
 abbrev pub emptied : ℕ → List ℕ → List ℕ
 emptied w board = over (w ∷ 0 ∷ 0 ∷ 0 ∷ []) board
 
--- [10.130] [4.16] [4.17] `set_up`: too short a list stays, and 16 comes last; otherwise the header is that of the board, one that no call
+-- [10.130] [4.16] [4.17] [9.120] `set_up`: too short a list stays, and 16 comes last; otherwise the header is that of the board, one that no call
 -- accepts with 17
 unfoldable pub lentSetUp : ℕ → List ℕ → LentBoard
 lentSetUp w board =

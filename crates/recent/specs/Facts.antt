@@ -167,7 +167,7 @@ pub record NumbersFollow : Type 0 where
       → (lentSetUp w l .answer ≡ setUpOf w .answer) × (boardIn (lentSetUp w l .board) ≡ setUpOf w .board)
       × (isBoard (lentSetUp w l .board) ≡ true)
 
--- [10.100] [10.130] of setting up, where the list is too short
+-- [10.100] [10.130] [4.110] [9.120] of setting up, where the list is too short
 pub record RefusedBoardStays : Type 0 where
   pub add : (l : List ℕ) (t p wait : ℕ) → lentAdd l t p wait .answer .code ≢ 0 → lentAdd l t p wait .board ≡ l
   pub show : (l : List ℕ) (t : ℕ) → lentShow l t .answer .code ≢ 0 → lentShow l t .board ≡ l

@@ -79,6 +79,7 @@ pub record BoardPromise (w code : ℕ) (log : List Asked) (d : BoardCall) (l : L
   pub figures : code ≡ 0 → r .answer .code ≡ 0 → r .answer ≡ figuresAt w (d .time) (acceptedIn (asked d 0 ∷ log))
   -- [10.155]
   pub refused : code ≢ 0 → r .answer ≡ answerOf 2 0 0
+  -- [10.155]
   pub refused-stays : code ≢ 0 → r .board ≡ l
 
 -- helper: what each call of a list gave back, on the numbers that setting up W left

@@ -13,13 +13,13 @@ use Rattle.recent.proofs.Sights.{firstIn, countIn, sinceIn, no-sight, s
 use Rattle.recent.proofs.rings.look_kept.Statement.{statement}
 use Rattle.recent.proofs.rings.look_kept.Tie as tie
 
--- what the calls on the way have shown
 abbrev board-of : tie.Else1 → List ℕ
 board-of c = c .before .before .before .before .before .before .before .args .board .now
 
 abbrev time-of : tie.Else1 → ℕ
 time-of c = c .before .before .before .before .before .before .before .args .time
 
+-- what the calls on the way have shown
 rested : (c : tie.Else1)
     → Rested (board-of c) (firstIn (board-of c)) (countIn (board-of c)) (sinceIn (board-of c) (time-of c)) (c .before .rest-from .result)
 rested c = rw (c .before .before .since-at .ensures) at (c .before .rest-from .ensures .rested (c .if1 .left))
