@@ -49,8 +49,8 @@ fn entry_of(i: u64) -> [u64; 3] {
     [i, i % 96 + 1, i * 7919 % 1009]
 }
 
-/// Makes the calls of the chosen case, which go on where its start ends; each gets the board that the last gave back. A showing takes the
-/// moment alone. Gives back the sum of all answers, and the last board.
+/// Makes the calls of the chosen case, which go on where its start ends, each on what the one before left. A showing takes the moment
+/// alone. Gives back the sum of all answers, and the last board.
 pub fn run<T>(case: &Case, mut board: T, call: impl Fn(T, [u64; 3]) -> ([u64; 3], T)) -> (u64, T) {
     let mut sum = 0u64;
     for i in 0..calls(chosen()) {

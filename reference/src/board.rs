@@ -102,7 +102,7 @@ impl Board {
     }
 }
 
-/// [10.40] Above clock less W, or always while the clock is below W.
+/// [10.40] Taken apart, so that no sum wraps.
 fn counts(w: u64, clock: u64, entry: &Entry) -> bool {
     clock < w || entry.moment > clock - w
 }

@@ -61,7 +61,7 @@ fn widths() {
 }
 
 #[test]
-fn an_entry_counts_while_its_moment_is_above_clock_less_w() {
+fn an_entry_counts_up_to_its_moment_plus_w() {
     for (w, moment) in [(1, 0), (1, 7), (10, 0), (10, 5), (W_END, 0), (W_END, CLOCK_END - W_END)] {
         let mut board = told(w, &[moment]);
         assert_eq!(show(&mut board, moment), figures(1, 1));

@@ -37,9 +37,10 @@ same-length-4 c = search needs
 
 returns-2 : tie.Need-returns-2
 returns-2 c =
-    let a = c .before .before .before .before .before .before .before .before .before .before .before .before .before .before .before .before .args in
+    let stepped = c .before .before .before .before .before .before .before .before in
+    let a = stepped .before .before .before .before .before .before .before .before .args in
     tell-other (a .table .now) (a .summary .now) (a .board .now) (a .action) (a .process) (a .time)
-    (c .before .before .before .before .before .before .before .before .funnelfawn-record .ensures) (c .before .before .if1 .left) (c .before .if2 .taken) (c .alone2 .ensures)
+    (stepped .funnelfawn-record .ensures) (c .before .before .if1 .left) (c .before .if2 .taken) (c .alone2 .ensures)
 
 add-requires : tie.Need-add-requires
 add-requires c κs = search needs
@@ -55,10 +56,13 @@ same-length-7 c = search needs
 
 returns-3 : tie.Need-returns-3
 returns-3 c =
-    let a = c .before .before .before .before .before .before .before .before .before .before .before .before .before .before .before .before .before .before .before .args in
+    let entered = c .before .before .before .before in
+    let stepped = entered .before .before .before .before .before .before .before in
+    let waited = stepped .before .before .before in
+    let a = waited .before .before .before .before .before .args in
     tell-entered (a .table .now) (a .summary .now) (a .board .now) (a .action) (a .process) (a .time)
-    (c .before .before .before .before .before .before .before .before .before .before .before .funnelfawn-record .ensures) (c .before .before .before .before .before .if1 .left) (c .before .before .before .before .if2 .left)
-    (c .before .before .before .before .before .before .before .before .before .before .before .before .before .before .wait-in .ensures) (c .before .before .add .ensures)
+    (stepped .funnelfawn-record .ensures) (entered .before .if1 .left) (entered .if2 .left) (waited .wait-in .ensures)
+    (c .before .before .add .ensures)
 
 pub funnelfawn-record-and-tell-spec : {M : Type 1} → statement M
 funnelfawn-record-and-tell-spec =

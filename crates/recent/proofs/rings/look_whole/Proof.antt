@@ -55,12 +55,16 @@ shared-slice-read-t12 c = search needs
 
 returns-4 : tie.Need-returns-4
 returns-4 c =
+    let past2 = c .before .before .before .before .before in
+    let past1 = past2 .before .before in
     sight _ _ refl
-    (empty-seen _ _ (c .before .if4 .taken) (omega (arith, c .before .before .before .before .before .before .before .before .before .before .before .pre)) (c .before .before .before .before .before .if2 .left) (width-is (c .before .before .before .before .before .before .before)))
+    (empty-seen _ _ (c .before .if4 .taken) (omega (arith, past1 .before .before .before .before .pre)) (past2 .if2 .left) (width-is past1))
 
 look-kept-requires : tie.Need-look-kept-requires
 look-kept-requires c κs =
-    (search needs, record { width = width-is (c .before .before .before .before .before .before); inside = c .before .before .before .before .if2 .left; room = c .before .before .if3 .left })
+    let past3 = c .before .before in
+    let past2 = past3 .before .before in
+    (search needs, record { width = width-is (past2 .before .before); inside = past2 .if2 .left; room = past3 .if3 .left })
 
 returns-5 : tie.Need-returns-5
 returns-5 c = search needs
