@@ -29,16 +29,16 @@ use Rattle.recent.proofs.Writes.{placed-length, placed-other, placed-el
 -- A call on numbers
 
 -- what is given back on numbers that tell a board, where r is what is given back on the board
-pub record Follows (r : BoardOutcome) (g : LentBoard) : Type 0 where
-  pub answer : g .answer ≡ r .answer
-  pub board : boardIn (g .board) ≡ r .board
-  pub tells : isBoard (g .board) ≡ true
+record Agrees (r : BoardOutcome) (g : LentBoard) : Type 0 where
+  answer : g .answer ≡ r .answer
+  board : boardIn (g .board) ≡ r .board
+  tells : isBoard (g .board) ≡ true
 
 module _ (l after : List ℕ) (board : isBoard l ≡ true) {Good : Type 0} {good : BoardOutcome} (fine : good .answer .code ≡ 0) where
-  follows : {r : BoardOutcome} → Came (boardIn l) Good good r → (Good → (boardIn after ≡ good .board) × (isBoard after ≡ true))
-      → Follows r (onNumbers l (r .answer) after)
-  follows (Came.refused n) h = simp (board, ne-eqb _ _ n) (record { answer = refl; board = refl; tells = board })
-  follows (Came.accepted g) h = simp (board, eq-eqb _ _ fine) (record { answer = refl; board = h g .0; tells = h g .1 })
+  agrees : {r : BoardOutcome} → Came (boardIn l) Good good r → (Good → (boardIn after ≡ good .board) × (isBoard after ≡ true))
+      → Agrees r (onNumbers l (r .answer) after)
+  agrees (Came.refused n) h = simp (board, ne-eqb _ _ n) (record { answer = refl; board = refl; tells = board })
+  agrees (Came.accepted g) h = simp (board, eq-eqb _ _ fine) (record { answer = refl; board = h g .0; tells = h g .1 })
 
 -- What the numbers of a written header tell
 
@@ -163,15 +163,15 @@ module _ (l : List ℕ) (t : ℕ) (s : SoundNumbers l) where
 
 -- The calls
 
-show-follows : (l : List ℕ) (t : ℕ) → isBoard l ≡ true → Follows (showOf (boardIn l) t) (lentShow l t)
+show-agrees : (l : List ℕ) (t : ℕ) → isBoard l ≡ true → Agrees (showOf (boardIn l) t) (lentShow l t)
 unfolding lentShow
-show-follows l t board =
-    follows l (shown l t) board refl (show-came (boardIn l) t) (λ g. shown-follows l t (sound-numbers l board (g .0)))
+show-agrees l t board =
+    agrees l (shown l t) board refl (show-came (boardIn l) t) (λ g. shown-follows l t (sound-numbers l board (g .0)))
 
-add-follows : (l : List ℕ) (t p wait : ℕ) → isBoard l ≡ true → Follows (addOf (boardIn l) t p wait) (lentAdd l t p wait)
+add-agrees : (l : List ℕ) (t p wait : ℕ) → isBoard l ≡ true → Agrees (addOf (boardIn l) t p wait) (lentAdd l t p wait)
 unfolding lentAdd
-add-follows l t p wait board =
-    follows l (added l t p wait) board refl (add-came (boardIn l) t p wait) (λ g. added-follows l t (sound-numbers l board (g .0)) p wait (g .1 .room))
+add-agrees l t p wait board =
+    agrees l (added l t p wait) board refl (add-came (boardIn l) t p wait) (λ g. added-follows l t (sound-numbers l board (g .0)) p wait (g .1 .room))
 
 heads-emptied : (w : ℕ) (l : List ℕ) → boardLength ≤ length l → Heads (emptied w l) w 0 0 0
 heads-emptied w l fits = record {
@@ -182,27 +182,27 @@ heads-emptied w l fits = record {
   count = refl;
 }
 
-empty-follows : (r : Answer) (w : ℕ) (l : List ℕ) → boardLength ≤ length l → Follows (outcomeWith r (boardOf w 0 [])) (boardGave r (emptied w l))
-empty-follows r w l fits = record {
+empty-agrees : (r : Answer) (w : ℕ) (l : List ℕ) → boardLength ≤ length l → Agrees (outcomeWith r (boardOf w 0 [])) (boardGave r (emptied w l))
+empty-agrees r w l fits = record {
   answer = refl;
   board = heads-in (heads-emptied w l fits) ∙ ap (boardOf w 0) (ring-none (emptied w l) 0 (omega arith));
   tells = heads-board (heads-emptied w l fits) (omega arith);
 }
 
-set-up-follows : (w : ℕ) (l : List ℕ) → boardLength ≤ length l → Follows (setUpOf w) (lentSetUp w l)
+set-up-agrees : (w : ℕ) (l : List ℕ) → boardLength ≤ length l → Agrees (setUpOf w) (lentSetUp w l)
 unfolding lentSetUp setUpOf
-set-up-follows w l fits =
+set-up-agrees w l fits =
     simp (le-leb _ _ fits)
-    (by-cond (λ (r : BoardOutcome). Follows r (boardGave (r .answer) (emptied (r .board .width) l))) (widthStands w)
-    (λ _. empty-follows (answerOf 0 0 0) w l fits)
-    (λ _. empty-follows (answerOf 17 0 0) 0 l fits))
+    (by-cond (λ (r : BoardOutcome). Agrees r (boardGave (r .answer) (emptied (r .board .width) l))) (widthStands w)
+    (λ _. empty-agrees (answerOf 0 0 0) w l fits)
+    (λ _. empty-agrees (answerOf 17 0 0) 0 l fits))
 
-follows-all : {r : BoardOutcome} {g : LentBoard} → Follows r g → (g .answer ≡ r .answer) × (boardIn (g .board) ≡ r .board) × (isBoard (g .board) ≡ true)
-follows-all f = (f .answer, f .board, f .tells)
+agrees-all : {r : BoardOutcome} {g : LentBoard} → Agrees r g → (g .answer ≡ r .answer) × (boardIn (g .board) ≡ r .board) × (isBoard (g .board) ≡ true)
+agrees-all f = (f .answer, f .board, f .tells)
 
 pub numbers-follow : NumbersFollow
 numbers-follow = record {
-  add = λ l t p wait board. follows-all (add-follows l t p wait board);
-  show = λ l t board. follows-all (show-follows l t board);
-  set-up = λ w l fits. follows-all (set-up-follows w l fits);
+  add = λ l t p wait board. agrees-all (add-agrees l t p wait board);
+  show = λ l t board. agrees-all (show-agrees l t board);
+  set-up = λ w l fits. agrees-all (set-up-agrees w l fits);
 }

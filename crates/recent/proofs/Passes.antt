@@ -45,10 +45,10 @@ unfolding latest
 latest-append t [] ds = refl
 latest-append t (e ∷ es) ds = latest-append (e .time) es ds
 
-pub longest-append : (longest : ℕ) (es ds : List Entry) → longestOver longest (es ++ ds) ≡ longestOver (longestOver longest es) ds
+pub over-append : (longest : ℕ) (es ds : List Entry) → longestOver longest (es ++ ds) ≡ longestOver (longestOver longest es) ds
 unfolding longestOver
-longest-append longest [] ds = refl
-longest-append longest (e ∷ es) ds = longest-append (max longest (e .wait)) es ds
+over-append longest [] ds = refl
+over-append longest (e ∷ es) ds = over-append (max longest (e .wait)) es ds
 
 -- The last time
 

@@ -7,7 +7,7 @@ use Rattle.model.proofs.Tests.{clash}
 use Rattle.recent.specs.declared.rings.Pass.{Pass}
 use Rattle.recent.specs.Boards.{Entry, inOrder}
 use Rattle.recent.specs.Looking.{latest, longestOver, Passed, Passes}
-use Rattle.recent.proofs.Passes.{order-next, order-falls, order-append, latest-append, longest-append}
+use Rattle.recent.proofs.Passes.{order-next, order-falls, order-append, latest-append, over-append}
 
 -- of the entries `all` those in `left` are left, after the time and the longest wait so far; the pass began with time₀ and longest₀
 pub record Passing (all : List Entry) (time₀ longest₀ : ℕ) (left : List Entry) (time longest : ℕ) : Type 0 where
@@ -66,6 +66,6 @@ module _ {es : List Entry} (ds : List Entry) {pass mid : Pass} where
         passed = λ e. record {
           order = order-both first ∙ q .passed e .order;
           latest-is = q .passed e .latest-is ∙ rw (first .latest-is) (sym (latest-append (pass .time) es ds));
-          longest-is = q .passed e .longest-is ∙ rw (first .longest-is) (sym (longest-append (pass .longest) es ds));
+          longest-is = q .passed e .longest-is ∙ rw (first .longest-is) (sym (over-append (pass .longest) es ds));
         };
       }
