@@ -12,7 +12,7 @@ use Rattle.model.specs.declared.Parameters.{Parameters}
 use Rattle.model.specs.declared.State.{State}
 use Rattle.model.specs.declared.Statistics.{Statistics}
 use Rattle.model.specs.declared.Recorded.{Recorded}
-use Rattle.model.specs.Acts.{waitAct}
+use Rattle.model.specs.Acts.{waitAct, withdrawAct}
 use Rattle.model.specs.States.{lastTime}
 use Rattle.model.specs.Answers.{answerOf, freshOf}
 use Rattle.model.specs.Facts.{HasDeadline}
@@ -169,7 +169,8 @@ pub record LentNotStuck (s : State) (table : List ℕ) : Type 0 where
   pub waits : s .clock < lastTime
       → (lentStep table waitAct 0 (s .clock + 1) .answer .code ≡ 0) ↔ ((i : ℕ) → HasDeadline s i (s .clock) → ⊥)
   -- [8.120]
-  pub acts : (i : ℕ) → HasDeadline s i (s .clock) → (act : ℕ) × (lentStep table act i (s .clock) .answer .code ≡ 0)
+  pub acts : (i : ℕ) → HasDeadline s i (s .clock)
+      → (act : ℕ) × (act ≢ withdrawAct) × (lentStep table act i (s .clock) .answer .code ≡ 0)
 
 -- [9.140] from the table s, in numbers before `rest`, the calls gave back the numbers of results that meet demand 3
 pub record LentDemand3 (s : State) (table rest : List ℕ) (ds : List LentCall) : Type 0 where

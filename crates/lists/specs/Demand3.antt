@@ -3,16 +3,17 @@
 use Prim.Native.Nat.{ℕ, _+_, _*_, _≤_, _<_}
 use mathlib.Core.Path.{_≡_}
 use mathlib.Core.Logic.{_⊎_, _≢_, _↔_}
-use mathlib.Core.Bool.{true}
+use mathlib.Core.Bool.{true, false}
 use mathlib.Core.List.{List, [], _∷_, _++_}
 use Rattle.model.specs.declared.Parameters.{Parameters}
 use Rattle.model.specs.declared.State.{State}
 use Rattle.model.specs.declared.Outcome.{Outcome}
 use Rattle.model.specs.declared.Recorded.{Recorded}
-use Rattle.model.specs.States.{lastTime, soundOf}
-use Rattle.model.specs.Acts.{waitAct, critAct}
+use Rattle.model.specs.States.{lastTime, parametersOf, initial, soundOf}
+use Rattle.model.specs.Acts.{waitAct, tryAct, critAct, withdrawAct}
 use Rattle.model.specs.Answers.{stepOf}
 use Rattle.model.specs.Facts.{Accepted, IsFresh, IsCritical, IsTrying, HasDeadline}
+use Rattle.model.specs.Summaries.{newStatistics}
 use Rattle.model.specs.Calls.{Call, outcomeOf, tableOf, runOf, resultsOf}
 
 -- The owed wait
@@ -33,11 +34,23 @@ pub record Span (s : State) (w : ℕ) (ds : List Call) : Type 0 where
   pub none : (i : ℕ) → IsCritical s i → ⊥
   pub calls : InSpan s ds
 
--- [8.80] [8.85] whoever is trying, no span of the list ds from s on is longer than the bound. The list is cut where the span starts,
--- and at a point of the span.
+-- [8.78] the call d takes process w out of the line
+pub record Withdraws (s : State) (w : ℕ) (d : Call) : Type 0 where
+  pub withdraw : d .action ≡ withdrawAct
+  pub own : d .process ≡ w
+  pub accepted : Accepted (outcomeOf s d)
+
+-- [8.78] none of the calls from s on is a withdraw of process w that is accepted
+abbrev pub NotWithdrawn : State → ℕ → List Call → Type 0
+NotWithdrawn s w [] = Unit {0}
+NotWithdrawn s w (d ∷ ds) = (Withdraws s w d → ⊥) × NotWithdrawn (tableOf s d) w ds
+
+-- [8.78] [8.80] [8.85] at a point of a span of the list ds from s on the clock is within the bound if some process w that was trying at the
+-- span's start has not withdrawn since. The list is cut where the span starts, and at the point.
 abbrev pub OwedWithin : ℕ → State → List Call → Type 0
 OwedWithin bound s ds = (before during after : List Call) (w : ℕ) → ds ≡ before ++ during ++ after
     → Span (runOf s before) w during
+    → NotWithdrawn (runOf s before) w during
     → runOf s (before ++ during) .clock ≤ runOf s before .clock + bound
 
 -- [8.80] the bound
@@ -67,9 +80,9 @@ abbrev pub WaitsUnlessDue : State → Type 0
 WaitsUnlessDue s = s .clock < lastTime
     → Accepted (stepOf s waitAct 0 (s .clock + 1)) ↔ ((i : ℕ) → HasDeadline s i (s .clock) → ⊥)
 
--- [8.120] at the clock's end too
+-- [8.120] at the clock's end too, and without leaving the line
 abbrev pub DueMayAct : State → Type 0
-DueMayAct s = (i : ℕ) → HasDeadline s i (s .clock) → (act : ℕ) × Accepted (stepOf s act i (s .clock))
+DueMayAct s = (i : ℕ) → HasDeadline s i (s .clock) → (act : ℕ) × (act ≢ withdrawAct) × Accepted (stepOf s act i (s .clock))
 
 -- The whole
 
@@ -93,6 +106,35 @@ pub record Demand3 (s : State) (ds : List Call) (rs : List Recorded) (t : State)
 -- [8.10] [8.20] [8.130] of every list ds from a fresh table
 abbrev pub EveryList : Type 0
 EveryList = (s : State) → IsFresh s → (ds : List Call) → Demand3 s ds (resultsOf s ds) (runOf s ds)
+
+-- What the condition of [8.78] gives up, and that it is no more
+
+-- [8.142] the owed wait without it: whoever is trying at its start, a span stays within the bound
+abbrev pub OwedToAll : ℕ → State → List Call → Type 0
+OwedToAll bound s ds = (before during after : List Call) (w : ℕ) → ds ≡ before ++ during ++ after
+    → Span (runOf s before) w during
+    → runOf s (before ++ during) .clock ≤ runOf s before .clock + bound
+
+-- [8.142] no call of a list is a withdraw that is accepted
+abbrev pub NobodyWithdraws : State → List Call → Type 0
+NobodyWithdraws s ds = (w : ℕ) → NotWithdrawn s w ds
+
+-- [8.142] of every list from a fresh table in which nobody withdraws
+abbrev pub OwedUnlessWithdrawn : Type 0
+OwedUnlessWithdrawn = (s : State) → IsFresh s → (ds : List Call) → NobodyWithdraws s ds → OwedToAll (owedWait (s .parameters)) s ds
+
+-- helper: a step, as a call
+abbrev pub stepCall : ℕ → ℕ → ℕ → Call
+stepCall act p m = record { recorded = false; action = act; process = p; time = m; lent = newStatistics }
+
+-- [8.144] both processes try, both withdraw, and the clock runs on
+abbrev pub allWithdraw : List Call
+allWithdraw =
+    stepCall tryAct 1 0 ∷ stepCall tryAct 2 0 ∷ stepCall withdrawAct 1 3 ∷ stepCall withdrawAct 2 5 ∷ stepCall waitAct 0 50 ∷ []
+
+-- [8.144] 50 is 1 more than 2c + 5a
+abbrev pub WithdrawnAreNotOwed : Type 0
+WithdrawnAreNotOwed = let k = parametersOf 2 5 8 12 in OwedToAll (owedWait k) (initial k) allWithdraw → ⊥
 
 -- [2.135] [8.90] that the table is sound would not be enough: two processes may be critical in it
 abbrev pub SoundIsNotEnough : Type 0

@@ -10,7 +10,7 @@ use Rattle.model.specs.declared.Location.the-variants.{Remainder, Testin
 use Rattle.model.specs.declared.Process.{Process}
 use Rattle.model.specs.declared.State.{State}
 use Rattle.model.specs.declared.Transition.{Transition}
-use Rattle.model.specs.Acts.{waitAct, tryAct, testAct, setAct, checkAct, critAct, exitAct, resetAct, remAct, leaves}
+use Rattle.model.specs.Acts.{waitAct, tryAct, testAct, setAct, checkAct, critAct, exitAct, resetAct, remAct, withdrawAct, leaves}
 use Rattle.model.specs.States.{entry}
 
 -- The table, row by row
@@ -59,6 +59,10 @@ resetRow s p m = row (leaves resetAct) (Leaving m) 0
 abbrev pub remRow : State → ℕ → ℕ → Transition
 remRow s p m = row (leaves remAct) Remainder (s .word)
 
+-- [3.9]
+abbrev pub withdrawRow : State → ℕ → ℕ → Transition
+withdrawRow s p m = row (leaves withdrawAct) Remainder (s .word)
+
 -- [3.40] the row of an action from `tryAct` on
 unfoldable pub transitionOf : State → ℕ → ℕ → ℕ → Transition
 transitionOf s act p m =
@@ -69,7 +73,8 @@ transitionOf s act p m =
     (cond (eqb act critAct) (critRow s p m)
     (cond (eqb act exitAct) (exitRow s p m)
     (cond (eqb act resetAct) (resetRow s p m)
-    (remRow s p m)))))))
+    (cond (eqb act remAct) (remRow s p m)
+    (withdrawRow s p m))))))))
 
 -- What an accepted action makes of the state
 

@@ -41,11 +41,15 @@ resetAct = 7
 abbrev pub remAct : ℕ
 remAct = 8
 
+-- [3.9]
+abbrev pub withdrawAct : ℕ
+withdrawAct = 9
+
 -- [3.40] the last
 abbrev pub lastAct : ℕ
-lastAct = remAct
+lastAct = withdrawAct
 
--- [3.1] [3.2] [3.3] [3.4] [3.5] [3.6] [3.7] [3.8] the stage that an action from `tryAct` on leaves
+-- [3.1] [3.2] [3.3] [3.4] [3.5] [3.6] [3.7] [3.8] [3.9] the stage that an action from `tryAct` on leaves
 unfoldable pub leaves : ℕ → ℕ
 leaves act =
     cond (eqb act tryAct) remainder
@@ -55,4 +59,5 @@ leaves act =
     (cond (eqb act critAct) entering
     (cond (eqb act exitAct) critical
     (cond (eqb act resetAct) resetting
-    leaving))))))
+    (cond (eqb act remAct) leaving
+    testing)))))))

@@ -10,7 +10,7 @@ use Rattle.model.specs.declared.Outcome.{Outcome}
 use Rattle.model.specs.declared.Counts.{Counts}
 use Rattle.model.specs.declared.Statistics.{Statistics}
 use Rattle.model.specs.declared.Recorded.{Recorded}
-use Rattle.model.specs.Acts.{tryAct, critAct, exitAct}
+use Rattle.model.specs.Acts.{tryAct, critAct, exitAct, withdrawAct}
 use Rattle.model.specs.States.{lastTime, soundOf}
 use Rattle.model.specs.Answers.{answers, stepOf}
 
@@ -99,7 +99,7 @@ waitOf x p m = waitFrom (triedAt x p) m
 
 -- [5.80] the try time of the acting process after its action
 abbrev pub triedAfter : ℕ → ℕ → ℕ → ℕ
-triedAfter tried act m = cond (eqb act tryAct) m (cond (eqb act critAct) 0 tried)
+triedAfter tried act m = cond (eqb act tryAct) m (cond (eqb act critAct) 0 (cond (eqb act withdrawAct) 0 tried))
 
 -- [5.80] the try times after an action of process p; a wait is of process 0, and changes none
 abbrev pub triesAfter : List ℕ → ℕ → ℕ → ℕ → List ℕ

@@ -50,7 +50,8 @@ numberBound = 100_000_000
 -- [6.70] the words of the actions from 0 on
 abbrev pub words : List (List ℕ)
 words =
-    bytes "wait" ∷ bytes "try" ∷ bytes "test" ∷ bytes "set" ∷ bytes "check" ∷ bytes "crit" ∷ bytes "exit" ∷ bytes "reset" ∷ bytes "rem" ∷ []
+    bytes "wait" ∷ bytes "try" ∷ bytes "test" ∷ bytes "set" ∷ bytes "check" ∷ bytes "crit" ∷ bytes "exit" ∷ bytes "reset" ∷ bytes "rem"
+    ∷ bytes "withdraw" ∷ []
 
 -- [6.70] the word of an action, with the end of its line
 unfoldable pub wordText : ℕ → List ℕ

@@ -8,7 +8,8 @@ use lib.ListN.{length}
 use Rattle.model.specs.declared.Location.{Location}
 use Rattle.model.specs.declared.Location.the-variants.{Remainder, Testing, Setting, Checking, Entering, Critical, Resetting, Leaving}
 use Rattle.model.specs.declared.State.{State}
-use Rattle.model.specs.Acts.{waitAct, tryAct, testAct, setAct, checkAct, critAct, exitAct, resetAct, remAct}
+use Rattle.model.specs.declared.Outcome.{Outcome}
+use Rattle.model.specs.Acts.{waitAct, tryAct, testAct, setAct, checkAct, critAct, exitAct, resetAct, remAct, withdrawAct}
 use Rattle.model.specs.States.{lastTime, entryOf, soundOf}
 use Rattle.model.specs.Answers.{stepOf}
 use Rattle.model.specs.Facts.{Accepted, HasDeadline}
@@ -31,6 +32,8 @@ pub data From (b m : ℕ) : ℕ → Location → Type 0 where
   reset : {t : ℕ} → From b m resetAct (Resetting t)
   -- [3.8]
   rem : {t : ℕ} → From b m remAct (Leaving t)
+  -- [3.9]
+  withdraw : {t : ℕ} → From b m withdrawAct (Testing t)
 
 -- [3.60] where an act of process p at the time m leads at the word w, and the word after it; m is the since wherever there is one
 pub data Effect (p m : ℕ) : ℕ → ℕ → Location → ℕ → Type 0 where
@@ -54,6 +57,8 @@ pub data Effect (p m : ℕ) : ℕ → ℕ → Location → ℕ → Type 0 where
   reset : {w : ℕ} → Effect p m resetAct w (Leaving m) 0
   -- [3.8]
   rem : {w : ℕ} → Effect p m remAct w Remainder w
+  -- [3.9]
+  withdraw : {w : ℕ} → Effect p m withdrawAct w Remainder w
 
 -- [3.0] [3.80] a wait, which is of no process
 pub record Waits (act p : ℕ) : Type 0 where
@@ -97,6 +102,25 @@ NextIsChanged = (s : State) → length (s .processes) ≡ 96 → (act p m : ℕ)
 -- [4.110] the state, in a step without a summary
 abbrev pub RefusedStays : Type 0
 RefusedStays = (s : State) (act p m : ℕ) → stepOf s act p m .answer .code ≢ 0 → stepOf s act p m .state ≡ s
+
+-- A try that is taken back
+
+-- [3.95] s′ is s but for the clock, which is m
+pub record ClockOnly (s : State) (m : ℕ) (s′ : State) : Type 0 where
+  pub parameters-stay : s′ .parameters ≡ s .parameters
+  pub clock-is : s′ .clock ≡ m
+  pub word-stays : s′ .word ≡ s .word
+  pub entries-stay : s′ .processes ≡ s .processes
+
+-- [3.95] of a try of process p at the time m in the state s, the withdraw of p at m directly after it
+pub record TakenBack (s : State) (p m : ℕ) (o : Outcome) : Type 0 where
+  pub accepted : Accepted o
+  pub state : ClockOnly s m (o .state)
+
+-- [3.95] for a state of 96 entries, as each of the code is; it is sound, as the try is accepted
+abbrev pub WithdrawUndoesTry : Type 0
+WithdrawUndoesTry = (s : State) → length (s .processes) ≡ 96 → (p m : ℕ) → Accepted (stepOf s tryAct p m)
+    → TakenBack s p m (stepOf (stepOf s tryAct p m .state) withdrawAct p m)
 
 -- [3.90] of any state, sound or not
 abbrev pub WaitNowChangesNothing : Type 0

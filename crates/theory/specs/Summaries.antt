@@ -9,7 +9,7 @@ use Rattle.model.specs.declared.State.{State}
 use Rattle.model.specs.declared.Counts.{Counts}
 use Rattle.model.specs.declared.Statistics.{Statistics}
 use Rattle.model.specs.declared.Recorded.{Recorded}
-use Rattle.model.specs.Acts.{tryAct, critAct, exitAct}
+use Rattle.model.specs.Acts.{tryAct, critAct, exitAct, withdrawAct}
 use Rattle.model.specs.States.{lastTime, soundOf}
 use Rattle.model.specs.Answers.{answerOf, stepOf}
 use Rattle.theory.specs.Soundness.{Sound}
@@ -85,8 +85,10 @@ pub data Counting (m : ℕ) : (act entries exits longest tried : ℕ) → (entri
   crit : {e x l t w : ℕ} → t + w ≡ m → w ≤ l → Counting m critAct e x l t (e + 1) x l 0
   -- [5.70]
   exit : {e x l t : ℕ} → Counting m exitAct e x l t e (x + 1) l t
+  -- [5.70] [5.80]
+  withdraw : {e x l t : ℕ} → Counting m withdrawAct e x l t e x l 0
   -- [5.70] [5.80] any other act
-  other : {act e x l t : ℕ} → act ≢ tryAct → act ≢ critAct → act ≢ exitAct → Counting m act e x l t e x l t
+  other : {act e x l t : ℕ} → act ≢ tryAct → act ≢ critAct → act ≢ exitAct → act ≢ withdrawAct → Counting m act e x l t e x l t
 
 -- [5.70] [5.80] [5.90] y is the summary x with the accepted act of process p at the time m counted
 pub record AcceptedAdded (act p m : ℕ) (x y : Statistics) : Type 0 where
