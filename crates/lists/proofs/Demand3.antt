@@ -31,9 +31,9 @@ abbrev LeavesRoom : Parameters → ℕ → Type 0
 LeavesRoom k B = (s : State) (w : ℕ) (ds : List Call) → Guarded k s → Span s w ds → Room (lockOf k) (viewOf s) w B
 
 owed-within : {k : Parameters} {s : State} {B : ℕ} → LeavesRoom k B → Guarded k s → (ds : List Call) → OwedWithin B s ds
-owed-within {s = s} {B = B} room g ds before during after w e span =
+owed-within {s = s} {B = B} room g ds before during after w e span stays =
     let g′ = run-guarded before g in
-    rw (end-append callOf handedOn s before during) (wait-within B g′ span (room (runOf s before) w during g′ span))
+    rw (end-append callOf handedOn s before during) (wait-within B g′ span stays (room (runOf s before) w during g′ span))
 
 -- 2c + 5a leaves room; as a < c, even 2c + 4a would
 owed-room : {k : Parameters} → LeavesRoom k (owedWait k)

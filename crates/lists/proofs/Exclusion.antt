@@ -57,7 +57,7 @@ module _ {L : Lock} {x y : View} {act p m : ℕ} (move : Move x y act p m) (inv 
   comes : Comes x y p m
   comes = move .comes
 
-  goes : Goes x y p
+  goes : Goes x y act p
   goes = move .goes
 
   -- only an owner resets the word

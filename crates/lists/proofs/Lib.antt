@@ -12,3 +12,4 @@ pub mod Guarded
 pub mod Progress
 pub mod Spans
 pub mod Demand3
+pub mod Withdrawals

@@ -31,6 +31,7 @@ from-left From.crit = omega arith
 from-left From.exit = omega arith
 from-left From.reset = omega arith
 from-left From.rem = omega arith
+from-left From.withdraw = omega arith
 
 -- the views before and after an act of process p that leads from the location k and the word w to the location l and the word w′
 record Leads (x y : View) (p : ℕ) (k : Location) (w : ℕ) (l : Location) (w′ : ℕ) : Type 0 where
@@ -42,12 +43,12 @@ record Leads (x y : View) (p : ℕ) (k : Location) (w : ℕ) (l : Location) (w�
   writes : y .word ≡ w′
 
 -- the parts of a move that tell of the process that acts
-record Turn (x y : View) (p m : ℕ) : Type 0 where
+record Turn (x y : View) (act p m : ℕ) : Type 0 where
   comes : Comes x y p m
-  goes : Goes x y p
+  goes : Goes x y act p
 
 effect-turn : {x y : View} {b m act p w w′ : ℕ} {k l : Location} → From b m act k → Effect p m act w l w′ → Leads x y p k w l w′
-    → Turn x y p m
+    → Turn x y act p m
 effect-turn From.try Effect.try h = omega arith
 effect-turn From.test Effect.test-free h = omega arith
 effect-turn From.test (Effect.test-taken n) h = omega arith
@@ -58,6 +59,7 @@ effect-turn From.crit Effect.crit h = omega arith
 effect-turn From.exit Effect.exit h = omega arith
 effect-turn From.reset Effect.reset h = omega arith
 effect-turn From.rem Effect.rem h = omega arith
+effect-turn From.withdraw Effect.withdraw h = omega arith
 
 -- The limits
 
@@ -74,10 +76,10 @@ module _ {s : State} {act p m : ℕ} (allowed : Allowed s act p m) where
 -- The move
 
 module _ {s s′ : State} {act p m : ℕ} (sound : Sound s) (allowed : Allowed s act p m) (changed : Changed s act p m s′) where
-  wait-turn : Waits act p → Turn (viewOf s) (viewOf s′) p m
+  wait-turn : Waits act p → Turn (viewOf s) (viewOf s′) act p m
   wait-turn w = let e = changed .wait-keeps (w .wait) in rw (w .nobody) (omega arith)
 
-  act-turn : Acts s act p m → Turn (viewOf s) (viewOf s′) p m
+  act-turn : Acts s act p m → Turn (viewOf s) (viewOf s′) act p m
   act-turn a = effect-turn (a .from) (changed .effect (from-ready (a .from) .not-wait)) (record {
     some = a .some;
     leaves = ap rankOf (location-of s p (a .some));
@@ -87,7 +89,7 @@ module _ {s s′ : State} {act p m : ℕ} (sound : Sound s) (allowed : Allowed s
     writes = refl;
   })
 
-  turn : Turn (viewOf s) (viewOf s′) p m
+  turn : Turn (viewOf s) (viewOf s′) act p m
   turn = ⊎-elim wait-turn act-turn (allowed .turn)
 
   others-same : (j : ℕ) → j ≢ p → Same (viewOf s) (viewOf s′) j

@@ -2,11 +2,11 @@
 -- act. Assumes nothing.
 use Prim.Native.Nat.{ℕ, _+_, _≤_}
 use mathlib.Core.Path.{refl, subst}
-use mathlib.Core.Logic.{inl, inr, _↔_}
+use mathlib.Core.Logic.{inl, inr, _≢_, _↔_}
 use native.Mathlib.Omega.{arith}
 use Rattle.model.specs.declared.Location.{Location}
 use Rattle.model.specs.declared.State.{State}
-use Rattle.model.specs.Acts.{waitAct, testAct, setAct, checkAct, critAct, resetAct, remAct}
+use Rattle.model.specs.Acts.{waitAct, testAct, setAct, checkAct, critAct, resetAct, remAct, withdrawAct}
 use Rattle.model.specs.Answers.{stepOf}
 use Rattle.model.specs.Facts.{Accepted, Deadline, HasDeadline}
 use Rattle.theory.specs.Soundness.{Sound}
@@ -16,14 +16,14 @@ use Rattle.model.proofs.Tests.{if-eq, if-lt}
 use Rattle.theory.proofs.Soundness.{sound-iff-plain}
 use Rattle.theory.proofs.Acceptance.{accepted-iff-allowed}
 
--- where a location has a deadline it has an act, which by then is no longer early
-due-from : {a b c m : ℕ} {l : Location} → b ≤ c → Deadline a c l m → (act : ℕ) × From b m act l
-due-from h Deadline.testing = (testAct, From.test)
-due-from h Deadline.setting = (setAct, From.set)
-due-from h (Deadline.checking {t = t}) = (checkAct, From.check {t = t} (omega arith))
-due-from h Deadline.entering = (critAct, From.crit)
-due-from h Deadline.resetting = (resetAct, From.reset)
-due-from h Deadline.leaving = (remAct, From.rem)
+-- where a location has a deadline it has an act that leads on, which by then is no longer early
+due-from : {a b c m : ℕ} {l : Location} → b ≤ c → Deadline a c l m → (act : ℕ) × (act ≢ withdrawAct) × From b m act l
+due-from h Deadline.testing = (testAct, omega arith, From.test)
+due-from h Deadline.setting = (setAct, omega arith, From.set)
+due-from h (Deadline.checking {t = t}) = (checkAct, omega arith, From.check {t = t} (omega arith))
+due-from h Deadline.entering = (critAct, omega arith, From.crit)
+due-from h Deadline.resetting = (resetAct, omega arith, From.reset)
+due-from h Deadline.leaving = (remAct, omega arith, From.rem)
 
 module _ (s : State) (sound : Sound s) where
   allowed : (act p m : ℕ) → Accepted (stepOf s act p m) ↔ Allowed s act p m
@@ -50,10 +50,11 @@ module _ (s : State) (sound : Sound s) where
   due-may-act i h =
       let due = due-from (sound .parameters .limits .order) (h .is) in (
         due .0,
+        due .1,
         allowed (due .0) i (s .clock) .1 (record {
           forward = omega arith;
           within = sound .clock;
           in-time = sound .in-time;
-          turn = inr (record { some = h .from; most = deadline-most i (s .clock) h; from = due .1 });
+          turn = inr (record { some = h .from; most = deadline-most i (s .clock) h; from = due .2 });
         }),
       )

@@ -3,7 +3,7 @@
 use Prim.Native.Nat.{ℕ, _+_, _≤_, _<_}
 use mathlib.Core.Path.{_≡_, sym, subst}
 use mathlib.Core.Logic.{_≢_}
-use Rattle.model.specs.Acts.{critAct}
+use Rattle.model.specs.Acts.{critAct, withdrawAct}
 use Rattle.model.proofs.Tests.{if-eq}
 use Rattle.lists.proofs.Ranks.{atRemainder, atTesting, atSetting, atChecking, atEntering, atCritical, atResetting, atLeaving}
 
@@ -65,10 +65,10 @@ pub record Comes (x y : View) (p m : ℕ) : Type 0 where
   pub own-word : y .word ≡ p → y .rank p ≢ atChecking → x .word ≡ p
   pub other-word : (k : ℕ) → k ≢ p → 0 < k → y .word ≡ k → x .word ≡ k
 
--- what it makes of p and of the word, by where p is in x
-pub record Goes (x y : View) (p : ℕ) : Type 0 where
-  pub test-free : x .rank p ≡ atTesting → x .word ≡ 0 → y .rank p ≡ atSetting
-  pub test-taken : x .rank p ≡ atTesting → x .word ≢ 0 → y .rank p ≡ atTesting
+-- what it makes of p and of the word, by where p is in x; from testing a withdraw leads out of the line
+pub record Goes (x y : View) (act p : ℕ) : Type 0 where
+  pub test-free : act ≢ withdrawAct → x .rank p ≡ atTesting → x .word ≡ 0 → y .rank p ≡ atSetting
+  pub test-taken : act ≢ withdrawAct → x .rank p ≡ atTesting → x .word ≢ 0 → y .rank p ≡ atTesting
   pub set : x .rank p ≡ atSetting → (y .rank p ≡ atChecking) × (y .word ≡ p)
   pub check-own : x .rank p ≡ atChecking → x .word ≡ p → y .rank p ≡ atEntering
   pub check-other : x .rank p ≡ atChecking → x .word ≢ p → y .rank p ≡ atTesting
@@ -82,7 +82,7 @@ pub record Move (x y : View) (act p m : ℕ) : Type 0 where
   pub clock-is : y .clock ≡ m
   pub past : (j : ℕ) → x .since j ≤ x .clock
   pub comes : Comes x y p m
-  pub goes : Goes x y p
+  pub goes : Goes x y act p
   pub others : (j : ℕ) → j ≢ p → Same x y j
   pub nobody : y .rank 0 ≡ atRemainder
   pub is-crit : x .rank p ≡ atEntering → act ≡ critAct

@@ -1,9 +1,10 @@
 -- The owed wait, on views: until some process becomes critical one of four phases holds, and each bounds the clock by the time W.
--- Only one process is followed, w, which was trying at the start. Assumes nothing.
+-- Only one process is followed, w, which was trying at the start and does not withdraw. Assumes nothing.
 use Prim.Native.Nat.{ℕ, _+_, _*_, _≤_, _<_}
 use mathlib.Core.Path.{_≡_, refl, ap}
 use mathlib.Core.Logic.{_≢_}
 use native.Mathlib.Omega.{arith}
+use Rattle.model.specs.Acts.{withdrawAct}
 use Rattle.model.proofs.Tests.{if-eq, if-lt}
 use Rattle.lists.proofs.Ranks.{atTesting, atSetting, atChecking, atEntering, atCritical, atResetting}
 use Rattle.lists.proofs.View.{Lock, View, Owns, Sets, Same, Comes, Goes, Move, Timely, Kept, split}
@@ -120,14 +121,14 @@ module _ {L : Lock} {w W m : ℕ} {x : View} (t : Timely L x m) where
   phase-time (free h) = omega (arith, free-time h)
   phase-time (resets k h) = omega (arith, t .short k (omega arith))
 
--- An act other than a crit leads from a phase to a phase
+-- An act other than a crit, and other than a withdraw of w, leads from a phase to a phase
 
 module _ {L : Lock} (tail : L .a ≤ L .tail) {x y : View} {act p m : ℕ} (move : Move x y act p m) (kept : Kept L x p m)
-    (inv : Inv L x) (w W : ℕ) where
+    (inv : Inv L x) (w W : ℕ) (stays : w ≡ p → act ≢ withdrawAct) where
   comes : Comes x y p m
   comes = move .comes
 
-  goes : Goes x y p
+  goes : Goes x y act p
   goes = move .goes
 
   -- from `ahead`
@@ -197,7 +198,7 @@ module _ {L : Lock} (tail : L .a ≤ L .tail) {x y : View} {act p m : ℕ} (move
   test-free : w ≡ p → x .rank w ≡ atTesting → Free L w W x → Free L w W y
   test-free z e h =
       let o = own z in
-      let g = goes .test-free (omega arith) (h .word) in
+      let g = goes .test-free (stays z) (omega arith) (h .word) in
       let t = comes .arrival (omega arith) (omega arith) in
       let v = kept .timely .short p (omega arith) in
       let f = word-free (omega arith) h in
@@ -256,7 +257,7 @@ module _ {L : Lock} (tail : L .a ≤ L .tail) {x y : View} {act p m : ℕ} (move
       let f = from-one inv k (omega arith) in
       if-eq w p
       (λ z. let o = own z in
-      let g = if-eq (x .rank p) atTesting (λ t. goes .test-taken t (omega arith)) (λ t. goes .check-other (omega arith) (omega arith)) in
+      let g = if-eq (x .rank p) atTesting (λ t. goes .test-taken (stays z) t (omega arith)) (λ t. goes .check-other (omega arith) (omega arith)) in
       omega arith)
       (λ z. let u = move .others w z in
       record { at = omega arith; left = omega arith; waiting = waiting-stays z (h .waiting); not-setting = omega arith })

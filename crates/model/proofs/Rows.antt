@@ -5,7 +5,7 @@ use mathlib.Core.Bool.{Bool, true, false, cond}
 use lib.Dec.{eqb}
 use Rattle.model.specs.declared.State.{State}
 use Rattle.model.specs.declared.Transition.{Transition}
-use Rattle.model.specs.Acts.{tryAct, testAct, setAct, checkAct, critAct, exitAct, resetAct, leaves}
+use Rattle.model.specs.Acts.{tryAct, testAct, setAct, checkAct, critAct, exitAct, resetAct, remAct, leaves}
 use Rattle.model.specs.Actions.{transitionOf}
 
 -- a row leaves a stage
@@ -26,7 +26,7 @@ unfolding transitionOf leaves
 rows-leave s act p m =
     either (eqb act tryAct) (stands refl) (either (eqb act testAct) (stands refl) (either (eqb act setAct) (stands refl)
     (either (eqb act checkAct) (stands refl) (either (eqb act critAct) (stands refl) (either (eqb act exitAct) (stands refl)
-    (either (eqb act resetAct) (stands refl) (stands refl)))))))
+    (either (eqb act resetAct) (stands refl) (either (eqb act remAct) (stands refl) (stands refl))))))))
 
 pub row-leaves : (s : State) (act p m : ℕ) → transitionOf s act p m .from ≡ leaves act
 row-leaves s act p m = rows-leave s act p m .from-is

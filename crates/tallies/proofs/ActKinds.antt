@@ -17,6 +17,7 @@ use Rattle.model.specs.Tallies.{criticalCount}
 use Rattle.theory.specs.Acceptance.{From, Effect, Waits, Acts, Changed}
 use Rattle.model.proofs.Tests.{if-eq}
 use Rattle.theory.proofs.Rows.{from-ready}
+use Rattle.theory.proofs.Entries.{entry-at}
 use Rattle.tallies.proofs.CountLaws.{weight, count-set}
 
 -- The kinds
@@ -52,10 +53,6 @@ act-kind From.reset Effect.reset = other {act = resetAct} (omega arith) (record 
 act-kind From.rem Effect.rem = other {act = remAct} (omega arith) (record { weighs = refl; tries = λ e. e })
 
 -- The state after an act
-
-pub entry-at : (s : State) (i : ℕ) → entryOf s (i + 1) ≡ getD (s .processes) i idle
-unfolding entryOf
-entry-at s i = ap (λ (k : ℕ). getD (s .processes) k idle) (omega arith)
 
 stays-kind : {m act : ℕ} {q q′ : Process} → Plain act → q′ ≡ q → Kind m act (q .location) (q′ .location)
 stays-kind {act = act} h e = rw e (other {act = act} h (record { weighs = refl; tries = λ t. t }))

@@ -29,9 +29,9 @@ use Rattle.model.proofs.Tests.{if-eq, clash}
 use Rattle.theory.proofs.Acceptance.{accepted-iff-allowed, next-is-changed, refused-stays}
 use Rattle.theory.proofs.Soundness.{sound-iff-plain, fresh-is-plain}
 use Rattle.theory.proofs.StaysSound.{sound-kept}
-use Rattle.theory.proofs.Entries.{same-at}
+use Rattle.theory.proofs.Entries.{same-at, entry-at}
 use Rattle.tallies.proofs.CountLaws.{count-idle, skipped}
-use Rattle.tallies.proofs.ActKinds.{Kind, entry-at, turn-kind, next-count}
+use Rattle.tallies.proofs.ActKinds.{Kind, turn-kind, next-count}
 use Rattle.theory.proofs.Steps.{Refuses, step-refuses}
 use Rattle.theory.proofs.RecordedSteps.{Judged, judged, answer-accepted, answer-refused}
 use Rattle.theory.proofs.Summaries.{summary-sound-iff-plain}

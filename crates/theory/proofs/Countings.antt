@@ -9,7 +9,7 @@ use lib.Seq.{getD-set-same, getD-set-other, set-getD}
 use borrow.Author.Tests.{ne-eqb}
 use Rattle.model.specs.declared.Counts.{Counts}
 use Rattle.model.specs.declared.Statistics.{Statistics}
-use Rattle.model.specs.Acts.{waitAct, tryAct, critAct, exitAct}
+use Rattle.model.specs.Acts.{waitAct, tryAct, critAct, exitAct, withdrawAct}
 use Rattle.model.specs.Summaries.{countsAfter, triedAfter, acceptedCounted, refusedCounted}
 use Rattle.theory.specs.Summaries.{RefusedAdded, tryTime, Counting, AcceptedAdded}
 use Rattle.model.proofs.Tests.{if-eq, if-lt, by-cond}
@@ -40,7 +40,8 @@ module _ (k : Counts) (act m t : ℕ) where
       (λ l. let w : max (k .longest) (m - t) ≡ m - t = omega arith in rw (e, w) (Counting.crit-longer sum l))
       (λ l. let w : max (k .longest) (m - t) ≡ k .longest = omega arith in rw (e, w) (Counting.crit sum l)))
       (λ c. if-eq act exitAct (λ e. rw e Counting.exit)
-      (λ x. rw (ne-eqb act tryAct n, ne-eqb act critAct c, ne-eqb act exitAct x) (Counting.other n c x))))
+      (λ x. if-eq act withdrawAct (λ e. rw e Counting.withdraw)
+      (λ w. rw (ne-eqb act tryAct n, ne-eqb act critAct c, ne-eqb act exitAct x, ne-eqb act withdrawAct w) (Counting.other n c x w)))))
 
 module _ (x : Statistics) (act p m : ℕ) where
   pub accepted-added : length (x .tries) ≡ 96 → p ≤ 96 → (p ≡ 0 → act ≡ waitAct) → tryTime x p ≤ m

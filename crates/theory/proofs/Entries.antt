@@ -1,13 +1,13 @@
 -- The entries of a state as a relation, so that what a definition says of a list of entries is proved by following the list;
 -- and the way between this relation and `entryOf`. Assumes nothing.
 use Prim.Native.Nat.{ℕ, zero, suc, _+_, _-_, _≤_}
-use mathlib.Core.Path.{_≡_, refl, ap, subst, _∙_}
+use mathlib.Core.Path.{_≡_, refl, sym, ap, subst, _∙_}
 use mathlib.Core.Logic.{_≢_}
 use mathlib.Core.List.{List, [], _∷_}
 use native.Mathlib.Omega.{arith}
 use native.Mathlib.Nat.{sub-self}
 use lib.ListN.{length, getD, replicate}
-use lib.Seq.{getD-set-same, getD-set-other}
+use lib.Seq.{ext-getD, getD-set-same, getD-set-other}
 use Rattle.model.specs.declared.Process.{Process}
 use Rattle.model.specs.declared.State.{State}
 use Rattle.model.specs.declared.Transition.{Transition}
@@ -63,6 +63,16 @@ module _ (P : ℕ → Process → Type 0) (unused : (j : ℕ) → P j idle) wher
 pub among-entry : (s : State) {j : ℕ} {q : Process} → Among 1 (s .processes) j q → entryOf s j ≡ q
 unfolding entryOf
 among-entry s a = among-at a
+
+pub entry-at : (s : State) (i : ℕ) → entryOf s (i + 1) ≡ getD (s .processes) i idle
+unfolding entryOf
+entry-at s i = ap (λ (k : ℕ). getD (s .processes) k idle) (omega arith)
+
+-- states whose processes have the same entries have the same list of them
+pub entries-same : (s s′ : State) → length (s′ .processes) ≡ length (s .processes)
+    → ((i : ℕ) → 1 ≤ i → entryOf s′ i ≡ entryOf s i) → s′ .processes ≡ s .processes
+entries-same s s′ size h =
+    ext-getD idle _ _ size (λ i _. sym (entry-at s′ i) ∙ h (i + 1) (omega arith) ∙ entry-at s i)
 
 -- The entries after a move
 

@@ -10,6 +10,7 @@ pub mod Refusals
 pub mod Acceptance
 pub mod Lowest
 pub mod StaysSound
+pub mod TakenBack
 -- A recorded step
 pub mod RecordedSteps
 pub mod Countings

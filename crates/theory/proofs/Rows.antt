@@ -11,7 +11,7 @@ use Rattle.model.specs.declared.Location.{Location}
 use Rattle.model.specs.declared.Location.the-variants.{Remainder, Testing, Setting, Checking, Entering, Critical, Resetting, Leaving}
 use Rattle.model.specs.declared.State.{State}
 use Rattle.model.specs.Stages.{remainder, testing, setting, checking, entering, critical, resetting, leaving}
-use Rattle.model.specs.Acts.{waitAct, tryAct, testAct, setAct, checkAct, critAct, exitAct, resetAct, remAct, lastAct, leaves}
+use Rattle.model.specs.Acts.{waitAct, tryAct, testAct, setAct, checkAct, critAct, exitAct, resetAct, remAct, withdrawAct, lastAct, leaves}
 use Rattle.model.specs.States.{stageOf, sinceOf, release, entryOf}
 use Rattle.model.specs.Actions.{transitionOf}
 use Rattle.theory.specs.Acceptance.{From, Effect}
@@ -31,6 +31,7 @@ data Leaves : ℕ → ℕ → Type 0 where
   exit : Leaves exitAct critical
   reset : Leaves resetAct resetting
   rem : Leaves remAct leaving
+  withdraw : Leaves withdrawAct testing
 
 act-told : {act k stage : ℕ} → Leaves k stage → act ≡ k → Leaves act stage
 act-told {stage = stage} h e = subst (λ (j : ℕ). Leaves j stage) (sym e) h
@@ -52,7 +53,8 @@ act-leaves act some most =
     (λ h₅. this-or-later h₅ Leaves.crit
     (λ h₆. this-or-later h₆ Leaves.exit
     (λ h₇. this-or-later h₇ Leaves.reset
-    (λ h₈. act-told Leaves.rem (omega arith))))))))
+    (λ h₈. this-or-later h₈ Leaves.rem
+    (λ h₉. act-told Leaves.withdraw (omega arith)))))))))
 
 -- `From` in the terms of the step: the stage is the one that the act leaves, and a check is not early
 pub record Ready (b m act : ℕ) (l : Location) : Type 0 where
@@ -71,11 +73,13 @@ from-ready From.crit = omega arith
 from-ready From.exit = omega arith
 from-ready From.reset = omega arith
 from-ready From.rem = omega arith
+from-ready From.withdraw = omega arith
 
 from-leaves : {b m act : ℕ} (l : Location) → (act ≡ checkAct → sinceOf l + cond (eqb (stageOf l) checking) b 0 ≤ m)
     → Leaves act (stageOf l) → From b m act l
 from-leaves Remainder h Leaves.try = From.try
 from-leaves (Testing t) h Leaves.test = From.test
+from-leaves (Testing t) h Leaves.withdraw = From.withdraw
 from-leaves (Setting t) h Leaves.set = From.set
 from-leaves (Checking t) h Leaves.check = From.check (h refl)
 from-leaves (Entering t) h Leaves.crit = From.crit
@@ -128,3 +132,4 @@ row-effect s p From.crit = Effect.crit
 row-effect s p From.exit = Effect.exit
 row-effect s p From.reset = Effect.reset
 row-effect s p From.rem = Effect.rem
+row-effect s p From.withdraw = Effect.withdraw

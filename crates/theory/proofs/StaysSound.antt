@@ -40,6 +40,7 @@ effect-lands Effect.crit h k = omega arith
 effect-lands Effect.exit h k = omega arith
 effect-lands Effect.reset h k = omega arith
 effect-lands Effect.rem h k = omega arith
+effect-lands Effect.withdraw h k = omega arith
 
 -- The state after an accepted act
 
