@@ -1,5 +1,5 @@
--- The accepted acts as the summary tells them apart: a try, a crit, an exit, and another. The acts are split here, so that
--- the laws of the summary have four cases. Assumes nothing.
+-- The accepted acts as the summary tells them apart: a try, a crit, an exit, a withdraw, and another. The acts are split here, so that
+-- the laws of the summary have five cases. Assumes nothing.
 use Prim.Native.Nat.{ℕ, _+_, _-_, _<_}
 use mathlib.Core.Path.{_≡_, refl, sym, ap, _∙_}
 use mathlib.Core.Logic.{_⊎_, inl, inr, _≢_}
@@ -11,7 +11,7 @@ use Rattle.model.specs.declared.Location.{Location}
 use Rattle.model.specs.declared.Location.the-variants.{Remainder, Testing, Entering, Critical, Resetting}
 use Rattle.model.specs.declared.Process.{Process}
 use Rattle.model.specs.declared.State.{State}
-use Rattle.model.specs.Acts.{tryAct, testAct, setAct, checkAct, critAct, exitAct, resetAct, remAct}
+use Rattle.model.specs.Acts.{tryAct, testAct, setAct, checkAct, critAct, exitAct, resetAct, remAct, withdrawAct}
 use Rattle.model.specs.States.{idle, trying, entryOf}
 use Rattle.model.specs.Tallies.{criticalCount}
 use Rattle.theory.specs.Acceptance.{From, Effect, Waits, Acts, Changed}
@@ -22,11 +22,12 @@ use Rattle.tallies.proofs.CountLaws.{weight, count-set}
 
 -- The kinds
 
--- an act that no count but that of the accepted acts tells apart
+-- an act that no count but that of the accepted acts tells apart, and no try time
 pub record Plain (act : ℕ) : Type 0 where
   pub not-try : act ≢ tryAct
   pub not-crit : act ≢ critAct
   pub not-exit : act ≢ exitAct
+  pub not-withdraw : act ≢ withdrawAct
 
 -- a move that does not lead into trying, nor into critical or out of it
 pub record Alike (l l′ : Location) : Type 0 where
@@ -38,6 +39,7 @@ pub data Kind (m : ℕ) : ℕ → Location → Location → Type 0 where
   try : Kind m tryAct Remainder (Testing m)
   crit : {t : ℕ} → Kind m critAct (Entering t) Critical
   exit : Kind m exitAct Critical (Resetting m)
+  withdraw : {t : ℕ} → Kind m withdrawAct (Testing t) Remainder
   other : {act : ℕ} {l l′ : Location} → Plain act → Alike l l′ → Kind m act l l′
 
 act-kind : {b p m act w w′ : ℕ} {l l′ : Location} → From b m act l → Effect p m act w l′ w′ → Kind m act l l′
@@ -51,6 +53,7 @@ act-kind From.crit Effect.crit = crit
 act-kind From.exit Effect.exit = exit
 act-kind From.reset Effect.reset = other {act = resetAct} (omega arith) (record { weighs = refl; tries = λ e. e })
 act-kind From.rem Effect.rem = other {act = remAct} (omega arith) (record { weighs = refl; tries = λ e. e })
+act-kind From.withdraw Effect.withdraw = withdraw
 
 -- The state after an act
 

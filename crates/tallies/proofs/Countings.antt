@@ -12,7 +12,7 @@ use lib.Seq.{set-getD, getD-set-same, getD-set-other}
 use borrow.Author.Tests.{ne-eqb, eq-eqb, le-leb}
 use Rattle.model.specs.declared.Location.{Location}
 use Rattle.model.specs.declared.Statistics.{Statistics}
-use Rattle.model.specs.Acts.{waitAct, tryAct, critAct, exitAct}
+use Rattle.model.specs.Acts.{waitAct, tryAct, critAct, exitAct, withdrawAct}
 use Rattle.model.specs.States.{lastTime, trying}
 use Rattle.model.specs.Summaries.{triedAt, triedAfter, acceptedCounted, refusedCounted}
 use Rattle.model.specs.Tallies.{Attempt, attempt, isAccepted, isRefused, isEntry, isExit, countOf, lastTry, longestWait}
@@ -75,17 +75,29 @@ refused-counted {log} act p m {code} h c =
 
 -- An accepted act
 
--- the tests of an act that is no try, crit or exit
-plain-tests : {act : ℕ} → Plain act → (eqb act tryAct ≡ false) × (eqb act critAct ≡ false) × (eqb act exitAct ≡ false)
-plain-tests h = (ne-eqb _ tryAct (h .not-try), ne-eqb _ critAct (h .not-crit), ne-eqb _ exitAct (h .not-exit))
+-- the tests of an act that is no try, crit, exit or withdraw
+record PlainTests (act : ℕ) : Type 0 where
+  no-try : eqb act tryAct ≡ false
+  no-crit : eqb act critAct ≡ false
+  no-exit : eqb act exitAct ≡ false
+  no-withdraw : eqb act withdrawAct ≡ false
+
+plain-tests : {act : ℕ} → Plain act → PlainTests act
+plain-tests h = record {
+  no-try = ne-eqb _ tryAct (h .not-try);
+  no-crit = ne-eqb _ critAct (h .not-crit);
+  no-exit = ne-eqb _ exitAct (h .not-exit);
+  no-withdraw = ne-eqb _ withdrawAct (h .not-withdraw);
+}
 
 plain-unmarked : (p m : ℕ) {act : ℕ} → Plain act → Unmarked (attempt act p m 0)
-plain-unmarked p m h = let t = plain-tests h in record { no-try = λ i. rw (t .0); no-entry = t .1; no-exit = t .2 }
+plain-unmarked p m h = let t = plain-tests h in record { no-try = λ i. rw (t .no-try); no-entry = t .no-crit; no-exit = t .no-exit }
 
 -- the try time of its process becomes its time or 0, or stays
 tried-past : {tried m : ℕ} (act : ℕ) → tried ≤ m → triedAfter tried act m ≤ m
 tried-past {m = m} act h = by-cond (λ (t : ℕ). t ≤ m) (eqb act tryAct) (λ _. omega arith)
-    (λ _. by-cond (λ (t : ℕ). t ≤ m) (eqb act critAct) (λ _. omega arith) (λ _. h))
+    (λ _. by-cond (λ (t : ℕ). t ≤ m) (eqb act critAct) (λ _. omega arith)
+    (λ _. by-cond (λ (t : ℕ). t ≤ m) (eqb act withdrawAct) (λ _. omega arith) (λ _. h)))
 
 module _ (x : Statistics) (p m : ℕ) where
   pub accepted-stands : {act : ℕ} {l l′ : Location} → Kind m act l l′ → NotFull x → m ≤ lastTime
@@ -94,7 +106,8 @@ module _ (x : Statistics) (p m : ℕ) where
   accepted-stands Kind.try room within c = omega arith
   accepted-stands Kind.crit room within c = omega arith
   accepted-stands Kind.exit room within c = omega arith
-  accepted-stands (Kind.other k _) room within c = let t = plain-tests k in rw (t .1, t .2) (omega arith)
+  accepted-stands Kind.withdraw room within c = omega arith
+  accepted-stands (Kind.other k _) room within c = let t = plain-tests k in rw (t .no-crit, t .no-exit) (omega arith)
 
   pub accepted-tries : (act : ℕ) → TriesStand m (x .tries) → TriesStand m (acceptedCounted x act p m .tries)
   unfolding acceptedCounted
@@ -111,7 +124,8 @@ module _ (x : Statistics) (p m : ℕ) where
   accepted-balance count count′ Kind.try e b = omega arith
   accepted-balance count count′ Kind.crit e b = omega arith
   accepted-balance count count′ Kind.exit e b = omega arith
-  accepted-balance count count′ (Kind.other k a) e b = let t = plain-tests k in rw (t .1, t .2) (omega arith)
+  accepted-balance count count′ Kind.withdraw e b = omega arith
+  accepted-balance count count′ (Kind.other k a) e b = let t = plain-tests k in rw (t .no-crit, t .no-exit) (omega arith)
 
 module _ (log : List Attempt) (x : Statistics) (p m : ℕ) where
   pub accepted-counted : {act : ℕ} {l l′ : Location} → Kind m act l l′
@@ -121,9 +135,10 @@ module _ (log : List Attempt) (x : Statistics) (p m : ℕ) where
   accepted-counted Kind.try tried c = omega arith
   accepted-counted Kind.crit tried c = omega (arith, tried (omega arith) refl)
   accepted-counted Kind.exit tried c = omega arith
+  accepted-counted Kind.withdraw tried c = omega arith
   accepted-counted (Kind.other k _) tried c =
       let t = plain-tests k in
-      rw (t .1, t .2) (omega (arith, skipped log (plain-unmarked p m k)))
+      rw (t .no-crit, t .no-exit) (omega (arith, skipped log (plain-unmarked p m k)))
 
   -- the try time of the process that acts, where it is trying after it
   pub own-tried : {act : ℕ} {l l′ : Location} → Kind m act l l′ → p - 1 < length (x .tries)
@@ -133,8 +148,9 @@ module _ (log : List Attempt) (x : Statistics) (p m : ℕ) where
   own-tried Kind.try h tried e = getD-set-same (x .tries) (p - 1) m 0 h ∙ rw (eq-eqb p p refl)
   own-tried Kind.crit h tried e = absurd (false≢true e)
   own-tried Kind.exit h tried e = absurd (false≢true e)
+  own-tried Kind.withdraw h tried e = absurd (false≢true e)
   own-tried (Kind.other k a) h tried e =
-      let t = plain-tests k in rw (t .0, t .1, set-getD (x .tries) (p - 1) 0) (tried (a .tries e))
+      let t = plain-tests k in rw (t .no-try, t .no-crit, t .no-withdraw, set-getD (x .tries) (p - 1) 0) (tried (a .tries e))
 
   -- that of another
   pub other-tried : {act : ℕ} {l l′ : Location} → Kind m act l l′ → (act ≢ waitAct → 1 ≤ p) → (i : ℕ) → 1 ≤ i → i ≢ p
@@ -145,5 +161,7 @@ module _ (log : List Attempt) (x : Statistics) (p m : ℕ) where
   other-tried Kind.crit named i some n tried =
       getD-set-other (x .tries) (p - 1) (i - 1) 0 0 (omega (arith, named (omega arith))) ∙ tried
   other-tried Kind.exit named i some n tried = rw (set-getD (x .tries) (p - 1) 0) tried
+  other-tried Kind.withdraw named i some n tried =
+      getD-set-other (x .tries) (p - 1) (i - 1) 0 0 (omega (arith, named (omega arith))) ∙ tried
   other-tried (Kind.other k _) named i some n tried =
-      let t = plain-tests k in rw (t .0, t .1, set-getD (x .tries) (p - 1) 0) tried
+      let t = plain-tests k in rw (t .no-try, t .no-crit, t .no-withdraw, set-getD (x .tries) (p - 1) 0) tried

@@ -62,6 +62,7 @@ crit-tries : {m act : ℕ} {l l′ : Location} → Kind m act l l′ → act ≡
 crit-tries Kind.try e = absurd (omega arith)
 crit-tries Kind.crit e = refl
 crit-tries Kind.exit e = absurd (omega arith)
+crit-tries Kind.withdraw e = absurd (omega arith)
 crit-tries (Kind.other h _) e = absurd (h .not-crit e)
 
 module _ {log : List Attempt} {s : State} {x : Statistics} (along : Along log s x) (act p m : ℕ) where
