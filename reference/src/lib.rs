@@ -8,6 +8,7 @@ pub mod board_list;
 pub mod generator;
 pub mod list;
 pub mod machine;
+pub mod promises;
 pub mod recording;
 pub mod replay;
 pub mod summary;

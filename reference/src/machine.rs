@@ -11,7 +11,7 @@ pub const LIMIT_END: u64 = 10_000_000;
 /// The entries of every table, whatever its n.
 pub const WINDOWS: usize = 96;
 
-// The numbers of the acts, [3.0] to [3.8].
+// The numbers of the acts, [3.0] to [3.9].
 pub const WAIT: u64 = 0;
 pub const TRY: u64 = 1;
 pub const TEST: u64 = 2;
@@ -21,6 +21,7 @@ pub const CRIT: u64 = 5;
 pub const EXIT: u64 = 6;
 pub const RESET: u64 = 7;
 pub const REM: u64 = 8;
+pub const WITHDRAW: u64 = 9;
 
 /// [2.80] The number in a timed place is the arrival.
 #[derive(Clone, Copy, Debug, PartialEq, Eq)]
@@ -156,7 +157,7 @@ pub fn refusal(table: &Table, act: u64, window: u64, moment: u64) -> Option<Answ
     if moment > CLOCK_END {
         return Some(bare(END_OF_CLOCK));
     }
-    if act > REM {
+    if act > WITHDRAW {
         return Some(bare(NO_ACT));
     }
     let there = (1..=table.values.n).contains(&window);
@@ -178,7 +179,7 @@ pub fn refusal(table: &Table, act: u64, window: u64, moment: u64) -> Option<Answ
     earliest.map(|earliest| answer(EARLY, window, earliest))
 }
 
-/// Whether an act leaves that place, by [3.1] to [3.8]; a wait leaves none.
+/// Whether an act leaves that place, by [3.1] to [3.9]; a wait leaves none.
 fn starts_from(act: u64, place: Place) -> bool {
     matches!(
         (act, place),
@@ -190,6 +191,7 @@ fn starts_from(act: u64, place: Place) -> bool {
             | (EXIT, Selling)
             | (RESET, Resetting(_))
             | (REM, Leaving(_))
+            | (WITHDRAW, Testing(_))
     )
 }
 
@@ -207,7 +209,7 @@ pub fn accepted(mut table: Table, act: u64, window: u64, moment: u64) -> (Answer
     (answer(ACCEPTED, table.seller(), table.clock), table)
 }
 
-/// Where the act leads, by [3.1] to [3.8] and [3.60].
+/// Where the act leads, by [3.1] to [3.9] and [3.60].
 fn destination(table: &Table, act: u64, window: u64, moment: u64) -> Place {
     match act {
         TRY => Testing(moment),
@@ -219,7 +221,7 @@ fn destination(table: &Table, act: u64, window: u64, moment: u64) -> Place {
         CRIT => Selling,
         EXIT => Resetting(moment),
         RESET => Leaving(moment),
-        REM => Remainder,
-        _ => unreachable!("a wait moves no window, and an act above 8 is refused"),
+        REM | WITHDRAW => Remainder,
+        _ => unreachable!("a wait moves no window, and an act above 9 is refused"),
     }
 }

@@ -9,7 +9,8 @@ pub const TEXT_END: usize = 65_536;
 /// The line of the first step.
 pub const FIRST_STEP: u64 = 4;
 /// The words of the acts, each at the place of its number.
-pub const WORDS: [&str; 9] = ["wait", "try", "test", "set", "check", "crit", "exit", "reset", "rem"];
+pub const WORDS: [&str; 10] =
+    ["wait", "try", "test", "set", "check", "crit", "exit", "reset", "rem", "withdraw"];
 
 const VALUE_NAMES: &str = "windows,a,b,c";
 const STEP_NAMES: &str = "time,window,act";

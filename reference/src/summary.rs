@@ -56,6 +56,7 @@ impl Summary {
                 self.longest_wait = self.longest_wait.max(moment - tried);
             }
             EXIT => self.exits += 1,
+            WITHDRAW => self.try_moments[window as usize - 1] = 0,
             _ => {}
         }
     }

@@ -1,4 +1,4 @@
-//! What `replay` cannot reach: tables and summaries of any make, acts above 8, lent lists, the writer.
+//! What `replay` cannot reach: tables and summaries of any make, acts above 9, lent lists, the writer.
 //! And, over generated recordings, what the specification says of the summary and of writing what was read.
 
 use reference::answer::*;
@@ -45,7 +45,7 @@ fn unsound_tables() {
     assert!(!Table { clock: CLOCK_END + 1, ..table() }.sound());
     let mut above = table();
     above.places[2] = Place::Selling;
-    assert_eq!(step(above, 9, 9, 0), (bare(NO_TABLE), above));
+    assert_eq!(step(above, 10, 9, 0), (bare(NO_TABLE), above));
 }
 
 #[test]
@@ -59,8 +59,8 @@ fn two_sellers_are_sound_and_the_lowest_is_named() {
 #[test]
 fn unknown_acts() {
     let (_, later) = step(table(), WAIT, 0, 7);
-    assert_eq!(step(later, 9, 1, 7).0, bare(NO_ACT));
-    assert_eq!(step(later, 9, 1, 6).0, answer(BACKWARD, 0, 7));
+    assert_eq!(step(later, 10, 1, 7).0, bare(NO_ACT));
+    assert_eq!(step(later, 10, 1, 6).0, answer(BACKWARD, 0, 7));
     assert_eq!(step(later, u64::MAX, 0, u64::MAX).0, bare(END_OF_CLOCK));
 }
 
@@ -68,7 +68,7 @@ fn unknown_acts() {
 fn summaries_of_any_make() {
     let answered = |summary: Summary| {
         let mut lent = summary.clone();
-        let (answer, _) = recorded_step(table(), &mut lent, 9, 0, 0);
+        let (answer, _) = recorded_step(table(), &mut lent, 10, 0, 0);
         assert_eq!(lent == summary, answer.number != NO_ACT, "only 4 to 10 are counted");
         answer.number
     };
@@ -103,8 +103,8 @@ fn writer() {
     };
     let refusals = [
         written(Values { n: 0, a: 0, ..VALUES }, &[], &[], &[], 60),
-        written(Values { a: 0, ..VALUES }, &[0], &[0], &[9], 60),
-        written(VALUES, &[0, 0], &[1, 1], &[TRY, 9], 0),
+        written(Values { a: 0, ..VALUES }, &[0], &[0], &[10], 60),
+        written(VALUES, &[0, 0], &[1, 1], &[TRY, 10], 0),
         written(VALUES, &[10_000_000_000_000], &[0], &[WAIT], 60),
         written(VALUES, &[0], &[100_000_000], &[WAIT], 60),
         written(VALUES, &[0; 9_000], &[0; 9_000], &[WAIT; 9_000], 0),
@@ -121,7 +121,7 @@ fn writer() {
         bare(SHORT_OUTPUT),
     ];
     assert_eq!(refusals.map(|(answer, _)| answer), wanted);
-    let (whole, output) = written(VALUES, &[0, 3, 9], &[1, 1], &[TRY, TEST, 9], 60);
+    let (whole, output) = written(VALUES, &[0, 3, 9], &[1, 1], &[TRY, TEST, 10], 60);
     assert_eq!(whole, answer(ACCEPTED, 0, GOOD.len() as u64));
     assert_eq!(output[..], [GOOD, &[b'.'; 60][GOOD.len()..]].concat());
 }
@@ -173,7 +173,7 @@ fn a_list_is_read_as_it_was_written() {
 
 /// Those of `store_outputs`.
 fn stored_lists() -> impl Iterator<Item = list::List> {
-    (0..10).map(|index| generate_list(64, 48, index))
+    (0..10).map(|index| generate_list(64, 65, index))
 }
 
 #[test]
@@ -191,6 +191,20 @@ fn the_stored_lists_have_every_answer_of_a_recorded_step() {
     for number in [0, 2, 3, 4, 5, 6, 7, 8, 9, 10] {
         assert!(numbers[number] > 0, "no answer {number}");
     }
+}
+
+#[test]
+fn the_stored_lists_have_withdraws_that_end_a_try() {
+    let mut ended = 0;
+    for list in stored_lists() {
+        let (_, mut table) = fresh(list.values);
+        for mut call in list.calls {
+            let tried = call.summary.tried(call.window).unwrap_or(0);
+            (_, table) = list::make(table, &mut call);
+            ended += u64::from(call.act == WITHDRAW && call.summary.tried(call.window).unwrap_or(0) < tried);
+        }
+    }
+    assert!(ended > 0);
 }
 
 #[test]

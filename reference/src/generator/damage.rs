@@ -93,7 +93,8 @@ const DAMAGES: [(&str, Damage); 43] = [
 
 const UNKNOWN_WORDS: &[&str] = &[
     "", "1", "Try", "TRY", " try", "try ", "tr", "trys", "wai", "waits", "wait\0", "tests", "se", "sets",
-    "checks", "recheck", "cri", "crits", "exi", "re", "resett", "remm", "selling", "withdraw", "stop",
+    "checks", "recheck", "cri", "crits", "exi", "re", "resett", "remm", "selling", "withdra", "Withdraw",
+    "stop",
 ];
 
 const OTHER_FIRST_NAMES: &[&str] = &[

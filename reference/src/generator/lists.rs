@@ -51,7 +51,7 @@ fn walked(random: &mut Random, table: Table, wild: u64) -> Step {
 /// A number that no step of a recording can have.
 fn exceed(random: &mut Random, step: &mut Step) {
     match random.below(3) {
-        0 => step.act = random.pick(&[9, 255, u64::MAX]),
+        0 => step.act = random.pick(&[10, 255, u64::MAX]),
         1 => step.window = u64::MAX,
         _ => step.time = u64::MAX,
     }

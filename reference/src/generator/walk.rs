@@ -123,10 +123,11 @@ pub fn text(random: &mut Random, values: Values, mood: Mood, bytes: usize) -> Ve
     text.into_bytes()
 }
 
-/// The act that leaves a place.
-fn act_from(place: Place) -> u64 {
+/// An act that leaves a place: of the two that leave testing a test mostly, and a withdraw now and then.
+pub fn act_from(random: &mut Random, place: Place) -> u64 {
     match place {
         Place::Remainder => TRY,
+        Place::Testing(_) if random.chance(12) => WITHDRAW,
         Place::Testing(_) => TEST,
         Place::Setting(_) => SET,
         Place::Checking(_) => CHECK,
@@ -201,7 +202,7 @@ impl Walk<'_> {
         let window = self.likely_window();
         match self.table.place(window) {
             Place::Checking(arrival) => self.check_step(window, arrival),
-            place => Step { time, window, act: act_from(place) },
+            place => Step { time, window, act: act_from(self.random, place) },
         }
     }
 
@@ -215,7 +216,7 @@ impl Walk<'_> {
         };
         match self.table.first_latest() {
             Some((latest, first)) if latest < time && self.random.chance(70) => {
-                let act = act_from(self.table.place(first));
+                let act = act_from(self.random, self.table.place(first));
                 Step { time: latest, window: first, act }
             }
             _ => Step { time, window, act: CHECK },
@@ -226,8 +227,8 @@ impl Walk<'_> {
     fn wild_step(&mut self) -> Step {
         let (n, clock, last) = (self.table.values.n, self.table.clock, self.last_moment());
         let window = self.likely_window();
-        let natural = act_from(self.table.place(window));
-        let act = self.random.between(WAIT, REM);
+        let natural = act_from(self.random, self.table.place(window));
+        let act = self.random.between(WAIT, WITHDRAW);
         let within = self.moment();
         let just_before = clock.saturating_sub(self.random.between(1, 3));
         match self.random.below(11) {
