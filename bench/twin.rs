@@ -67,6 +67,14 @@ fn stage(location: Location) -> u64 {
     }
 }
 
+/// The stage that an action other than a wait leaves.
+fn leaves(action: u64) -> u64 {
+    match action {
+        9 => 1,
+        _ => action - 1,
+    }
+}
+
 fn since(location: Location) -> u64 {
     timing(0, 0, location).map_or(0, |(since, _)| since)
 }
@@ -137,7 +145,7 @@ pub fn step(state: State, action: u64, process: u64, time: u64) -> Outcome {
     if LAST < time {
         return answered(state, 5, 0, 0);
     }
-    if 8 < action {
+    if 9 < action {
         return answered(state, 6, 0, 0);
     }
     if action == 0 {
@@ -155,7 +163,7 @@ pub fn step(state: State, action: u64, process: u64, time: u64) -> Outcome {
     if action != 0 {
         let i = (process - 1) as usize;
         let own = state.processes[i].location;
-        if stage(own) != action - 1 {
+        if stage(own) != leaves(action) {
             return answered(state, 9, process, 0);
         }
         if action == 4 && time < since(own) + state.b {

@@ -17,7 +17,10 @@ COLOURS = {
 }
 REFUSALS = {4: "backward", 5: "end of clock", 6: "no act", 7: "no window", 8: "late", 9: "out of place", 10: "early"}
 USES = {"test": "finds", "set": "sets", "check": "finds", "reset": "sets"}
-TO = {"try": "testing", "set": "checking", "crit": "selling", "exit": "resetting", "reset": "leaving", "rem": "remainder"}
+TO = {
+    "try": "testing", "set": "checking", "crit": "selling", "exit": "resetting", "reset": "leaving", "rem": "remainder",
+    "withdraw": "remainder",
+}
 
 
 def read(recording, answers):

@@ -75,9 +75,9 @@ enum funnelfawn_place {
  * A summary is lent as FUNNELFAWN_SUMMARY_LENGTH numbers: the five below, and from FUNNELFAWN_AT_TRIES on the try moment of each window,
  * that of window w at FUNNELFAWN_AT_TRIES + w - 1. Accepted and refused acts are counted (of the refusals 4 to 10), and as entries and
  * exits the accepted crits and exits. An accepted try makes its moment the try moment of its window. An accepted crit ends a wait, its
- * own moment less that try moment: if it is longer than the longest wait it takes its place, and the try moment becomes 0. A summary is
- * sound when neither accepted + refused nor the longest wait exceeds 1,000,000,000,000, entries + exits <= accepted, and no try moment
- * lies after the table's clock [5.40]. */
+ * own moment less that try moment: if it is longer than the longest wait it takes its place, and the try moment becomes 0. After an
+ * accepted withdraw it is 0 too, and no wait has ended [5.80]. A summary is sound when neither accepted + refused nor the longest wait
+ * exceeds 1,000,000,000,000, entries + exits <= accepted, and no try moment lies after the table's clock [5.40]. */
 enum {
     FUNNELFAWN_AT_ACCEPTED,
     FUNNELFAWN_AT_REFUSED,
@@ -113,18 +113,24 @@ enum {
     FUNNELFAWN_BOARD_LENGTH = FUNNELFAWN_BOARD_HEADER_LENGTH + FUNNELFAWN_BOARD_STRIDE * FUNNELFAWN_BOARD_PLACES
 };
 
-/* Acts, [3.0] to [3.8]: the place that each leaves, and what it does. A window arrives in a timed place at the act's moment, anew also
- * where it stays in testing. */
+/* Acts, [3.0] to [3.9]: the place that each leaves, and what it does. A window arrives in a timed place at the act's moment, anew also
+ * where it stays in testing. Directly after an accepted try, a withdraw of that window at the same moment is accepted, and the table is as
+ * it was but for its clock [3.95].
+ *
+ * A window is trying while it is testing, setting, checking or entering. From any point after funnelfawn_fresh at which some window is
+ * trying and nobody sells, the clock moves on by at most 2c + 5a until a window is let in, as long as some window that was trying at that
+ * point has not withdrawn since [8.78]. Once all of them have, the clock may run on. */
 enum funnelfawn_act {
-    FUNNELFAWN_ACT_WAIT,  /* none (the window is 0): nothing but the clock changes */
-    FUNNELFAWN_ACT_TRY,   /* remainder: to testing */
-    FUNNELFAWN_ACT_TEST,  /* testing: to setting if the word is 0, else to testing anew */
-    FUNNELFAWN_ACT_SET,   /* setting: the word becomes the window; to checking */
-    FUNNELFAWN_ACT_CHECK, /* checking: to entering if the word is the window, else to testing */
-    FUNNELFAWN_ACT_CRIT,  /* entering: to selling */
-    FUNNELFAWN_ACT_EXIT,  /* selling: to resetting */
-    FUNNELFAWN_ACT_RESET, /* resetting: the word becomes 0; to leaving */
-    FUNNELFAWN_ACT_REM    /* leaving: to remainder */
+    FUNNELFAWN_ACT_WAIT,    /* none (the window is 0): nothing but the clock changes */
+    FUNNELFAWN_ACT_TRY,     /* remainder: to testing */
+    FUNNELFAWN_ACT_TEST,    /* testing: to setting if the word is 0, else to testing anew */
+    FUNNELFAWN_ACT_SET,     /* setting: the word becomes the window; to checking */
+    FUNNELFAWN_ACT_CHECK,   /* checking: to entering if the word is the window, else to testing */
+    FUNNELFAWN_ACT_CRIT,    /* entering: to selling */
+    FUNNELFAWN_ACT_EXIT,    /* selling: to resetting */
+    FUNNELFAWN_ACT_RESET,   /* resetting: the word becomes 0; to leaving */
+    FUNNELFAWN_ACT_REM,     /* leaving: to remainder */
+    FUNNELFAWN_ACT_WITHDRAW /* testing: to remainder, and the word stays */
 };
 
 /* Answers, [4.0] to [4.18]: a number, with a window and a moment. Where these two are said below, in this order, they are in the answer;
@@ -144,7 +150,7 @@ enum funnelfawn_number {
     FUNNELFAWN_REFUSED_BACKWARD = 4,      /* the moment is before the clock: 0, the clock; of a board, before the last moment that it was
                                              told: 0, that moment */
     FUNNELFAWN_REFUSED_END_OF_CLOCK = 5,  /* the moment is above 1,000,000,000,000 */
-    FUNNELFAWN_REFUSED_NO_ACT = 6,        /* there is no such act */
+    FUNNELFAWN_REFUSED_NO_ACT = 6,        /* there is no such act: its number is 10 or more */
     FUNNELFAWN_REFUSED_NO_WINDOW = 7,     /* a wait whose window is not 0, or another act whose window is none of 1 to n; an entry for a
                                              board whose window is none of 1 to 96 */
     FUNNELFAWN_REFUSED_LATE = 8,          /* the latest moment of some window, any at all, is before the moment: the smallest such

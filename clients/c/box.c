@@ -6,7 +6,7 @@
 #include <inttypes.h>
 #include <stdio.h>
 
-/* The longest head that can be read has 66 bytes, the longest act 29. */
+/* The longest head that can be read has 66 bytes, the longest act 32. */
 enum { HEAD_ROOM = 128, LINE_ROOM = 64 };
 
 struct office {

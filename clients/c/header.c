@@ -95,6 +95,23 @@ static void round_of_96(void)
     CHECK(summary[FUNNELFAWN_AT_TRIES + 96 - 1] == 17);
 }
 
+/* Window 96 withdraws while window 3 has the word, which stays; the try moment does not. */
+static void withdrawal(void)
+{
+    const size_t entry = FUNNELFAWN_HEADER_LENGTH + FUNNELFAWN_STRIDE * (96 - 1);
+
+    start();
+    CHECK(record(FUNNELFAWN_ACT_TRY, 3, 1) == FUNNELFAWN_OK && record(FUNNELFAWN_ACT_TEST, 3, 2) == FUNNELFAWN_OK);
+    CHECK(record(FUNNELFAWN_ACT_SET, 3, 3) == FUNNELFAWN_OK && record(FUNNELFAWN_ACT_TRY, 96, 4) == FUNNELFAWN_OK);
+    CHECK(summary[FUNNELFAWN_AT_TRIES + 96 - 1] == 4);
+    CHECK(record(FUNNELFAWN_ACT_WITHDRAW, 3, 5) == FUNNELFAWN_REFUSED_OUT_OF_PLACE);
+    CHECK(record(FUNNELFAWN_ACT_WITHDRAW, 96, 5) == FUNNELFAWN_OK);
+    CHECK(table[FUNNELFAWN_AT_CLOCK] == 5 && table[FUNNELFAWN_AT_WORD] == 3);
+    CHECK(table[entry] == FUNNELFAWN_PLACE_REMAINDER && table[entry + 1] == 0);
+    CHECK(summary[FUNNELFAWN_AT_ACCEPTED] == 5 && summary[FUNNELFAWN_AT_REFUSED] == 1 && summary[FUNNELFAWN_AT_LONGEST_WAIT] == 0);
+    CHECK(summary[FUNNELFAWN_AT_TRIES + 96 - 1] == 0 && summary[FUNNELFAWN_AT_TRIES + 3 - 1] == 1);
+}
+
 /* The refusals of an act, and what stands beside each. */
 static void refusals(void)
 {
@@ -105,7 +122,7 @@ static void refusals(void)
     answer = funnelfawn_step(table, FUNNELFAWN_TABLE_LENGTH, FUNNELFAWN_ACT_WAIT, 0, 19);
     CHECK(answer.number == FUNNELFAWN_REFUSED_BACKWARD && answer.window == 0 && answer.moment == 20);
     CHECK(step(FUNNELFAWN_ACT_WAIT, 0, UINT64_C(1000000000001)) == FUNNELFAWN_REFUSED_END_OF_CLOCK);
-    CHECK(step(FUNNELFAWN_ACT_REM + 1, 1, 20) == FUNNELFAWN_REFUSED_NO_ACT);
+    CHECK(step(FUNNELFAWN_ACT_WITHDRAW + 1, 1, 20) == FUNNELFAWN_REFUSED_NO_ACT);
     answer = funnelfawn_step(table, FUNNELFAWN_TABLE_LENGTH, FUNNELFAWN_ACT_TRY, 4, 26);
     CHECK(answer.number == FUNNELFAWN_REFUSED_LATE && answer.window == 3 && answer.moment == 25);
     answer = funnelfawn_step(table, FUNNELFAWN_TABLE_LENGTH, FUNNELFAWN_ACT_SET, 3, 20);
@@ -242,7 +259,7 @@ static void recordings(void)
     CHECK(starts(report, "line,answer,window,moment\n4,0,0,0\n5,9,1,0\n"));
     CHECK(funnelfawn_replay(text, FUNNELFAWN_MOST_TEXT, report, 25).number == FUNNELFAWN_REFUSED_SHORT_OUTPUT);
     CHECK(funnelfawn_read(text, FUNNELFAWN_MOST_TEXT + 1, NULL, 0, NULL, 0, NULL, 0).answer.number == FUNNELFAWN_REFUSED_LENGTH);
-    acts[3] = FUNNELFAWN_ACT_REM + 1;
+    acts[3] = FUNNELFAWN_ACT_WITHDRAW + 1;
     written = funnelfawn_write(96, 5, 8, 12, moments, 4, windows, 4, acts, 4, text, 0);
     CHECK(written.number == FUNNELFAWN_REFUSED_LINE && written.moment == 7);
     text[0] = 'W';
@@ -253,6 +270,7 @@ static void recordings(void)
 int main(void)
 {
     round_of_96();
+    withdrawal();
     refusals();
     lengths();
     ring();

@@ -2,7 +2,8 @@
 
 use crate::answer::Refusal;
 
-/// The nine acts, each as the number that its clause has, [3.0] to [3.8].
+/// The ten acts, each as the number that its clause has, [3.0] to [3.9]. `Withdraw` is for a window that gives up its turn: it goes from
+/// testing back to remainder, and the word stays.
 #[derive(Clone, Copy, Debug, PartialEq, Eq, Hash)]
 pub enum Act {
     Wait,
@@ -14,12 +15,23 @@ pub enum Act {
     Exit,
     Reset,
     Rem,
+    Withdraw,
 }
 
 impl Act {
     /// Each at the place of its number.
-    pub const ALL: [Act; 9] =
-        [Act::Wait, Act::Try, Act::Test, Act::Set, Act::Check, Act::Crit, Act::Exit, Act::Reset, Act::Rem];
+    pub const ALL: [Act; 10] = [
+        Act::Wait,
+        Act::Try,
+        Act::Test,
+        Act::Set,
+        Act::Check,
+        Act::Crit,
+        Act::Exit,
+        Act::Reset,
+        Act::Rem,
+        Act::Withdraw,
+    ];
 }
 
 impl From<Act> for u64 {

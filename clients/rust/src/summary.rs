@@ -35,7 +35,7 @@ impl Summary {
         self.numbers[4]
     }
 
-    /// The moment stored by the last try of a window of 1 to 96; 0 where it has entered since, or never tried.
+    /// The moment stored by the last try of a window of 1 to 96; 0 where it has entered or withdrawn since, or never tried.
     pub fn try_moment(&self, window: u64) -> Option<u64> {
         let index = usize::try_from(window.checked_sub(1)?).ok()?;
         self.numbers[raw::TRIES..].get(index).copied()

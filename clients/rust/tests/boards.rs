@@ -101,7 +101,7 @@ fn acts_that_tell_a_board() {
     let mut sale = Sale::new(30);
     sale.to_entering(1, 0);
     assert_eq!(sale.accept(Crit, 1, 12), Some(figures(1, 12)));
-    sale.untold(1, &[(Exit, 13), (Reset, 14), (Rem, 15)]);
+    sale.untold(1, &[(Exit, 13), (Reset, 14), (Rem, 15), (Try, 15), (Withdraw, 15)]);
     sale.to_entering(2, 15);
     // a crit that is refused, and one at which the board has been shown at a later clock
     let refused = sale.table.record_and_tell(&mut sale.summary, &mut sale.board, Crit, 1, 26);

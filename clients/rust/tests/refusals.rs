@@ -28,7 +28,7 @@ fn refused(act: impl Into<u64>, window: u64, moment: u64) -> Refusal {
 fn acts() {
     assert_eq!(refused(Act::Check, 1, 6), Refusal::Backward { clock: 7 });
     assert_eq!(refused(Act::Check, 1, END + 1), Refusal::EndOfClock);
-    assert_eq!(refused(9u64, 1, 7), Refusal::NoAct);
+    assert_eq!(refused(10u64, 1, 7), Refusal::NoAct);
     assert_eq!(refused(Act::Try, 3, 7), Refusal::NoWindow);
     assert_eq!(refused(Act::Wait, 1, 7), Refusal::NoWindow);
     assert_eq!(refused(Act::Try, 2, 13), Refusal::Late { window: 1, latest: 12 });
@@ -85,7 +85,7 @@ fn recordings() {
 
 #[test]
 fn writings() {
-    let step = Step { moment: 9_999_999_999_999, window: 99_999_999, act: 8 };
+    let step = Step { moment: 9_999_999_999_999, window: 99_999_999, act: 9 };
     let good = Recording { n: 2, a: 5, b: 8, c: 12, steps: vec![step; 3] };
     assert!(good.write().is_ok());
     assert_eq!(Recording { n: 0, ..good.clone() }.write(), Err(Refusal::WindowCount));
@@ -94,7 +94,7 @@ fn writings() {
     let fifth = Err(Refusal::Line { line: 5 });
     assert_eq!(with(Step { moment: 10_000_000_000_000, ..step }), fifth);
     assert_eq!(with(Step { window: 100_000_000, ..step }), fifth);
-    assert_eq!(with(Step { act: 9, ..step }), fifth);
+    assert_eq!(with(Step { act: 10, ..step }), fifth);
     assert_eq!(Recording { steps: vec![step; 8_187], ..good }.write(), Err(Refusal::Length));
 }
 
@@ -154,10 +154,10 @@ fn numbers_and_words() {
 
 #[test]
 fn acts_and_places_by_number() {
-    for number in 0..=8 {
+    for number in 0..=9 {
         assert_eq!(Act::try_from(number).map(u64::from), Ok(number));
     }
-    assert_eq!(Act::try_from(9), Err(Refusal::NoAct));
+    assert_eq!(Act::try_from(10), Err(Refusal::NoAct));
     for number in 0..=7 {
         assert_eq!(Place::try_from(number).map(u64::from), Ok(number));
     }
