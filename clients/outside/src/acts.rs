@@ -1,13 +1,12 @@
 //! Acts for a sound table: mostly those that a walk at it would take, now and then with a number that is wild.
 
 use reference::generator::random::Random;
-use reference::generator::walk::Walk;
-use reference::list::number_of;
-use reference::machine::{Place, Table, CLOCK_END, CRIT, LIMIT_END};
+use reference::generator::walk::{act_from, Walk};
+use reference::machine::{Place, Table, CLOCK_END, CRIT, LIMIT_END, TRY};
 
 /// Act, window and moment.
 pub fn act(random: &mut Random, table: &Table) -> [u64; 3] {
-    let mut call = if random.chance(15) { last_window(table) } else { likely(random, table) };
+    let mut call = if random.chance(15) { last_window(random, table) } else { likely(random, table) };
     if random.chance(6) {
         let place = random.index(call.len());
         call[place] = any_number(random, call[place]);
@@ -21,11 +20,19 @@ fn likely(random: &mut Random, table: &Table) -> [u64; 3] {
     [step.act, step.window, step.time]
 }
 
-/// The act that leaves the place of window n, the last with an entry of its own. The acts are numbered one above the places they leave.
-fn last_window(table: &Table) -> [u64; 3] {
+/// An act that leaves the place of window n, the last with an entry of its own.
+fn last_window(random: &mut Random, table: &Table) -> [u64; 3] {
     let n = table.values.n;
     let moment = table.earliest(n).unwrap_or(0).max(table.clock);
-    [number_of(table.place(n)) + 1, n, moment]
+    [act_from(random, table.place(n)), n, moment]
+}
+
+/// A try at a moment when nobody is late, of a window in remainder if there is one.
+pub fn a_try(random: &mut Random, table: &Table) -> [u64; 3] {
+    let n = table.values.n;
+    let away: Vec<u64> = (1..=n).filter(|&window| table.place(window) == Place::Remainder).collect();
+    let window = if away.is_empty() { n } else { random.pick(&away) };
+    [TRY, window, Walk { random, table: *table, focus: n, pause: 3 }.moment()]
 }
 
 /// As `act`, but the crit of a window that may enter comes more often.
@@ -38,11 +45,12 @@ pub fn act_or_crit(random: &mut Random, table: &Table) -> [u64; 3] {
 }
 
 /// The edges of the specification's rules, and those of smaller numbers than 64 bits hold.
-const EDGES: [u64; 14] = [
+const EDGES: [u64; 15] = [
     0,
     1,
     8,
     9,
+    10,
     96,
     97,
     LIMIT_END,

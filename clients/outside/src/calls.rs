@@ -2,7 +2,7 @@
 
 use crate::lent::Lent;
 use funnelfawn::raw;
-use reference::answer::Answer;
+use reference::answer::{Answer, ACCEPTED};
 use reference::board::Told;
 use reference::machine::Values;
 
@@ -44,6 +44,11 @@ pub fn step(table: &[u64], [act, window, moment]: [u64; 3], wanted: (Answer, &[u
     let mut lent = Lent::new(table, GUARD);
     let got = raw::step(lent.list(), act, window, moment);
     held(got, wanted.0, [("table", &lent, wanted.1)])
+}
+
+/// Whether a step would be accepted; the list is left as it is.
+pub fn accepts(table: &[u64], [act, window, moment]: [u64; 3]) -> bool {
+    raw::step(&mut table.to_vec(), act, window, moment).number == ACCEPTED
 }
 
 pub fn new_summary(summary: &[u64], wanted: (Answer, &[u64])) -> Verdict {

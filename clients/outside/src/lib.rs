@@ -10,5 +10,6 @@ pub mod lent;
 pub mod lists;
 pub mod stored;
 pub mod tables;
+pub mod taken_back;
 pub mod tally;
 pub mod texts;

@@ -42,6 +42,18 @@ pub struct Tally {
     pub lists: u64,
     pub listed: u64,
     pub rounds: u64,
+    walks: Seen,
+}
+
+/// What came up in walks, beside answers.
+#[derive(Default)]
+pub struct Seen {
+    /// accepted withdraws
+    pub withdraws: u64,
+    /// tries that a withdraw took back
+    pub taken_back: u64,
+    /// calls from a fresh table on, after which the promises of lists were looked at
+    pub promised: u64,
 }
 
 impl Tally {
@@ -64,12 +76,22 @@ impl Tally {
         }
     }
 
+    /// What one walk came to.
+    pub fn add(&mut self, seen: &Seen) {
+        self.walks.withdraws += seen.withdraws;
+        self.walks.taken_back += seen.taken_back;
+        self.walks.promised += seen.promised;
+    }
+
     /// Says it all; true if nothing differs and nothing is missing.
     pub fn report(&self) -> bool {
-        let Tally { calls, differ, others, boards, taken, refused, lists, listed, rounds } = self;
+        let Tally { calls, differ, others, boards, taken, refused, lists, listed, rounds, walks } = self;
+        let Seen { withdraws, taken_back, promised } = walks;
         println!("answers: {}", others.said(OTHERS));
         println!("answers of boards: {}", boards.said(OF_BOARDS));
         println!("accepted crits that a board was told of: it took {taken}, refused {refused}");
+        println!("accepted withdraws: {withdraws}, and {taken_back} that took back a try");
+        println!("calls from a fresh table on, with promises: {promised}");
         println!(
             "lists of board calls: {lists}, of {listed} calls, which went around the places {rounds} times"
         );
@@ -79,6 +101,9 @@ impl Tally {
             (*taken == 0, "the entry of a crit that a board took"),
             (*refused == 0, "the entry of a crit that a board refused"),
             (*rounds == 0, "a list of board calls that went around the places"),
+            (*withdraws == 0, "a withdraw that is accepted"),
+            (*taken_back == 0, "a withdraw that took back a try"),
+            (*promised == 0, "a call from a fresh table on"),
         ];
         let missing = missing.into_iter().filter_map(|(is_missing, what)| is_missing.then_some(what));
         let missing: Vec<&str> = missing.collect();

@@ -182,7 +182,7 @@ impl Walk<'_> {
     }
 
     /// A moment from the clock to the last one, these two often.
-    fn moment(&mut self) -> u64 {
+    pub fn moment(&mut self) -> u64 {
         let (clock, last) = (self.table.clock, self.last_moment());
         match self.random.below(10) {
             0..=3 => clock,

@@ -1,20 +1,22 @@
 //! differential [COUNT [SEED]]: makes COUNT random calls of the library and compares all that comes of them with the reference.
 //! Exit status 0 only if none differs, each number of an answer came up, from boards too, boards took and refused the entries of accepted
-//! crits, and lists of board calls went around the places.
+//! crits, lists of board calls went around the places, withdraws were accepted and took back tries, and every walk from a fresh table on kept
+//! the promises of lists.
 
 use funnelfawn::raw::BOARD;
 use outside::calls::{self, Verdict};
 use outside::encoding::{summary_in, table_in};
 use outside::lists::{lent_summary, lent_table, Made};
 use outside::tables::start;
-use outside::tally::{of_board, of_other, Outcome, Tally};
-use outside::{acts, boards, expected, texts};
+use outside::tally::{of_board, of_other, Outcome, Seen, Tally};
+use outside::{acts, boards, expected, taken_back, texts};
 use reference::answer::{bare, Answer, ACCEPTED};
 use reference::board::Told;
 use reference::board_list::{BoardCall, FullList};
 use reference::generator::boards::{list, Family};
 use reference::generator::random::Random;
-use reference::machine::{Table, Values};
+use reference::machine::{fresh, Table, Values, WITHDRAW};
+use reference::promises::Promises;
 use reference::summary::Summary;
 use std::process::exit;
 
@@ -85,6 +87,9 @@ struct Walk {
     table: Table,
     summary: Summary,
     board: Vec<u64>,
+    /// those of the calls so far, if the table was fresh at the start
+    promises: Option<Promises>,
+    seen: Seen,
 }
 
 fn walk(seed: u64, index: u64, count: u64, tally: &mut Tally) {
@@ -92,10 +97,12 @@ fn walk(seed: u64, index: u64, count: u64, tally: &mut Tally) {
     let table = start(&mut random);
     let length = random.between(1, LONGEST).min(count - tally.calls);
     let board = boards::start(&mut random, table.clock);
-    let mut walk = Walk { random, table, summary: Summary::new(), board };
+    let promises = (table == fresh(table.values).1).then(Promises::default);
+    let mut walk = Walk { random, table, summary: Summary::new(), board, promises, seen: Seen::default() };
     for call in 0..length {
         tally.count(walk.call(), || format!("seed {seed}, walk {index}, call {call}"));
     }
+    tally.add(&walk.seen);
 }
 
 impl Walk {
@@ -104,7 +111,8 @@ impl Walk {
             0 => of_other(texts::call(&mut self.random)),
             1..=3 => of_other(self.fresh()),
             4 => of_other(self.new_summary()),
-            5..=39 => of_other(self.step()),
+            5 | 6 => of_other(self.take_back()),
+            7..=39 => of_other(self.step()),
             40..=74 => of_other(self.record()),
             75..=89 => self.record_and_tell(),
             90 => of_board(self.set_up_board()),
@@ -137,13 +145,20 @@ impl Walk {
         (answer, verdict.map_err(|what| format!("new summary: {what}")))
     }
 
+    /// On a copy of the walk's table.
+    fn take_back(&mut self) -> (Answer, Verdict) {
+        let (answer, verdict) = taken_back::call(&mut self.random, &self.table);
+        self.seen.taken_back += u64::from(answer.number == ACCEPTED);
+        (answer, verdict)
+    }
+
     fn step(&mut self) -> (Answer, Verdict) {
         let call @ [act, window, moment] = acts::act(&mut self.random, &self.table);
         let lent = lent_table(&mut self.random, &self.table, 15);
         let mut after = lent.numbers.clone();
         let answer = expected::step(&mut after, act, window, moment);
         let verdict = calls::step(&lent.numbers, call, (answer, &after));
-        self.keep(lent.own, &after);
+        let verdict = verdict.and(self.keep(lent.own, call, answer, &after));
         (answer, verdict.map_err(|what| format!("step {call:?} on {:?}: {what}", lent.numbers)))
     }
 
@@ -155,7 +170,7 @@ impl Walk {
         let answer = expected::record(&mut after, &mut counted, act, window, moment);
         let wanted = (answer, &after[..], &counted[..]);
         let verdict = calls::record(&lent.numbers, &summary.numbers, call, wanted);
-        self.keep(lent.own, &after);
+        let verdict = verdict.and(self.keep(lent.own, call, answer, &after));
         if lent.own && summary.own {
             self.summary = summary_in(&counted).expect("a call keeps a list's length");
         }
@@ -174,8 +189,8 @@ impl Walk {
             expected::record_and_tell(&mut after, &mut counted, &mut told, call);
         let wanted = (answers, [&after[..], &counted, &told]);
         let verdict = calls::record_and_tell(lists, call, wanted);
+        let verdict = verdict.and(self.keep(table.own, call, step, &after));
         let verdict = verdict.map_err(|what| format!("record and tell {call:?} on {lists:?}: {what}"));
-        self.keep(table.own, &after);
         if table.own && summary.own {
             self.summary = summary_in(&counted).expect("a call keeps a list's length");
         }
@@ -224,10 +239,15 @@ impl Walk {
         }
     }
 
-    /// The walk goes on from what is left of its own table.
-    fn keep(&mut self, own: bool, after: &[u64]) {
-        if own {
-            self.table = table_in(after).expect("a table stays one");
+    /// The walk goes on from what is left of its own table, with the promises that hold of it.
+    fn keep(&mut self, own: bool, call: [u64; 3], answer: Answer, after: &[u64]) -> Verdict {
+        if !own {
+            return Ok(());
         }
+        self.table = table_in(after).expect("a table stays one");
+        self.seen.withdraws += u64::from(call[0] == WITHDRAW && answer.number == ACCEPTED);
+        let Some(promises) = &mut self.promises else { return Ok(()) };
+        self.seen.promised += 1;
+        promises.after(call, answer, &self.table, |call| calls::accepts(after, call))
     }
 }

@@ -13,10 +13,10 @@ type Call = Box<dyn FnMut(&str) -> Verdict>;
 fn files() -> [(&'static str, usize, Call); 5] {
     let mut board = stored::Board::new();
     [
-        ("step.txt", 300, Box::new(stored::step)),
-        ("recorded.txt", 300, Box::new(stored::recorded)),
-        ("reader.txt", 100, Box::new(stored::reader)),
-        ("writer.txt", 150, Box::new(stored::writer)),
+        ("step.txt", 340, Box::new(stored::step)),
+        ("recorded.txt", 340, Box::new(stored::recorded)),
+        ("reader.txt", 110, Box::new(stored::reader)),
+        ("writer.txt", 160, Box::new(stored::writer)),
         ("board.txt", 141, Box::new(move |line| board.call(line))),
     ]
 }
