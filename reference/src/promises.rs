@@ -45,6 +45,7 @@ impl Promises {
         }
         self.start_span(table);
         one_seller(table)?;
+        seller_named(answer, table)?;
         time_can_pass(table, &accepts)?;
         the_due_can_act(table, &accepts)
     }
@@ -96,6 +97,14 @@ fn one_seller(table: &Table) -> Kept {
         0 | 1 => Ok(()),
         sellers => Err(format!("{sellers} windows sell")),
     }
+}
+
+/// [8.100]
+fn seller_named(answer: Answer, table: &Table) -> Kept {
+    if answer.number == ACCEPTED && answer.window != table.seller() {
+        return Err(format!("the answer names window {}, and {} sells", answer.window, table.seller()));
+    }
+    Ok(())
 }
 
 fn is_due(table: &Table, window: u64) -> bool {

@@ -128,6 +128,14 @@ fn two_sellers_are_found() {
 }
 
 #[test]
+fn a_seller_who_is_not_named_is_found() {
+    let mut watched = Watched::new(VALUES);
+    watched.table.places[1] = Place::Selling;
+    assert_eq!(watched.look(WAIT, 0, 0, answer(ACCEPTED, 2, 0)), Ok(()));
+    assert!(watched.look(WAIT, 0, 0, answer(ACCEPTED, 0, 0)).is_err());
+}
+
+#[test]
 fn who_is_stuck_is_found() {
     let mut watched = Watched::new(VALUES);
     watched.accepted(TRY, 1, 0);
