@@ -16,6 +16,7 @@ use rules::actions::TEST;
 use rules::actions::TRY;
 use rules::actions::UNKNOWN;
 use rules::actions::WAIT;
+use rules::actions::WITHDRAW;
 use rules::actions::checked;
 use rules::actions::no_row;
 use rules::actions::row;
@@ -143,6 +144,7 @@ pub fn step(mut state: State, action: u64, process: u64, time: u64) -> Outcome
         EXIT => row(CRITICAL, Location::Resetting(time), word),
         RESET => row(RESETTING, Location::Leaving(time), 0),
         REM => row(LEAVING, Location::Remainder, word),
+        WITHDRAW => row(TESTING, Location::Remainder, word),
         UNKNOWN.. => no_row(word),
     };
     let answer = judge(

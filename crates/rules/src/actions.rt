@@ -34,8 +34,11 @@ pub const RESET: u64 = 7;
 // [3.8]
 pub const REM: u64 = 8;
 
+// [3.9]
+pub const WITHDRAW: u64 = 9;
+
 // [3.40] the last act
-pub const LAST_ACT: u64 = REM;
+pub const LAST_ACT: u64 = WITHDRAW;
 
 // [3.40] the first number that is none
 pub const UNKNOWN: u64 = LAST_ACT + 1;

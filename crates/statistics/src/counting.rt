@@ -4,6 +4,7 @@ use model::Counts;
 use rules::actions::CRIT;
 use rules::actions::EXIT;
 use rules::actions::TRY;
+use rules::actions::WITHDRAW;
 use values::greater;
 ghost use mathlib.Core.Path.{_≡_};
 ghost use Rattle.model.specs.Summaries.{oneRefused, oneAccepted, oneEntry, oneExit, countsAfter, triedAfter};
@@ -70,6 +71,9 @@ pub(crate) fn tried_after(tried: u64, action: u64, time: u64) -> u64
         return time;
     }
     if action == CRIT {
+        return 0;
+    }
+    if action == WITHDRAW {
         return 0;
     }
     tried

@@ -10,7 +10,7 @@ use lib.ListN.{getD}
 use Rattle.model.specs.declared.Location.{Location}
 use Rattle.model.specs.States.{idle, entryOf}
 use Rattle.model.specs.Stages.{testing, checking}
-use Rattle.model.specs.Acts.{waitAct, tryAct, testAct, setAct, checkAct, critAct, exitAct, resetAct, remAct, lastAct, leaves}
+use Rattle.model.specs.Acts.{waitAct, tryAct, testAct, setAct, checkAct, critAct, exitAct, resetAct, remAct, withdrawAct, lastAct, leaves}
 use Rattle.model.specs.Actions.{row, transitionOf}
 use Rattle.model.specs.Answers.{stepOf}
 use Rattle.machine.proofs.Laws.{length-mapped, none-below}
@@ -124,6 +124,9 @@ row-requires-7 c κs = search needs
 row-requires-8 : tie.Need-row-requires-8 Inv-loop μ-loop
 row-requires-8 c κs = search needs
 
+row-requires-9 : tie.Need-row-requires-9 Inv-loop μ-loop
+row-requires-9 c κs = search needs
+
 no-row-requires-2 : tie.Need-no-row-requires-2 Inv-loop μ-loop
 no-row-requires-2 c κs = search needs
 
@@ -170,7 +173,8 @@ is-row c some known =
     (⊎-elim (λ w. w .2 ∙ w .1 .ensures ∙ at exitAct (w .0 .keys7))
     (⊎-elim (λ w. w .2 ∙ w .1 .ensures ∙ at resetAct (w .0 .keys8))
     (⊎-elim (λ w. w .2 ∙ w .1 .ensures ∙ at remAct (w .0 .keys9))
-    (λ w. absurd (omega (arith, none-below (lastAct + 1) (a .action) (w .0 .rest))))))))))))
+    (⊎-elim (λ w. w .2 ∙ w .1 .ensures ∙ at withdrawAct (w .0 .keys10))
+    (λ w. absurd (omega (arith, none-below (lastAct + 1) (a .action) (w .0 .rest)))))))))))))
     (c .match .came)
 
 judge-requires : tie.Need-judge-requires Inv-loop μ-loop
@@ -179,8 +183,8 @@ judge-requires c κs = search needs
 entry-at-requires : tie.Need-entry-at-requires Inv-loop μ-loop
 entry-at-requires c κs = search needs
 
-mul-t47 : tie.Need-mul-t47 Inv-loop μ-loop
-mul-t47 c = search needs
+mul-t48 : tie.Need-mul-t48 Inv-loop μ-loop
+mul-t48 c = search needs
 
 element-set-from-state : tie.Need-element-set-from-state Inv-loop μ-loop
 element-set-from-state c = search needs
@@ -257,12 +261,13 @@ step-spec =
     row-requires-6
     row-requires-7
     row-requires-8
+    row-requires-9
     no-row-requires-2
     stage-of-requires
     check-from-requires
     judge-requires
     entry-at-requires
-    mul-t47
+    mul-t48
     element-set-from-state
     returns-2
     returns-3
