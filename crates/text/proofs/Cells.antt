@@ -2,12 +2,12 @@
 use Prim.Native.Nat.{ℕ, _+_, _-_, _*_, _≤_, _<_}
 use mathlib.Core.Path.{_≡_, ap, _∙_}
 use mathlib.Core.Bool.{Bool, true, _&&_}
-use mathlib.Core.List.{List, [], _∷_, _++_}
+use mathlib.Core.List.{List, []}
 use native.Mathlib.Omega.{arith}
 use lib.Dec.{leb, eqb}
-use lib.ListN.{length, getD, take, drop, length-append}
+use lib.ListN.{length, getD, take, drop}
 use lib.Seq.{take-append-seam}
-use Rattle.model.specs.Texts.{newline, words}
+use Rattle.model.specs.Texts.{words}
 use Rattle.model.specs.Readings.{startsWith}
 use Rattle.model.proofs.Tests.{tests}
 use Rattle.grammar.proofs.Tables.{every, every-at}
@@ -15,18 +15,18 @@ use Rattle.grammar.proofs.Fields.{starts-took}
 
 -- how many bytes a cell has
 abbrev pub cellWidth : ℕ
-cellWidth = 6
+cellWidth = 8
 
--- the cell of an act holds its word and the end of its line
+-- the cell of an act holds its word
 pub record Cell (cells widths : List ℕ) (a : ℕ) : Type 0 where
-  pub holds : take (a * cellWidth + getD widths a 0 - a * cellWidth) (drop (a * cellWidth) cells) ≡ getD words a [] ++ (newline ∷ [])
-  pub wide : getD widths a 0 ≡ length (getD words a []) + 1
+  pub holds : take (a * cellWidth + getD widths a 0 - a * cellWidth) (drop (a * cellWidth) cells) ≡ getD words a []
+  pub wide : getD widths a 0 ≡ length (getD words a [])
   pub fits : getD widths a 0 ≤ cellWidth
 
 -- the same as a test, where w is the word
 abbrev pub right : List ℕ → List ℕ → ℕ → List ℕ → Bool
 right cells widths a w =
-    startsWith (w ++ (newline ∷ [])) (drop (a * cellWidth) cells) && eqb (getD widths a 0) (length w + 1) && leb (getD widths a 0) cellWidth
+    startsWith w (drop (a * cellWidth) cells) && eqb (getD widths a 0) (length w) && leb (getD widths a 0) cellWidth
 
 -- a table that passes it at each act
 pub record Tabled (cells widths : List ℕ) : Type 0 where
@@ -34,8 +34,8 @@ pub record Tabled (cells widths : List ℕ) : Type 0 where
 
 pub cell : {cells widths : List ℕ} → Tabled cells widths → (a : ℕ) → a < length words → Cell cells widths a
 cell {cells} {widths} t a h =
-    let line : List ℕ = getD words a [] ++ (newline ∷ []) in
+    let word : List ℕ = getD words a [] in
     let r = simp tests at (every-at (right cells widths) words [] (t .all) a h) in
-    let size : a * cellWidth + getD widths a 0 - a * cellWidth ≡ length line = omega (arith, r .0 .1, length-append (getD words a []) (newline ∷ [])) in
-    let split = starts-took line (drop (a * cellWidth) cells) (r .0 .0) .split in
-    record { holds = rw size (ap (take (length line)) split ∙ take-append-seam line _); wide = r .0 .1; fits = r .1 }
+    let size : a * cellWidth + getD widths a 0 - a * cellWidth ≡ length word = omega (arith, r .0 .1) in
+    let split = starts-took word (drop (a * cellWidth) cells) (r .0 .0) .split in
+    record { holds = rw size (ap (take (length word)) split ∙ take-append-seam word _); wide = r .0 .1; fits = r .1 }

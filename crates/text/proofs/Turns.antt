@@ -1,17 +1,18 @@
 -- One turn of each loop over bytes, said of the definitions that the loops compute. Assumes nothing.
 use Prim.Native.Nat.{ℕ, suc, _+_, _-_, _*_, _≤_, _<_}
-use mathlib.Core.Path.{_≡_}
+use mathlib.Core.Path.{_≡_, refl}
 use mathlib.Core.Bool.{false, cond, _&&_, _||_}
 use mathlib.Core.List.{List, [], _∷_, _++_}
 use native.Mathlib.Omega.{arith}
 use lib.Dec.{leb, ltb, eqb}
-use lib.ListN.{length, getD, drop, set}
+use lib.ListN.{length, getD, drop, set, drop-of-length-le}
 use lib.Seq.{drop-drop}
 use Rattle.model.specs.declared.Field.{Field}
 use Rattle.model.specs.declared.Field.the-variants.{Value, Bad}
 use Rattle.model.specs.Texts.{comma, newline, numberBound, words}
 use Rattle.model.specs.Readings.{startsWith, numberFrom, numberAt, wordFrom, lineOf, lineFails, numbersFrom}
 use Rattle.model.proofs.Lists.{drop-at, drop-end}
+use Rattle.model.proofs.Tests.{by-test}
 
 module _ (w s : List ℕ) (i : ℕ) (hw : i < length w) where
   pub starts-short : length s ≤ i → i ≤ length s → startsWith (drop i w) (drop i s) ≡ false
@@ -21,6 +22,23 @@ module _ (w s : List ℕ) (i : ℕ) (hw : i < length w) where
   pub starts-at : i < length s → startsWith (drop i w) (drop i s) ≡ eqb (getD s i 0) (getD w i 0) && startsWith (drop (i + 1) w) (drop (i + 1) s)
   unfolding startsWith
   starts-at hs = rw (drop-at w i 0 hw, drop-at s i 0 hs)
+
+-- a text starts with two texts, one after the other
+pub starts-append : (w v s : List ℕ) → startsWith (w ++ v) s ≡ startsWith w s && startsWith v (drop (length w) s)
+unfolding startsWith
+starts-append [] v s = refl
+starts-append (x ∷ w) v [] = refl
+starts-append (x ∷ w) v (y ∷ s) = by-test (eqb y x) (λ e. rw e (starts-append w v s)) (λ e. rw e)
+
+-- the end of a line after the first i bytes
+module _ (s : List ℕ) (i : ℕ) where
+  pub line-short : length s ≤ i → startsWith (newline ∷ []) (drop i s) ≡ false
+  unfolding startsWith
+  line-short h = rw (drop-of-length-le s {i = i} h)
+
+  pub line-ends : i < length s → startsWith (newline ∷ []) (drop i s) ≡ eqb (getD s i 0) newline
+  unfolding startsWith
+  line-ends h = rw (drop-at s i 0 h) (by-test (eqb (getD s i 0) newline) (λ e. rw e) (λ e. rw e))
 
 -- a number at the byte x, of which k digits made v
 abbrev pub numberTurn : ℕ → ℕ → ℕ → ℕ → ℕ → List ℕ → Field

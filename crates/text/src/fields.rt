@@ -7,9 +7,10 @@ use crate::words::WIDTHS;
 use model::Field;
 ghost use mathlib.Core.Path.{_≡_};
 ghost use mathlib.Core.Bool.{_&&_};
+ghost use mathlib.Core.List.{[], _∷_, _++_};
 ghost use Prim.Native.Nat.{_≤_};
 ghost use lib.Dec.{eqb, ltb};
-ghost use Rattle.model.specs.Texts.{comma, timeBound, numberBound};
+ghost use Rattle.model.specs.Texts.{comma, newline, timeBound, numberBound};
 ghost use Rattle.model.specs.Readings.{startsWith, numberAt, wordAt};
 
 // [6.65] A time is below this.
@@ -99,6 +100,19 @@ pub fn number_at(s: &[u8], end: u8) -> Field
     number_below(s, NUMBER_BOUND, end)
 }
 
+// s starts with w and the end of a line.
+fn line_is(s: &[u8], w: &[u8]) -> bool
+    ensures { λ r. ⌜ r ≡ startsWith (now (w .entry) ++ (newline ∷ [])) (now (s .entry)) ⌝ }
+{
+    if !starts_with(s, w) {
+        return false;
+    }
+    if s.len() <= w.len() {
+        return false;
+    }
+    s[w.len()] == b'\n'
+}
+
 // [6.70] The action whose word fills the line.
 pub fn word_at(s: &[u8]) -> Field
     ensures { λ r. ⌜ r ≡ wordAt (now (s .entry)) ⌝ }
@@ -107,11 +121,11 @@ pub fn word_at(s: &[u8]) -> Field
     let widths = WIDTHS;
     let mut action: u64 = 0;
     while action < COUNT {
-        let width = widths[action as usize];
+        let width = widths[action as usize] as usize;
         let from = (action as usize) * CELL;
         let to = from + width;
-        if starts_with(s, &cells[from..to]) {
-            return Field::Value(action, width);
+        if line_is(s, &cells[from..to]) {
+            return Field::Value(action, width + 1);
         }
         action += 1;
     }

@@ -65,6 +65,8 @@ pub fn put_word(out: &mut [u8], at: usize, action: u64) -> usize
     let cells = CELLS;
     let widths = WIDTHS;
     let from = (action as usize) * CELL;
-    let to = from + widths[action as usize];
-    put_text(out, at, &cells[from..to])
+    let to = from + (widths[action as usize] as usize);
+    let k = put_text(out, at, &cells[from..to]);
+    put_byte(out, at, k, b'\n');
+    k + 1
 }

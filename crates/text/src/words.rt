@@ -1,14 +1,14 @@
 // The words of the acts, for the reader and the writer: one table, in the order of the acts' numbers.
 
 // [3.40] How many acts there are.
-pub const COUNT: u64 = 9;
+pub const COUNT: u64 = 10;
 
-// Each word, with the end of its line, stands at the start of a cell of six bytes.
-pub(crate) const CELL: usize = 6;
+// Each word stands at the start of a cell of eight bytes.
+pub(crate) const CELL: usize = 8;
 
 // [6.70]
-pub(crate) const CELLS: [u8; 54] =
-    *b"wait\n try\n  test\n set\n  check\ncrit\n exit\n reset\nrem\n  ";
+pub(crate) const CELLS: [u8; 80] =
+    *b"wait    try     test    set     check   crit    exit    reset   rem     withdraw";
 
 // How many bytes of its cell a word takes.
-pub(crate) const WIDTHS: [usize; 9] = [5, 4, 5, 4, 6, 5, 5, 6, 4];
+pub(crate) const WIDTHS: [u8; 10] = [4, 3, 4, 3, 5, 4, 4, 5, 3, 8];

@@ -21,27 +21,27 @@ abbrev μ-loop : tie.MeasureT-loop
 μ-loop s cells widths action₀ action = length words - action
 
 -- what is left at the word that is tried
-turn : (c : tie.After-starts-with Inv-loop μ-loop)
+turn : (c : tie.After-line-is Inv-loop μ-loop)
     → (let a = c .before .before .before .before .loop .action in
     let s = c .before .before .before .before .before .before .args .s .now in
-    cond (c .starts-with .result) (Value a (length (getD words a []) + 1)) (wordFrom (a + 1) (drop (a + 1) words) s) ≡ wordAt s)
+    cond (c .line-is .result) (Value a (length (getD words a []) + 1)) (wordFrom (a + 1) (drop (a + 1) words) s) ≡ wordAt s)
 turn c =
     let a = c .before .before .before .before .loop .action in
     let h = c .before .before .before .loop-test .taken in
     let v = c .before .before .before .before .loop in
-    let e = rw (cell (v .inv .0) a h .holds) at (c .starts-with .ensures) in
+    let e = rw (cell (v .inv .0) a h .holds) at (c .line-is .ensures) in
     rw e (sym (word-at a (c .before .before .before .before .before .before .args .s .now) h) ∙ v .inv .2)
 
--- the table of the code has each word with the end of its line
+-- the table of the code has each word
 loop-holds : tie.Need-loop-holds Inv-loop μ-loop
 unfolding startsWith
 loop-holds c = (record { all = refl }, omega arith, refl)
 
-mul-width : tie.Need-mul-width Inv-loop μ-loop
-mul-width c = search needs
-
 array-read-width : tie.Need-array-read-width Inv-loop μ-loop
 array-read-width c = search needs
+
+cast-width : tie.Need-cast-width Inv-loop μ-loop
+cast-width c = omega (arith, cell (c .before .loop .inv .0) (c .before .loop .action) (c .loop-test .taken) .fits)
 
 mul-from : tie.Need-mul-from Inv-loop μ-loop
 mul-from c = search needs
@@ -49,17 +49,22 @@ mul-from c = search needs
 add-to : tie.Need-add-to Inv-loop μ-loop
 add-to c = omega (arith, cell (c .before .loop .inv .0) (c .before .loop .action) (c .loop-test .taken) .fits)
 
-sub-starts-with : tie.Need-sub-starts-with Inv-loop μ-loop
-sub-starts-with c = search needs
+sub-line-is : tie.Need-sub-line-is Inv-loop μ-loop
+sub-line-is c = search needs
 
-part-starts-with-start : tie.Need-part-starts-with-start Inv-loop μ-loop
-part-starts-with-start c = search needs
+part-line-is-start : tie.Need-part-line-is-start Inv-loop μ-loop
+part-line-is-start c = search needs
 
-part-starts-with-end : tie.Need-part-starts-with-end Inv-loop μ-loop
-part-starts-with-end c = omega (arith, cell (c .before .before .loop .inv .0) (c .before .before .loop .action) (c .before .loop-test .taken) .fits)
+part-line-is-end : tie.Need-part-line-is-end Inv-loop μ-loop
+part-line-is-end c = omega (arith, cell (c .before .before .loop .inv .0) (c .before .before .loop .action) (c .before .loop-test .taken) .fits)
 
-starts-with-requires : tie.Need-starts-with-requires Inv-loop μ-loop
-starts-with-requires c κs = search needs
+line-is-requires : tie.Need-line-is-requires Inv-loop μ-loop
+line-is-requires c κs = search needs
+
+add-t20 : tie.Need-add-t20 Inv-loop μ-loop
+add-t20 c =
+    let v = c .before .before .before .before .before .loop in
+    omega (arith, cell (v .inv .0) (v .action) (c .before .before .before .before .loop-test .taken) .fits)
 
 returns : tie.Need-returns Inv-loop μ-loop
 returns c =
@@ -86,14 +91,15 @@ word-at-spec =
     Inv-loop
     μ-loop
     loop-holds
-    mul-width
     array-read-width
+    cast-width
     mul-from
     add-to
-    sub-starts-with
-    part-starts-with-start
-    part-starts-with-end
-    starts-with-requires
+    sub-line-is
+    part-line-is-start
+    part-line-is-end
+    line-is-requires
+    add-t20
     returns
     add-action
     loop-less

@@ -1,22 +1,23 @@
 -- `puts::put_word` meets its contract: the cell of an act holds its word. Assumes nothing.
 use Prim.Native.Nat.{ℕ}
-use mathlib.Core.Path.{refl}
+use mathlib.Core.Path.{refl, ap}
 use mathlib.Core.List.{List, [], _∷_}
 use native.Mathlib.Omega.{arith}
-use lib.ListN.{List·getD-eq-default}
+use lib.ListN.{length, List·getD-eq-default}
 use Rattle.model.specs.Texts.{bytes, words, wordText}
 use Rattle.model.specs.Readings.{startsWith}
 use Rattle.text.proofs.Cells.{Tabled, cell}
+use Rattle.text.proofs.Putting.{put-one, put-both}
 use borrow.Author.Needs.{needs}
 use Rattle.text.proofs.puts.put_word.Statement.{statement}
 use Rattle.text.proofs.puts.put_word.Tie as tie
 
 -- the constants of `words`
 abbrev cells : List ℕ
-cells = bytes "wait\n try\n  test\n set\n  check\ncrit\n exit\n reset\nrem\n  "
+cells = bytes "wait    try     test    set     check   crit    exit    reset   rem     withdraw"
 
 abbrev widths : List ℕ
-widths = 5 ∷ 4 ∷ 5 ∷ 4 ∷ 6 ∷ 5 ∷ 5 ∷ 6 ∷ 4 ∷ []
+widths = 4 ∷ 3 ∷ 4 ∷ 3 ∷ 5 ∷ 4 ∷ 4 ∷ 5 ∷ 3 ∷ 8 ∷ []
 
 tabled : Tabled cells widths
 unfolding startsWith
@@ -38,11 +39,11 @@ returns c = rw (List·getD-eq-default words [] (c .before .before .before .befor
 mul-from : tie.Need-mul-from
 mul-from c = search needs
 
-mul-to : tie.Need-mul-to
-mul-to c = search needs
-
 array-read-to : tie.Need-array-read-to
 array-read-to c = search needs
+
+cast-to : tie.Need-cast-to
+cast-to c = omega (arith, cell tabled (c .before .before .args .action) (c .if1 .left) .fits)
 
 add-to : tie.Need-add-to
 add-to c = omega (arith, cell tabled (c .before .before .args .action) (c .if1 .left) .fits)
@@ -59,14 +60,24 @@ part-put-text-end c = omega (arith, cell tabled (c .before .before .before .befo
 put-text-requires-2 : tie.Need-put-text-requires-2
 put-text-requires-2 c κs = search needs
 
+put-byte-requires : tie.Need-put-byte-requires
+put-byte-requires c κs = search needs
+
+add-result : tie.Need-add-result
+add-result c =
+    let word = cell tabled (c .before .before .before .before .before .before .before .before .before .before .before .before .args .action)
+        (c .before .before .before .before .before .before .before .before .before .before .if1 .left) in
+    omega (arith, ap length (word .holds), c .before .before .before .before .before .before .put-text2 .ensures .wide)
+
 same-length-2 : tie.Need-same-length-2
 same-length-2 c = search needs
 
 returns-2 : tie.Need-returns-2
 unfolding wordText
 returns-2 c =
-    let a = c .before .before .before .before .before .before .before .before .args in
-    rw (cell tabled (a .action) (c .before .before .before .before .before .before .if1 .left) .holds) at (c .before .before .put-text2 .ensures)
+    let a = c .before .before .before .before .before .before .before .before .before .before .before .before .args in
+    let word = cell tabled (a .action) (c .before .before .before .before .before .before .before .before .before .before .if1 .left) in
+    put-both (rw (word .holds) at (c .before .before .before .before .before .before .put-text2 .ensures)) (put-one (c .before .before .put-byte .ensures))
 
 pub put-word-spec : {M : Type 1} → statement M
 put-word-spec =
@@ -77,12 +88,14 @@ put-word-spec =
     same-length
     returns
     mul-from
-    mul-to
     array-read-to
+    cast-to
     add-to
     sub-put-text
     part-put-text-start
     part-put-text-end
     put-text-requires-2
+    put-byte-requires
+    add-result
     same-length-2
     returns-2)
