@@ -21,7 +21,7 @@ use Rattle.lists.proofs.Calls.{unsound-call}
 use Rattle.lists.proofs.Sizes.{Whole, call-whole, run-whole}
 use Rattle.lists.proofs.Demand3.{every-list}
 use Rattle.layout.proofs.Encodings.{table-length, table-comes-back}
-use Rattle.layout.specs.Interface.{Lent, lentStep, LentBoth, recordGave}
+use Rattle.layout.specs.Interface.{Lent, lentGave, lentStep, LentBoth, recordGave}
 use Rattle.layout.specs.Guarantees.{LentCall, lentCall, lentResults, lentRun, callLent, summaryAfter}
 use Rattle.layout.specs.Guarantees.{inNumbers, allInNumbers, LentNotStuck, LentDemand3, EveryLentList}
 use Rattle.layout.proofs.LentSteps.{FreshGiven, fresh-given, stepCall, summary-kept, CallGiven, given}
@@ -57,15 +57,19 @@ module _ (s : State) (whole : Whole s) (rest : List ℕ) where
         (subst (λ (t : State). CallGiven numbers (d .summary) (callOf t (callLent d)) (lentCall numbers d))
         (table-comes-back s whole rest .1) (given numbers d))
 
-  -- a step on them is answered as at the table
-  step-code : (act p m : ℕ) → lentStep numbers act p m .answer .code ≡ stepOf s act p m .answer .code
+  -- a step on them is the step at the table
+  pub step-in-numbers : (act p m : ℕ)
+      → lentStep numbers act p m ≡ lentGave (stepOf s act p m .answer) (stateNumbers (stepOf s act p m .state) ++ rest)
   unfolding lentCall callOf
-  step-code act p m = ap (λ (g : LentBoth). g .answer .code) (call-in-numbers (stepCall act p m))
+  step-in-numbers act p m = ap (λ (g : LentBoth). lentGave (g .answer) (g .table)) (call-in-numbers (stepCall act p m))
+
+  pub step-code : (act p m : ℕ) → lentStep numbers act p m .answer .code ≡ stepOf s act p m .answer .code
+  step-code act p m = ap (λ (g : Lent). g .answer .code) (step-in-numbers act p m)
 
   not-stuck : {t : State} {ds : List Call} {rs : List Recorded} → Demand3 t ds rs s → LentNotStuck s numbers
   not-stuck d = record {
     waits = λ h. rw (step-code waitAct 0 (s .clock + 1)) (d .waits h);
-    acts = λ i due. let may = d .acts i due in (may .0, step-code (may .0) i (s .clock) ∙ may .1);
+    acts = λ i due. let may = d .acts i due in (may .0, may .1, step-code (may .0) i (s .clock) ∙ may .2);
   }
 
 -- A list of calls

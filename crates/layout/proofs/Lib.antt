@@ -4,4 +4,5 @@ pub mod LentSteps
 pub mod Refusals
 pub mod Writes
 pub mod LentLists
+pub mod LentTakenBack
 pub mod LentTallies

@@ -12,7 +12,7 @@ use Rattle.model.specs.declared.Parameters.{Parameters}
 use Rattle.model.specs.declared.State.{State}
 use Rattle.model.specs.declared.Statistics.{Statistics}
 use Rattle.model.specs.declared.Recorded.{Recorded}
-use Rattle.model.specs.Acts.{waitAct, withdrawAct}
+use Rattle.model.specs.Acts.{waitAct, tryAct, withdrawAct}
 use Rattle.model.specs.States.{lastTime}
 use Rattle.model.specs.Answers.{answerOf, freshOf}
 use Rattle.model.specs.Facts.{HasDeadline}
@@ -105,6 +105,12 @@ pub record LengthsStay : Type 0 where
   pub new-summary : (summary : List ℕ) → length (lentSummary summary .summary) ≡ length summary
   pub record-table : (table summary : List ℕ) (act p m : ℕ) → length (lentRecord table summary act p m .table) ≡ length table
   pub record-summary : (table summary : List ℕ) (act p m : ℕ) → length (lentRecord table summary act p m .summary) ≡ length summary
+
+-- [9.135] a try of process p at the time m, and directly after it a withdraw of p at m: of the table the clock alone is another
+abbrev pub LentWithdrawUndoesTry : Type 0
+LentWithdrawUndoesTry = (table : List ℕ) (p m : ℕ) → lentStep table tryAct p m .answer .code ≡ 0
+    → let tried = lentStep table tryAct p m .table in
+    (lentStep tried withdrawAct p m .answer .code ≡ 0) × (lentStep tried withdrawAct p m .table ≡ set table clockPlace m)
 
 -- Lists of calls, each on the numbers that the call before it left
 

@@ -1,21 +1,50 @@
--- The owed wait and those who withdraw: where nobody does, the wait is owed at every point of a span; where all do, the clock may run
--- on. Assumes nothing.
-use Prim.Native.Nat.{ℕ}
-use mathlib.Core.Path.{refl, subst}
-use mathlib.Core.Logic.{inl, inr}
-use mathlib.Core.List.{List, [], _∷_, _++_}
+-- The owed wait and those who withdraw: past the bound all have withdrawn, where nobody does the wait is owed at every point of a span,
+-- and the examples. Assumes nothing.
+use Prim.Native.Nat.{ℕ, zero, suc, _+_}
+use mathlib.Core.Path.{_≡_, refl, sym, subst}
+use mathlib.Core.Logic.{_⊎_, inl, inr, ⊎-elim}
+use mathlib.Core.List.{List, [], _∷_, _++_, append-nil}
 use native.Mathlib.Omega.{arith}
 use Rattle.model.specs.declared.Parameters.{Parameters}
 use Rattle.model.specs.declared.State.{State}
-use Rattle.model.specs.Acts.{waitAct, tryAct, withdrawAct, leaves}
-use Rattle.model.specs.States.{parametersOf, initial, limitIn, entriesSound, soundOf, entryOf}
+use Rattle.model.specs.Acts.{withdrawAct, tryAct, leaves}
+use Rattle.model.specs.States.{parametersOf, limitIn, entriesSound, soundOf, entryOf}
 use Rattle.model.specs.Actions.{transitionOf, effect}
-use Rattle.model.specs.Answers.{firstFrom, firstDeadline, criticalFrom, criticalOf, stepOf}
+use Rattle.model.specs.Answers.{firstFrom, firstDeadline, criticalFrom, criticalOf, stepOf, freshOf}
+use Rattle.model.specs.Facts.{IsFresh, IsCritical}
 use Rattle.model.specs.Folds.{endBy}
-use Rattle.model.specs.Calls.{Call, callOf, tableOf, runOf}
-use Rattle.lists.specs.Demand3.{Span, NotWithdrawn, OwedUnlessWithdrawn, stepCall, WithdrawnAreNotOwed}
+use Rattle.model.specs.Calls.{Call, callOf, outcomeOf, tableOf, runOf}
+use Rattle.lists.specs.Demand3.{InSpan, Span, Withdraws, NotWithdrawn, HasWithdrawn, PastOnlyWithdrawn, OwedUnlessWithdrawn}
+use Rattle.lists.specs.Demand3.{stepCall, exampleTable, bothTry, bothWithdraw, oneWithdraws, comesBack, AllWithdraw, OneStays, ComingBack}
+use Rattle.model.proofs.Tests.{if-eq}
 use Rattle.theory.proofs.Lowest.{accepted-tells}
 use Rattle.lists.proofs.Demand3.{every-list}
+
+-- Past the bound
+
+either : (s : State) (w : ℕ) (d : Call) → Withdraws s w d ⊎ (Withdraws s w d → ⊥)
+either s w d =
+    if-eq (d .action) withdrawAct
+    (λ e. if-eq (d .process) w
+    (λ f. if-eq (outcomeOf s d .answer .code) 0
+    (λ a. inl (record { withdraw = e; own = f; accepted = a }))
+    (λ n. inr (λ h. n (h .accepted))))
+    (λ n. inr (λ h. n (h .own))))
+    (λ n. inr (λ h. n (h .withdraw)))
+
+has-or-not : (s : State) (w : ℕ) (ds : List Call) → HasWithdrawn s w ds ⊎ NotWithdrawn s w ds
+has-or-not s w [] = inr tt
+has-or-not s w (d ∷ ds) = ⊎-elim (λ h. inl (inl h))
+    (λ n. ⊎-elim (λ h. inl (inr h)) (λ h. inr (n, h)) (has-or-not (tableOf s d) w ds))
+    (either s w d)
+
+pub past-only-withdrawn : PastOnlyWithdrawn
+past-only-withdrawn s fresh before during w span past = ⊎-elim (λ h. h)
+    (λ n. absurd (omega (
+      arith,
+      every-list s fresh (before ++ during) .owed before during [] w (sym (append-nil (before ++ during))) span n,
+    )))
+    (has-or-not (runOf s before) w during)
 
 -- Where nobody withdraws
 
@@ -30,28 +59,65 @@ stays-after s w [] es h = h
 stays-after s w (d ∷ ds) es h = stays-after (tableOf s d) w ds es (h .1)
 
 pub owed-unless-withdrawn : OwedUnlessWithdrawn
-owed-unless-withdrawn s fresh ds nobody before during after w e span =
+owed-unless-withdrawn s fresh ds nobody before during after w e span _ =
     let until = stays-before s w (before ++ during) after (subst (NotWithdrawn s w) e (nobody w)) in
     every-list s fresh ds .owed before during after w e span (stays-after s w before during until)
 
--- Where all withdraw
+-- The examples
 
-abbrev start : State
-start = initial (parametersOf 2 5 8 12)
+example-fresh : IsFresh exampleTable
+unfolding freshOf
+example-fresh = record { parameters = exampleTable .parameters; accepted = refl; is = refl }
 
--- after the first try
-abbrev tried : State
-tried = stepOf start tryAct 1 0 .state
-
-both-try : Span (runOf start (stepCall tryAct 1 0 ∷ stepCall tryAct 2 0 ∷ [])) 1
-    (stepCall withdrawAct 1 3 ∷ stepCall withdrawAct 2 5 ∷ stepCall waitAct 0 50 ∷ [])
+-- neither process is critical after the two tries, nor after the first
+none-after-both : (i : ℕ) → IsCritical (runOf exampleTable bothTry) i → ⊥
 unfolding endBy callOf stepOf soundOf entriesSound firstDeadline firstFrom entryOf leaves transitionOf effect criticalOf criticalFrom limitIn
-both-try = record {
-  trying = record { from = omega arith; at = refl };
-  none = accepted-tells tried tryAct 2 0 refl .none .0 refl;
-  calls = inr (λ e. omega (arith, e .crit), inr (λ e. omega (arith, e .crit), inl refl));
+none-after-both = accepted-tells (stepOf exampleTable tryAct 1 0 .state) tryAct 2 0 refl .none .0 refl
+
+none-after-one : (i : ℕ) → IsCritical (runOf exampleTable (stepCall tryAct 1 0 ∷ [])) i → ⊥
+unfolding endBy callOf stepOf soundOf entriesSound firstDeadline firstFrom entryOf leaves transitionOf effect criticalOf criticalFrom limitIn
+none-after-one = accepted-tells exampleTable tryAct 1 0 refl .none .0 refl
+
+pub all-withdraw : AllWithdraw
+unfolding endBy callOf stepOf soundOf entriesSound firstDeadline firstFrom entryOf leaves transitionOf effect criticalOf criticalFrom limitIn
+all-withdraw = record {
+  fresh = example-fresh;
+  runs-on = λ owed. omega (
+    arith,
+    owed bothTry bothWithdraw [] 1 refl (record {
+      trying = record { from = omega arith; at = refl };
+      none = none-after-both;
+      calls = inr (λ e. omega (arith, e .crit), inr (λ e. omega (arith, e .crit), inl refl));
+    }) tt,
+  );
 }
 
-pub withdrawn-are-not-owed : WithdrawnAreNotOwed
+pub one-stays : OneStays
 unfolding endBy callOf stepOf soundOf entriesSound firstDeadline firstFrom entryOf leaves transitionOf effect criticalOf criticalFrom limitIn
-withdrawn-are-not-owed owed = omega (arith, owed (stepCall tryAct 1 0 ∷ stepCall tryAct 2 0 ∷ []) _ [] 1 refl both-try)
+one-stays = record {
+  span = record {
+    trying = record { from = omega arith; at = refl };
+    none = none-after-both;
+    calls = inr (λ e. omega (arith, e .crit), inl refl);
+  };
+  stays = (λ h. omega (arith, h .own), (λ h. omega (arith, h .accepted), tt));
+  gone = inl (record { withdraw = refl; own = refl; accepted = refl });
+}
+
+-- nobody is let in while process 1 comes and goes
+no-entry : (s : State) (k m : ℕ) → InSpan s (comesBack k m)
+unfolding comesBack
+no-entry s zero m = tt
+no-entry s (suc k) m = inr (λ e. omega (arith, e .crit), inr (λ e. omega (arith, e .crit), no-entry _ k (m + 5)))
+
+pub coming-back : ComingBack
+unfolding comesBack endBy callOf stepOf soundOf entriesSound firstDeadline firstFrom entryOf leaves transitionOf effect criticalOf criticalFrom limitIn
+coming-back = record {
+  fresh = example-fresh;
+  runs-on = λ owed. omega (
+    arith,
+    owed (stepCall tryAct 1 0 ∷ []) (comesBack 10 0) [] 1 refl
+        (record { trying = record { from = omega arith; at = refl }; none = none-after-one; calls = no-entry _ 10 0 })
+        (record { from = omega arith; at = refl }),
+  );
+}

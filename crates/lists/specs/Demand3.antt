@@ -1,6 +1,6 @@
 -- Section 8 of the specification: what holds of every list of calls from a fresh table, one record with a field for each
 -- sentence. Assumes nothing.
-use Prim.Native.Nat.{ℕ, _+_, _*_, _≤_, _<_}
+use Prim.Native.Nat.{ℕ, zero, suc, _+_, _*_, _≤_, _<_}
 use mathlib.Core.Path.{_≡_}
 use mathlib.Core.Logic.{_⊎_, _≢_, _↔_}
 use mathlib.Core.Bool.{true, false}
@@ -34,24 +34,28 @@ pub record Span (s : State) (w : ℕ) (ds : List Call) : Type 0 where
   pub none : (i : ℕ) → IsCritical s i → ⊥
   pub calls : InSpan s ds
 
--- [8.78] the call d takes process w out of the line
+-- [8.78] process w is taken out of the line by the call d
 pub record Withdraws (s : State) (w : ℕ) (d : Call) : Type 0 where
   pub withdraw : d .action ≡ withdrawAct
   pub own : d .process ≡ w
   pub accepted : Accepted (outcomeOf s d)
 
--- [8.78] none of the calls from s on is a withdraw of process w that is accepted
+-- [8.78] process w has not withdrawn: none of the calls from s on is a withdraw of it that is accepted
 abbrev pub NotWithdrawn : State → ℕ → List Call → Type 0
 NotWithdrawn s w [] = Unit {0}
 NotWithdrawn s w (d ∷ ds) = (Withdraws s w d → ⊥) × NotWithdrawn (tableOf s d) w ds
 
--- [8.78] [8.80] [8.85] at a point of a span of the list ds from s on the clock is within the bound if some process w that was trying at the
--- span's start has not withdrawn since. The list is cut where the span starts, and at the point.
-abbrev pub OwedWithin : ℕ → State → List Call → Type 0
-OwedWithin bound s ds = (before during after : List Call) (w : ℕ) → ds ≡ before ++ during ++ after
+-- [8.80] [8.85] at a point of a span of the list ds from s on the clock is within the bound, if `owed` holds of the table where the span
+-- starts, of a process w that was trying there, and of the calls from there to the point. The list is cut at these two places.
+abbrev pub OwedIf : (State → ℕ → List Call → Type 0) → ℕ → State → List Call → Type 0
+OwedIf owed bound s ds = (before during after : List Call) (w : ℕ) → ds ≡ before ++ during ++ after
     → Span (runOf s before) w during
-    → NotWithdrawn (runOf s before) w during
+    → owed (runOf s before) w during
     → runOf s (before ++ during) .clock ≤ runOf s before .clock + bound
+
+-- [8.78] [8.80] whoever was trying when the span started and has not withdrawn since
+abbrev pub OwedWithin : ℕ → State → List Call → Type 0
+OwedWithin bound s ds = OwedIf NotWithdrawn bound s ds
 
 -- [8.80] the bound
 abbrev pub owedWait : Parameters → ℕ
@@ -107,34 +111,78 @@ pub record Demand3 (s : State) (ds : List Call) (rs : List Recorded) (t : State)
 abbrev pub EveryList : Type 0
 EveryList = (s : State) → IsFresh s → (ds : List Call) → Demand3 s ds (resultsOf s ds) (runOf s ds)
 
--- What the condition of [8.78] gives up, and that it is no more
+-- What [8.78] gives up, and that it is no more
 
--- [8.142] the owed wait without it: whoever is trying at its start, a span stays within the bound
-abbrev pub OwedToAll : ℕ → State → List Call → Type 0
-OwedToAll bound s ds = (before during after : List Call) (w : ℕ) → ds ≡ before ++ during ++ after
-    → Span (runOf s before) w during
-    → runOf s (before ++ during) .clock ≤ runOf s before .clock + bound
+-- [8.142] process w has withdrawn: one of the calls from s on is a withdraw of it that is accepted
+abbrev pub HasWithdrawn : State → ℕ → List Call → Type 0
+HasWithdrawn s w [] = ⊥
+HasWithdrawn s w (d ∷ ds) = Withdraws s w d ⊎ HasWithdrawn (tableOf s d) w ds
 
--- [8.142] no call of a list is a withdraw that is accepted
-abbrev pub NobodyWithdraws : State → List Call → Type 0
-NobodyWithdraws s ds = (w : ℕ) → NotWithdrawn s w ds
+-- [8.142] of every list from a fresh table
+abbrev pub PastOnlyWithdrawn : Type 0
+PastOnlyWithdrawn = (s : State) → IsFresh s → (before during : List Call) (w : ℕ) → Span (runOf s before) w during
+    → runOf s before .clock + owedWait (s .parameters) < runOf s (before ++ during) .clock
+    → HasWithdrawn (runOf s before) w during
 
--- [8.142] of every list from a fresh table in which nobody withdraws
+-- helper: no condition
+abbrev pub Anyway : State → ℕ → List Call → Type 0
+Anyway s w ds = Unit {0}
+
+-- [8.146] process w is trying at the point too
+abbrev pub StillTrying : State → ℕ → List Call → Type 0
+StillTrying s w ds = IsTrying (runOf s ds) w
+
+-- [8.143] of every list from a fresh table in which nobody withdraws
 abbrev pub OwedUnlessWithdrawn : Type 0
-OwedUnlessWithdrawn = (s : State) → IsFresh s → (ds : List Call) → NobodyWithdraws s ds → OwedToAll (owedWait (s .parameters)) s ds
+OwedUnlessWithdrawn = (s : State) → IsFresh s → (ds : List Call) → ((w : ℕ) → NotWithdrawn s w ds)
+    → OwedIf Anyway (owedWait (s .parameters)) s ds
+
+-- Examples, which antt computes
 
 -- helper: a step, as a call
 abbrev pub stepCall : ℕ → ℕ → ℕ → Call
 stepCall act p m = record { recorded = false; action = act; process = p; time = m; lent = newStatistics }
 
--- [8.144] both processes try, both withdraw, and the clock runs on
-abbrev pub allWithdraw : List Call
-allWithdraw =
-    stepCall tryAct 1 0 ∷ stepCall tryAct 2 0 ∷ stepCall withdrawAct 1 3 ∷ stepCall withdrawAct 2 5 ∷ stepCall waitAct 0 50 ∷ []
+-- helper: the table that the examples start from
+abbrev pub exampleTable : State
+exampleTable = initial (parametersOf 2 5 8 12)
 
--- [8.144] 50 is 1 more than 2c + 5a
-abbrev pub WithdrawnAreNotOwed : Type 0
-WithdrawnAreNotOwed = let k = parametersOf 2 5 8 12 in OwedToAll (owedWait k) (initial k) allWithdraw → ⊥
+-- helper: the wait that is owed there is 49
+abbrev pub exampleWait : ℕ
+exampleWait = owedWait (exampleTable .parameters)
+
+-- helper: both processes try
+abbrev pub bothTry : List Call
+bothTry = stepCall tryAct 1 0 ∷ stepCall tryAct 2 0 ∷ []
+
+-- [8.144] both withdraw, and the clock runs on
+abbrev pub bothWithdraw : List Call
+bothWithdraw = stepCall withdrawAct 1 3 ∷ stepCall withdrawAct 2 5 ∷ stepCall waitAct 0 50 ∷ []
+
+-- [8.144] so the condition is needed
+pub record AllWithdraw : Type 0 where
+  pub fresh : IsFresh exampleTable
+  pub runs-on : OwedIf Anyway exampleWait exampleTable (bothTry ++ bothWithdraw) → ⊥
+
+-- [8.145] one withdraws; the other one's withdraw comes too late, and is refused
+abbrev pub oneWithdraws : List Call
+oneWithdraws = stepCall withdrawAct 1 3 ∷ stepCall withdrawAct 2 6 ∷ []
+
+-- [8.145] so the wait is still owed
+pub record OneStays : Type 0 where
+  pub span : Span (runOf exampleTable bothTry) 2 oneWithdraws
+  pub stays : NotWithdrawn (runOf exampleTable bothTry) 2 oneWithdraws
+  pub gone : HasWithdrawn (runOf exampleTable bothTry) 1 oneWithdraws
+
+-- [8.146] process 1 withdraws and tries anew, so many times, each time 5 after m
+unfoldable pub comesBack : ℕ → ℕ → List Call
+comesBack zero m = []
+comesBack (suc k) m = stepCall withdrawAct 1 (m + 5) ∷ stepCall tryAct 1 (m + 5) ∷ comesBack k (m + 5)
+
+-- [8.146] so to be trying at both ends is not enough
+pub record ComingBack : Type 0 where
+  pub fresh : IsFresh exampleTable
+  pub runs-on : OwedIf StillTrying exampleWait exampleTable (stepCall tryAct 1 0 ∷ comesBack 10 0) → ⊥
 
 -- [2.135] [8.90] that the table is sound would not be enough: two processes may be critical in it
 abbrev pub SoundIsNotEnough : Type 0

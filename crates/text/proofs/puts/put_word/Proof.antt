@@ -66,7 +66,7 @@ put-byte-requires c κs = search needs
 add-result : tie.Need-add-result
 add-result c =
     let word = cell tabled (c .before .before .before .before .before .before .before .before .before .before .before .before .args .action)
-        (c .before .before .before .before .before .before .before .before .before .before .if1 .left) in
+    (c .before .before .before .before .before .before .before .before .before .before .if1 .left) in
     omega (arith, ap length (word .holds), c .before .before .before .before .before .before .put-text2 .ensures .wide)
 
 same-length-2 : tie.Need-same-length-2
