@@ -32,7 +32,7 @@ call-made s d r (Made.by-record k h) = rw k (rw (h .entry, h .exit) at (h .allow
 not-stuck : {s t : State} {ds : List Call} {rs : List Recorded} → Demand3 s ds rs t → NotStuck t
 not-stuck d = record {
   waits = λ h o e. rw e (d .waits h);
-  acts = λ i due. let may = d .acts i due in (may .0, λ o e. rw e (may .1));
+  acts = λ i due. let may = d .acts i due in (may .0, may .1, λ o e. rw e (may .2));
 }
 
 pub every-chain : EveryChain
