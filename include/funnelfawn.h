@@ -115,7 +115,7 @@ enum {
 
 /* Acts, [3.0] to [3.9]: the place that each leaves, and what it does. A window arrives in a timed place at the act's moment, anew also
  * where it stays in testing. Directly after an accepted try, a withdraw of that window at the same moment is accepted, and the table is as
- * it was but for its clock [3.95].
+ * it was but for its clock [9.135].
  *
  * A window is trying while it is testing, setting, checking or entering. From any point after funnelfawn_fresh at which some window is
  * trying and nobody sells, the clock moves on by at most 2c + 5a until a window is let in, as long as some window that was trying at that
