@@ -103,6 +103,10 @@ NextIsChanged = (s : State) → length (s .processes) ≡ 96 → (act p m : ℕ)
 abbrev pub RefusedStays : Type 0
 RefusedStays = (s : State) (act p m : ℕ) → stepOf s act p m .answer .code ≢ 0 → stepOf s act p m .state ≡ s
 
+-- [3.90] of any state, sound or not
+abbrev pub WaitNowChangesNothing : Type 0
+WaitNowChangesNothing = (s : State) → stepOf s waitAct 0 (s .clock) .state ≡ s
+
 -- A try that is taken back
 
 -- [3.95] s′ is s but for the clock, which is m
@@ -112,16 +116,12 @@ pub record ClockOnly (s : State) (m : ℕ) (s′ : State) : Type 0 where
   pub word-stays : s′ .word ≡ s .word
   pub entries-stay : s′ .processes ≡ s .processes
 
--- [3.95] of a try of process p at the time m in the state s, the withdraw of p at m directly after it
-pub record TakenBack (s : State) (p m : ℕ) (o : Outcome) : Type 0 where
+-- [3.95] a withdraw with the outcome o takes back the try, at the time m, that was made in the state s
+pub record TakenBack (s : State) (m : ℕ) (o : Outcome) : Type 0 where
   pub accepted : Accepted o
   pub state : ClockOnly s m (o .state)
 
 -- [3.95] for a state of 96 entries, as each of the code is; it is sound, as the try is accepted
 abbrev pub WithdrawUndoesTry : Type 0
 WithdrawUndoesTry = (s : State) → length (s .processes) ≡ 96 → (p m : ℕ) → Accepted (stepOf s tryAct p m)
-    → TakenBack s p m (stepOf (stepOf s tryAct p m .state) withdrawAct p m)
-
--- [3.90] of any state, sound or not
-abbrev pub WaitNowChangesNothing : Type 0
-WaitNowChangesNothing = (s : State) → stepOf s waitAct 0 (s .clock) .state ≡ s
+    → TakenBack s m (stepOf (stepOf s tryAct p m .state) withdrawAct p m)
