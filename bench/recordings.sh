@@ -1,4 +1,4 @@
-# The two recordings on which bench/run measures `replay`. Sourced by it.
+# The three recordings on which bench/run measures `replay`. Sourced by it.
 
 # the shortest steps there are, 8,187 of them: a try that is accepted, and tries that are out of place
 tries() {
@@ -21,11 +21,19 @@ sales() {
     }'
 }
 
+# one window tries and withdraws again and again, whose word is the longest and the last that a line is compared with: every step is accepted
+withdrawals() {
+    awk 'BEGIN {
+        printf "windows,a,b,c\n96,5,8,12\ntime,window,act\n"
+        for (size = 40 + 21; size <= 65536; size += 21) printf "0,1,try\n0,1,withdraw\n"
+    }'
+}
+
 # replay_rows: the whole program
 replay_rows() {
     ours=target/bin/replay beside=reference/target/release/replay
     echo 'replay, the whole program; the reference'
-    for name in tries sales; do
+    for name in tries sales withdrawals; do
         text=target/bench/$name
         $name >"$text"
         "$ours" <"$text" >"$text.proved"
