@@ -12,12 +12,12 @@ use Rattle.model.specs.Readings.{over}
 use Rattle.model.specs.Answers.{freshOf}
 use Rattle.model.specs.Facts.{Accepted}
 use Rattle.model.specs.Folds.{resultsBy, itself, logBy}
-use Rattle.model.specs.Summaries.{newStatistics, beside}
+use Rattle.model.specs.Summaries.{newStatistics, beside, codeOf}
 use Rattle.model.specs.Tallies.{Attempt, attempted}
 use Rattle.model.proofs.Lists.{row-at, rows-snoc}
 use Rattle.model.proofs.Folds.{Going, count-going, long-going, moves-on, end-reached, all-written}
 use Rattle.theory.proofs.Soundness.{fresh-is-plain, fresh-is}
-use Rattle.tallies.specs.Tallies.{recordNext, recordsOf, codeOf, Tallied, startOf}
+use Rattle.tallies.specs.Tallies.{recordNext, recordsOf, Tallied, startOf}
 use Rattle.tallies.proofs.Tallies.{every-tally}
 use Rattle.history.specs.Lists.{Tuple, answerRow}
 use Rattle.history.specs.RecordedRuns.{eventInRow, eventsInRows, codeIn, logIn, RecordedRun, recordedRunGave, started}

@@ -22,13 +22,13 @@ use Rattle.model.specs.Answers.{freshOf}
 use Rattle.model.specs.States.{lastTime}
 use Rattle.model.specs.Facts.{Accepted, HasDeadline}
 use Rattle.model.specs.Texts.{Event}
-use Rattle.model.specs.Summaries.{beside}
+use Rattle.model.specs.Summaries.{beside, codeOf}
 use Rattle.model.specs.Folds.{Chained, lastOf, itself}
 use Rattle.model.specs.Calls.{Call, handedOn}
 use Rattle.model.specs.Tallies.{logOf}
 use Rattle.theory.specs.Soundness.{ParametersStand}
 use Rattle.lists.specs.Demand3.{Demand3}
-use Rattle.tallies.specs.Tallies.{codeOf, Tallied}
+use Rattle.tallies.specs.Tallies.{Tallied}
 use Rattle.machine.proofs.fresh.Reads as fresh-reads
 use Rattle.machine.proofs.step.Reads as step-reads
 use Rattle.statistics.proofs.new_statistics.Reads as new-reads

@@ -1,27 +1,28 @@
 -- The owed wait and those who withdraw: past the bound all have withdrawn, where nobody does the wait is owed at every point of a span,
 -- and the examples. Assumes nothing.
 use Prim.Native.Nat.{ℕ, zero, suc, _+_}
-use mathlib.Core.Path.{_≡_, refl, sym, subst}
+use mathlib.Core.Path.{refl, sym, subst}
 use mathlib.Core.Logic.{_⊎_, inl, inr, ⊎-elim}
 use mathlib.Core.List.{List, [], _∷_, _++_, append-nil}
 use native.Mathlib.Omega.{arith}
-use Rattle.model.specs.declared.Parameters.{Parameters}
 use Rattle.model.specs.declared.State.{State}
 use Rattle.model.specs.Acts.{withdrawAct, tryAct, leaves}
-use Rattle.model.specs.States.{parametersOf, limitIn, entriesSound, soundOf, entryOf}
+use Rattle.model.specs.States.{limitIn, entriesSound, soundOf, entryOf}
 use Rattle.model.specs.Actions.{transitionOf, effect}
 use Rattle.model.specs.Answers.{firstFrom, firstDeadline, criticalFrom, criticalOf, stepOf, freshOf}
 use Rattle.model.specs.Facts.{IsFresh, IsCritical}
-use Rattle.model.specs.Folds.{endBy}
+use Rattle.model.specs.Folds.{endBy, resultsBy}
 use Rattle.model.specs.Calls.{Call, callOf, outcomeOf, tableOf, runOf}
-use Rattle.lists.specs.Demand3.{InSpan, Span, Withdraws, NotWithdrawn, HasWithdrawn, PastOnlyWithdrawn, OwedUnlessWithdrawn}
-use Rattle.lists.specs.Demand3.{stepCall, exampleTable, bothTry, bothWithdraw, oneWithdraws, comesBack, AllWithdraw, OneStays, ComingBack}
+use Rattle.lists.specs.Demand3.{InSpan, Withdraws, NotWithdrawn}
+use Rattle.lists.specs.Withdrawals.{HasWithdrawn, PastOnlyWithdrawn, OwedUnlessWithdrawn}
+use Rattle.lists.specs.Withdrawals.{stepCall, exampleTable, bothTry, bothWithdraw, oneWithdraws, comesBack, AllWithdraw, OneStays, ComingBack}
 use Rattle.model.proofs.Tests.{if-eq}
 use Rattle.theory.proofs.Lowest.{accepted-tells}
 use Rattle.lists.proofs.Demand3.{every-list}
 
 -- Past the bound
 
+-- a call either takes w out of the line or does not
 either : (s : State) (w : ℕ) (d : Call) → Withdraws s w d ⊎ (Withdraws s w d → ⊥)
 either s w d =
     if-eq (d .action) withdrawAct
@@ -79,9 +80,10 @@ unfolding endBy callOf stepOf soundOf entriesSound firstDeadline firstFrom entry
 none-after-one = accepted-tells exampleTable tryAct 1 0 refl .none .0 refl
 
 pub all-withdraw : AllWithdraw
-unfolding endBy callOf stepOf soundOf entriesSound firstDeadline firstFrom entryOf leaves transitionOf effect criticalOf criticalFrom limitIn
+unfolding endBy resultsBy callOf stepOf soundOf entriesSound firstDeadline firstFrom entryOf leaves transitionOf effect criticalOf criticalFrom limitIn
 all-withdraw = record {
   fresh = example-fresh;
+  accepted = refl;
   runs-on = λ owed. omega (
     arith,
     owed bothTry bothWithdraw [] 1 refl (record {

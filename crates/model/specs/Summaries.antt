@@ -123,6 +123,10 @@ answerCounted x code act p m = cond (eqb code 0) (acceptedCounted x act p m) (re
 abbrev pub beside : Statistics → Outcome → Recorded
 beside x o = record { outcome = o; statistics = x }
 
+-- helper: the code of the answer that a recorded step, or a call, gave back
+abbrev pub codeOf : Recorded → ℕ
+codeOf r = r .outcome .answer .code
+
 -- [5.110] the outcome of a step, and its answer counted
 abbrev pub counting : Statistics → ℕ → ℕ → ℕ → Outcome → Recorded
 counting x act p m o = beside (answerCounted x (o .answer .code) act p m) o

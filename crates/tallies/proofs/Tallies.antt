@@ -20,10 +20,10 @@ use Rattle.model.specs.States.{trying, soundOf, entryOf}
 use Rattle.model.specs.Answers.{stepOf, freshOf}
 use Rattle.model.specs.Facts.{Accepted, IsFresh, IsTrying}
 use Rattle.model.specs.Folds.{endBy, resultsBy, logBy}
-use Rattle.model.specs.Summaries.{newStatistics, triedAt, waitOf, acceptedCounted, refusedCounted, answerCounted}
+use Rattle.model.specs.Summaries.{newStatistics, codeOf, triedAt, waitOf, acceptedCounted, refusedCounted, answerCounted}
 use Rattle.model.specs.Tallies.{Attempt, attempt, attempted, countOf, lastTry, waitAfter, longestWait, criticalCount}
 use Rattle.theory.specs.Acceptance.{Allowed, Changed}
-use Rattle.tallies.specs.Tallies.{recordNext, recordAll, recordsOf, codeOf, Tallied, startOf, EveryTally}
+use Rattle.tallies.specs.Tallies.{recordNext, recordAll, recordsOf, Tallied, startOf, EveryTally}
 use Rattle.theory.specs.Summaries.{CountsSound, NotFull}
 use Rattle.model.proofs.Tests.{if-eq, clash}
 use Rattle.theory.proofs.Acceptance.{accepted-iff-allowed, next-is-changed, refused-stays}

@@ -9,7 +9,7 @@ use Rattle.model.specs.Texts.{Event}
 use Rattle.model.specs.Answers.{answers}
 use Rattle.model.specs.Facts.{IsFresh}
 use Rattle.model.specs.Folds.{endBy, resultsBy, itself}
-use Rattle.model.specs.Summaries.{newStatistics, beside, recordedOf}
+use Rattle.model.specs.Summaries.{newStatistics, beside, codeOf, recordedOf}
 use Rattle.model.specs.Tallies.{Attempt, logOf, tallyOf, criticalCount}
 
 -- [5.120] a recorded step after another, with the table and the summary that it left
@@ -23,10 +23,6 @@ recordAll r es = endBy recordNext itself r es
 -- helper: what each of them gives back
 abbrev pub recordsOf : Recorded → List Event → List Recorded
 recordsOf r es = resultsBy recordNext itself r es
-
--- helper: the code of the answer that a recorded step gave back
-abbrev pub codeOf : Recorded → ℕ
-codeOf r = r .outcome .answer .code
 
 -- [5.120] [5.125] [5.130] what the last step left, beside the log of all
 pub record Tallied (log : List Attempt) (r : Recorded) : Type 0 where
