@@ -57,10 +57,10 @@ def width(words):
 
 
 class Picture:
-    """Its parts, made from the top down: the next one goes to `y`."""
+    """Its parts, made from the top down: the next one goes to `y`. It is as wide as the last flags need."""
 
     def __init__(self, end):
-        self.parts, self.y, self.end = [], 40, end
+        self.parts, self.y, self.end, self.wide = [], 40, end, WIDTH
 
     def x(self, moment):
         return LEFT + (WIDTH - LEFT - RIGHT) * moment / self.end
@@ -100,6 +100,7 @@ class Picture:
             tip = foot + out * (ROW * row + 14)
             self.path((x, foot), (x, tip), stroke=colour)
             self.text(x + 5, tip + 4, words, "start", colour)
+            self.wide = max(self.wide, round(x + 5 + width(words)))
             if colour == RED:
                 for slope in (4, -4):
                     self.path((x - 4, foot + out * 5 - slope), (x + 4, foot + out * 5 + slope), stroke=RED, more=' stroke-width="2"')
@@ -172,7 +173,7 @@ def draw(values, steps):
     for line in told[:1] + textwrap.wrap(" ".join(told[1:]), 125):
         picture.y += 18
         picture.text(12, picture.y, line, "start", more=' font-size="13"')
-    print(f'<svg xmlns="http://www.w3.org/2000/svg" viewBox="0 0 {WIDTH} {picture.y + 14}" role="img"')
+    print(f'<svg xmlns="http://www.w3.org/2000/svg" viewBox="0 0 {picture.wide} {picture.y + 14}" role="img"')
     print(f'     font-family="sans-serif" font-size="{SIZE}">')
     print(f"<title>{escape(title)}</title>", f"<desc>{escape(' '.join(told))}</desc>", sep="\n")
     print('<rect width="100%" height="100%" fill="#fff"/>', *picture.parts, "</svg>", sep="\n")

@@ -114,8 +114,8 @@ enum {
 };
 
 /* Acts, [3.0] to [3.9]: the place that each leaves, and what it does. A window arrives in a timed place at the act's moment, anew also
- * where it stays in testing. Directly after an accepted try, a withdraw of that window at the same moment is accepted, and the table is as
- * it was but for its clock [9.135].
+ * where it stays in testing. Directly after an accepted try, funnelfawn_step accepts a withdraw of that window at the same moment, and the
+ * table is as it was but for its clock [9.135].
  *
  * A window is trying while it is testing, setting, checking or entering. From any point after funnelfawn_fresh at which some window is
  * trying and nobody sells, the clock moves on by at most 2c + 5a until a window is let in, as long as some window that was trying at that
@@ -227,7 +227,7 @@ struct funnelfawn_told funnelfawn_record_and_tell(uint64_t *FUNNELFAWN_RESTRICT 
                                                   uint64_t moment);
 
 /* Recordings, section 6 of the specification: text of at most FUNNELFAWN_MOST_TEXT bytes, of at most FUNNELFAWN_MOST_STEPS steps, and its
- * steps in three lists. */
+ * steps in three lists. The acts are written wait, try, test, set, check, crit, exit, reset, rem, withdraw. */
 enum { FUNNELFAWN_MOST_TEXT = 65536, FUNNELFAWN_MOST_STEPS = 8187 };
 
 /* n, a, b, c are 0 where a reading is refused. */

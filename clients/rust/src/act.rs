@@ -2,8 +2,7 @@
 
 use crate::answer::Refusal;
 
-/// The ten acts, each as the number that its clause has, [3.0] to [3.9]. `Withdraw` is for a window that gives up its turn: it goes from
-/// testing back to remainder, and the word stays.
+/// The ten acts, each as the number that its clause has, [3.0] to [3.9].
 #[derive(Clone, Copy, Debug, PartialEq, Eq, Hash)]
 pub enum Act {
     Wait,
@@ -15,6 +14,9 @@ pub enum Act {
     Exit,
     Reset,
     Rem,
+    /// For a window whose patron walks off: from testing back to remainder, and the word stays. Anywhere else it is
+    /// [`Refusal::OutOfPlace`], and past the window's latest moment [`Refusal::Late`]. Of the windows that were trying at a moment when
+    /// nobody sold, one is let in within 2c + 5a as long as one of them has not withdrawn since, [8.78].
     Withdraw,
 }
 
