@@ -25,7 +25,7 @@ goals() {
             # missed from the start, and why is in docs/DECISIONS.md, "Speed": so it is told and does not decide
             say("all called", 1.0, "the same, called", met("all called", 8, 1.0) ? "met" : "NOT MET, as docs/DECISIONS.md tells")
             judge("library", 11, 1.0, "a step through the C library, in every row, of the twin")
-            judge("replay", 2, 0.8, "replay, of the reference")
+            judge("replay", 3, 0.8, "replay, of the reference")
             judge("board", 8, 1.0, "a board through the C library, in every row, of the reference")
             cheap = empty == 2 && dearest < 200
             printf "goal: an empty board, adding or showing: less than 200 instructions; is %d: %s\n", dearest, cheap ? "met" : "NOT MET"

@@ -22,6 +22,7 @@ pub const EXIT: u64 = 6;
 pub const RESET: u64 = 7;
 pub const REM: u64 = 8;
 pub const WITHDRAW: u64 = 9;
+pub const LAST_ACT: u64 = WITHDRAW;
 
 /// [2.80] The number in a timed place is the arrival.
 #[derive(Clone, Copy, Debug, PartialEq, Eq)]
@@ -157,7 +158,7 @@ pub fn refusal(table: &Table, act: u64, window: u64, moment: u64) -> Option<Answ
     if moment > CLOCK_END {
         return Some(bare(END_OF_CLOCK));
     }
-    if act > WITHDRAW {
+    if act > LAST_ACT {
         return Some(bare(NO_ACT));
     }
     let there = (1..=table.values.n).contains(&window);

@@ -126,7 +126,8 @@ fn time_can_pass(table: &Table, accepts: impl Fn([u64; 3]) -> bool) -> Kept {
 
 /// [8.120] A withdraw would be no help to one who wants to be let in.
 fn the_due_can_act(table: &Table, accepts: impl Fn([u64; 3]) -> bool) -> Kept {
-    let can_act = |window| (TRY..WITHDRAW).any(|act| accepts([act, window, table.clock]));
+    let leads_on = |act: &u64| *act != WITHDRAW;
+    let can_act = |window| (TRY..=LAST_ACT).filter(leads_on).any(|act| accepts([act, window, table.clock]));
     match windows(table).find(|&window| is_due(table, window) && !can_act(window)) {
         Some(window) => {
             Err(format!("window {window} is due at {} and has no act but to withdraw", table.clock))

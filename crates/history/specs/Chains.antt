@@ -3,7 +3,7 @@
 -- that the result before it holds. Of every chain demand 3 holds, and of every chain of recorded steps the tally. Assumes nothing.
 use Prim.Native.Nat.{ℕ, _+_, _<_}
 use mathlib.Core.Path.{_≡_, refl}
-use mathlib.Core.Logic.{_≢_, _↔_}
+use mathlib.Core.Logic.{_↔_}
 use mathlib.Core.Bool.{true, false}
 use mathlib.Core.List.{List, map}
 use base.Logic.{emp}
@@ -17,10 +17,10 @@ use Rattle.model.specs.declared.State.{State}
 use Rattle.model.specs.declared.Outcome.{Outcome}
 use Rattle.model.specs.declared.Statistics.{Statistics}
 use Rattle.model.specs.declared.Recorded.{Recorded}
-use Rattle.model.specs.Acts.{waitAct, withdrawAct}
+use Rattle.model.specs.Acts.{waitAct}
 use Rattle.model.specs.Answers.{freshOf}
 use Rattle.model.specs.States.{lastTime}
-use Rattle.model.specs.Facts.{Accepted, HasDeadline}
+use Rattle.model.specs.Facts.{Accepted, LeadsOn, HasDeadline}
 use Rattle.model.specs.Texts.{Event}
 use Rattle.model.specs.Summaries.{beside, codeOf}
 use Rattle.model.specs.Folds.{Chained, lastOf, itself}
@@ -98,7 +98,7 @@ pub record NotStuck (s : State) : Type 0 where
       → Accepted o ↔ ((i : ℕ) → HasDeadline s i (s .clock) → ⊥)
   -- [8.120]
   pub acts : (i : ℕ) → HasDeadline s i (s .clock)
-      → (act : ℕ) × (act ≢ withdrawAct) × ((o : Outcome) → Steps s act i (s .clock) o → Accepted o)
+      → (act : ℕ) × LeadsOn act × ((o : Outcome) → Steps s act i (s .clock) o → Accepted o)
 
 -- [8.50] [8.130] [8.135] of the calls ds, which gave back the results rs and left the table t: the plain table beside them is fresh with the
 -- parameters k

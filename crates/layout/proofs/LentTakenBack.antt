@@ -14,7 +14,7 @@ use Rattle.model.specs.Facts.{Accepted}
 use Rattle.theory.specs.Acceptance.{ClockOnly}
 use Rattle.layout.specs.Encodings.{clockPlace, stateNumbers, tableIn, isSoundTable}
 use Rattle.layout.specs.Interface.{Lent, lentStep}
-use Rattle.layout.specs.Guarantees.{LentWithdrawUndoesTry}
+use Rattle.layout.specs.Guarantees.{LentTakenBack, LentWithdrawUndoesTry}
 use Rattle.model.proofs.Tests.{by-test}
 use Rattle.theory.proofs.Acceptance.{next-is-changed}
 use Rattle.theory.proofs.TakenBack.{withdraw-undoes-try}
@@ -22,10 +22,9 @@ use Rattle.lists.proofs.Sizes.{Whole}
 use Rattle.layout.proofs.Encodings.{sound-is-table, table-is-whole, numbers-come-back}
 use Rattle.layout.proofs.LentLists.{step-in-numbers, step-code}
 
--- the numbers `table`, after a try of process p at the time m and a withdraw of it
-record Undone (p m : ℕ) (table : List ℕ) : Type 0 where
-  accepted : lentStep (lentStep table tryAct p m .table) withdrawAct p m .answer .code ≡ 0
-  clock : lentStep (lentStep table tryAct p m .table) withdrawAct p m .table ≡ set table clockPlace m
+-- the try and the withdraw of process p on the numbers `table`
+abbrev Undone : ℕ → ℕ → List ℕ → Type 0
+Undone p m table = LentTakenBack table m (lentStep (lentStep table tryAct p m .table) withdrawAct p m)
 
 clock-set : {s t : State} {m : ℕ} (rest : List ℕ) → ClockOnly s m t → stateNumbers t ++ rest ≡ set (stateNumbers s ++ rest) clockPlace m
 unfolding stateNumbers
@@ -42,7 +41,7 @@ module _ (s : State) (whole : Whole s) (rest : List ℕ) (p m : ℕ) where
       ∙ step-in-numbers s′ whole′ rest withdrawAct p m in
       record {
         accepted = ap (λ (g : Lent). g .answer .code) second ∙ back .accepted;
-        clock = ap (λ (g : Lent). g .table) second ∙ clock-set rest (back .state);
+        clock-only = ap (λ (g : Lent). g .table) second ∙ clock-set rest (back .state);
       }
 
 module _ (table : List ℕ) (p m : ℕ) where
@@ -62,5 +61,4 @@ module _ (table : List ℕ) (p m : ℕ) where
 
 pub lent-withdraw-undoes-try : LentWithdrawUndoesTry
 lent-withdraw-undoes-try table p m a =
-    let u = by-test (isSoundTable table) (λ e. of-sound table p m e a) (λ e. absurd (of-unsound table p m e a)) in
-    (u .accepted, u .clock)
+    by-test (isSoundTable table) (λ e. of-sound table p m e a) (λ e. absurd (of-unsound table p m e a))

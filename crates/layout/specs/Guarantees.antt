@@ -15,7 +15,7 @@ use Rattle.model.specs.declared.Recorded.{Recorded}
 use Rattle.model.specs.Acts.{waitAct, tryAct, withdrawAct}
 use Rattle.model.specs.States.{lastTime}
 use Rattle.model.specs.Answers.{answerOf, freshOf}
-use Rattle.model.specs.Facts.{HasDeadline}
+use Rattle.model.specs.Facts.{LeadsOn, HasDeadline}
 use Rattle.model.specs.Readings.{over}
 use Rattle.model.specs.Summaries.{countsOf, statisticsOf, mostActs}
 use Rattle.layout.specs.Encodings.{headerLength, stride, tableLength, clockPlace, wordPlace, stateNumbers}
@@ -27,7 +27,7 @@ use Rattle.model.specs.Tallies.{logOf}
 use Rattle.theory.specs.Soundness.{ParametersStand}
 use Rattle.lists.specs.Demand3.{Demand3}
 use Rattle.tallies.specs.Tallies.{recordAll, recordsOf, Tallied, startOf}
-use Rattle.layout.specs.Interface.{LentBoth, recordGave, lentFresh, lentStep, lentSummary, lentRecord}
+use Rattle.layout.specs.Interface.{Lent, LentBoth, recordGave, lentFresh, lentStep, lentSummary, lentRecord}
 
 -- Refusals
 
@@ -106,11 +106,15 @@ pub record LengthsStay : Type 0 where
   pub record-table : (table summary : List ℕ) (act p m : ℕ) → length (lentRecord table summary act p m .table) ≡ length table
   pub record-summary : (table summary : List ℕ) (act p m : ℕ) → length (lentRecord table summary act p m .summary) ≡ length summary
 
--- [9.135] a try of process p at the time m, and directly after it a withdraw of p at m: of the table the clock alone is another
+-- [9.135] a withdraw that gave back g takes back the try, at the time m, that was made on the numbers `table`
+pub record LentTakenBack (table : List ℕ) (m : ℕ) (g : Lent) : Type 0 where
+  pub accepted : g .answer .code ≡ 0
+  pub clock-only : g .table ≡ set table clockPlace m
+
+-- [9.135] of process p, directly after the try
 abbrev pub LentWithdrawUndoesTry : Type 0
 LentWithdrawUndoesTry = (table : List ℕ) (p m : ℕ) → lentStep table tryAct p m .answer .code ≡ 0
-    → let tried = lentStep table tryAct p m .table in
-    (lentStep tried withdrawAct p m .answer .code ≡ 0) × (lentStep tried withdrawAct p m .table ≡ set table clockPlace m)
+    → LentTakenBack table m (lentStep (lentStep table tryAct p m .table) withdrawAct p m)
 
 -- Lists of calls, each on the numbers that the call before it left
 
@@ -176,7 +180,7 @@ pub record LentNotStuck (s : State) (table : List ℕ) : Type 0 where
       → (lentStep table waitAct 0 (s .clock + 1) .answer .code ≡ 0) ↔ ((i : ℕ) → HasDeadline s i (s .clock) → ⊥)
   -- [8.120]
   pub acts : (i : ℕ) → HasDeadline s i (s .clock)
-      → (act : ℕ) × (act ≢ withdrawAct) × (lentStep table act i (s .clock) .answer .code ≡ 0)
+      → (act : ℕ) × LeadsOn act × (lentStep table act i (s .clock) .answer .code ≡ 0)
 
 -- [9.140] from the table s, in numbers before `rest`, the calls gave back the numbers of results that meet demand 3
 pub record LentDemand3 (s : State) (table rest : List ℕ) (ds : List LentCall) : Type 0 where

@@ -2,13 +2,13 @@
 -- act. Assumes nothing.
 use Prim.Native.Nat.{ℕ, _+_, _≤_}
 use mathlib.Core.Path.{refl, subst}
-use mathlib.Core.Logic.{inl, inr, _≢_, _↔_}
+use mathlib.Core.Logic.{inl, inr, _↔_}
 use native.Mathlib.Omega.{arith}
 use Rattle.model.specs.declared.Location.{Location}
 use Rattle.model.specs.declared.State.{State}
-use Rattle.model.specs.Acts.{waitAct, testAct, setAct, checkAct, critAct, resetAct, remAct, withdrawAct}
+use Rattle.model.specs.Acts.{waitAct, testAct, setAct, checkAct, critAct, resetAct, remAct}
 use Rattle.model.specs.Answers.{stepOf}
-use Rattle.model.specs.Facts.{Accepted, Deadline, HasDeadline}
+use Rattle.model.specs.Facts.{Accepted, LeadsOn, Deadline, HasDeadline}
 use Rattle.theory.specs.Soundness.{Sound}
 use Rattle.theory.specs.Acceptance.{From, Allowed}
 use Rattle.lists.specs.Demand3.{WaitsUnlessDue, DueMayAct}
@@ -17,7 +17,7 @@ use Rattle.theory.proofs.Soundness.{sound-iff-plain}
 use Rattle.theory.proofs.Acceptance.{accepted-iff-allowed}
 
 -- where a location has a deadline it has an act that leads on, which by then is no longer early
-due-from : {a b c m : ℕ} {l : Location} → b ≤ c → Deadline a c l m → (act : ℕ) × (act ≢ withdrawAct) × From b m act l
+due-from : {a b c m : ℕ} {l : Location} → b ≤ c → Deadline a c l m → (act : ℕ) × LeadsOn act × From b m act l
 due-from h Deadline.testing = (testAct, omega arith, From.test)
 due-from h Deadline.setting = (setAct, omega arith, From.set)
 due-from h (Deadline.checking {t = t}) = (checkAct, omega arith, From.check {t = t} (omega arith))

@@ -1,30 +1,54 @@
--- The owed wait and those who withdraw: past the bound all have withdrawn, where nobody does the wait is owed at every point of a span,
--- and the examples. Assumes nothing.
+-- Calls that withdraw: a try that is taken back; past the bound all have withdrawn, and where nobody does a span stays within it; and the
+-- examples. Assumes nothing.
 use Prim.Native.Nat.{ℕ, zero, suc, _+_}
-use mathlib.Core.Path.{refl, sym, subst}
+use mathlib.Core.Path.{_≡_, refl, sym, ap, subst, _∙_}
 use mathlib.Core.Logic.{_⊎_, inl, inr, ⊎-elim}
 use mathlib.Core.List.{List, [], _∷_, _++_, append-nil}
 use native.Mathlib.Omega.{arith}
 use Rattle.model.specs.declared.State.{State}
+use Rattle.model.specs.declared.Outcome.{Outcome}
 use Rattle.model.specs.Acts.{withdrawAct, tryAct, leaves}
 use Rattle.model.specs.States.{limitIn, entriesSound, soundOf, entryOf}
 use Rattle.model.specs.Actions.{transitionOf, effect}
 use Rattle.model.specs.Answers.{firstFrom, firstDeadline, criticalFrom, criticalOf, stepOf, freshOf}
-use Rattle.model.specs.Facts.{IsFresh, IsCritical}
+use Rattle.model.specs.Facts.{Accepted, IsFresh, IsCritical}
 use Rattle.model.specs.Folds.{endBy, resultsBy}
 use Rattle.model.specs.Calls.{Call, callOf, outcomeOf, tableOf, runOf}
 use Rattle.lists.specs.Demand3.{InSpan, Withdraws, NotWithdrawn}
-use Rattle.lists.specs.Withdrawals.{HasWithdrawn, PastOnlyWithdrawn, OwedUnlessWithdrawn}
-use Rattle.lists.specs.Withdrawals.{stepCall, exampleTable, bothTry, bothWithdraw, oneWithdraws, comesBack, AllWithdraw, OneStays, ComingBack}
+use Rattle.lists.specs.Withdrawals.{CallsTakenBack, HasWithdrawn, PastBoundAllWithdrew, OwedIfNobodyWithdraws}
+use Rattle.lists.specs.Withdrawals.{exampleStep, exampleTable, bothTry, bothWithdraw, oneWithdraws, comesBack, AllWithdraw, OneStays, ComingBack}
 use Rattle.model.proofs.Tests.{if-eq}
+use Rattle.theory.specs.Acceptance.{ClockOnly}
 use Rattle.theory.proofs.Lowest.{accepted-tells}
+use Rattle.theory.proofs.TakenBack.{withdraw-undoes-try}
+use Rattle.lists.proofs.Calls.{stepFor, Called, called}
 use Rattle.lists.proofs.Demand3.{every-list}
+
+-- A try that is taken back
+
+-- a call that is accepted is its step
+accepted-step : {s : State} {d : Call} {o : Outcome} → Called s d o → Accepted o → Accepted (stepFor s d) × (o ≡ stepFor s d)
+accepted-step (Called.accepted a) _ = (a, refl)
+accepted-step (Called.refused n _) a = absurd (n a)
+
+pub calls-taken-back : CallsTakenBack
+calls-taken-back s size d e try withdraw same now a b =
+    let t = accepted-step (called s d) a in
+    let u = accepted-step (called (tableOf s d) e) b in
+    let p = d .process in
+    let m = d .time in
+    let steps : tableOf (tableOf s d) e ≡ stepOf (stepOf s tryAct p m .state) withdrawAct p m .state =
+    ap (λ (o : Outcome). o .state) (u .1)
+    ∙ (λ i. stepOf (t .1 i .state) (withdraw i) (same i) (now i) .state)
+    ∙ (λ i. stepOf (stepOf s (try i) p m .state) withdrawAct p m .state) in
+    let tried = subst (λ (act : ℕ). Accepted (stepOf s act p m)) try (t .0) in
+    subst (ClockOnly s m) (sym steps) (withdraw-undoes-try s size p m tried .state)
 
 -- Past the bound
 
 -- a call either takes w out of the line or does not
-either : (s : State) (w : ℕ) (d : Call) → Withdraws s w d ⊎ (Withdraws s w d → ⊥)
-either s w d =
+withdraws-or-not : (s : State) (w : ℕ) (d : Call) → Withdraws s w d ⊎ (Withdraws s w d → ⊥)
+withdraws-or-not s w d =
     if-eq (d .action) withdrawAct
     (λ e. if-eq (d .process) w
     (λ f. if-eq (outcomeOf s d .answer .code) 0
@@ -37,10 +61,10 @@ has-or-not : (s : State) (w : ℕ) (ds : List Call) → HasWithdrawn s w ds ⊎ 
 has-or-not s w [] = inr tt
 has-or-not s w (d ∷ ds) = ⊎-elim (λ h. inl (inl h))
     (λ n. ⊎-elim (λ h. inl (inr h)) (λ h. inr (n, h)) (has-or-not (tableOf s d) w ds))
-    (either s w d)
+    (withdraws-or-not s w d)
 
-pub past-only-withdrawn : PastOnlyWithdrawn
-past-only-withdrawn s fresh before during w span past = ⊎-elim (λ h. h)
+pub past-bound-all-withdrew : PastBoundAllWithdrew
+past-bound-all-withdrew s fresh before during w span past = ⊎-elim (λ h. h)
     (λ n. absurd (omega (
       arith,
       every-list s fresh (before ++ during) .owed before during [] w (sym (append-nil (before ++ during))) span n,
@@ -59,8 +83,8 @@ unfolding endBy
 stays-after s w [] es h = h
 stays-after s w (d ∷ ds) es h = stays-after (tableOf s d) w ds es (h .1)
 
-pub owed-unless-withdrawn : OwedUnlessWithdrawn
-owed-unless-withdrawn s fresh ds nobody before during after w e span _ =
+pub owed-if-nobody-withdraws : OwedIfNobodyWithdraws
+owed-if-nobody-withdraws s fresh ds nobody before during after w e span _ =
     let until = stays-before s w (before ++ during) after (subst (NotWithdrawn s w) e (nobody w)) in
     every-list s fresh ds .owed before during after w e span (stays-after s w before during until)
 
@@ -75,7 +99,7 @@ none-after-both : (i : ℕ) → IsCritical (runOf exampleTable bothTry) i → �
 unfolding endBy callOf stepOf soundOf entriesSound firstDeadline firstFrom entryOf leaves transitionOf effect criticalOf criticalFrom limitIn
 none-after-both = accepted-tells (stepOf exampleTable tryAct 1 0 .state) tryAct 2 0 refl .none .0 refl
 
-none-after-one : (i : ℕ) → IsCritical (runOf exampleTable (stepCall tryAct 1 0 ∷ [])) i → ⊥
+none-after-one : (i : ℕ) → IsCritical (runOf exampleTable (exampleStep tryAct 1 0 ∷ [])) i → ⊥
 unfolding endBy callOf stepOf soundOf entriesSound firstDeadline firstFrom entryOf leaves transitionOf effect criticalOf criticalFrom limitIn
 none-after-one = accepted-tells exampleTable tryAct 1 0 refl .none .0 refl
 
@@ -84,6 +108,7 @@ unfolding endBy resultsBy callOf stepOf soundOf entriesSound firstDeadline first
 all-withdraw = record {
   fresh = example-fresh;
   accepted = refl;
+  clock = refl;
   runs-on = λ owed. omega (
     arith,
     owed bothTry bothWithdraw [] 1 refl (record {
@@ -95,8 +120,9 @@ all-withdraw = record {
 }
 
 pub one-stays : OneStays
-unfolding endBy callOf stepOf soundOf entriesSound firstDeadline firstFrom entryOf leaves transitionOf effect criticalOf criticalFrom limitIn
+unfolding endBy resultsBy callOf stepOf soundOf entriesSound firstDeadline firstFrom entryOf leaves transitionOf effect criticalOf criticalFrom limitIn
 one-stays = record {
+  answers = refl;
   span = record {
     trying = record { from = omega arith; at = refl };
     none = none-after-both;
@@ -118,7 +144,7 @@ coming-back = record {
   fresh = example-fresh;
   runs-on = λ owed. omega (
     arith,
-    owed (stepCall tryAct 1 0 ∷ []) (comesBack 10 0) [] 1 refl
+    owed (exampleStep tryAct 1 0 ∷ []) (comesBack 10 0) [] 1 refl
         (record { trying = record { from = omega arith; at = refl }; none = none-after-one; calls = no-entry _ 10 0 })
         (record { from = omega arith; at = refl }),
   );

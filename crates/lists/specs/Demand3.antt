@@ -12,7 +12,7 @@ use Rattle.model.specs.declared.Recorded.{Recorded}
 use Rattle.model.specs.States.{lastTime, soundOf}
 use Rattle.model.specs.Acts.{waitAct, critAct, withdrawAct}
 use Rattle.model.specs.Answers.{stepOf}
-use Rattle.model.specs.Facts.{Accepted, IsFresh, IsCritical, IsTrying, HasDeadline}
+use Rattle.model.specs.Facts.{Accepted, IsFresh, IsCritical, IsTrying, LeadsOn, HasDeadline}
 use Rattle.model.specs.Calls.{Call, outcomeOf, tableOf, runOf, resultsOf}
 
 -- The owed wait
@@ -85,7 +85,7 @@ WaitsUnlessDue s = s .clock < lastTime
 
 -- [8.120] at the clock's end too, and without leaving the line
 abbrev pub DueMayAct : State → Type 0
-DueMayAct s = (i : ℕ) → HasDeadline s i (s .clock) → (act : ℕ) × (act ≢ withdrawAct) × Accepted (stepOf s act i (s .clock))
+DueMayAct s = (i : ℕ) → HasDeadline s i (s .clock) → (act : ℕ) × LeadsOn act × Accepted (stepOf s act i (s .clock))
 
 -- The whole
 

@@ -2,12 +2,14 @@
 -- none of the tests that the step is defined by, so that the theorems check those from a second side. Assumes nothing.
 use Prim.Native.Nat.{ℕ, _+_, _≤_}
 use mathlib.Core.Path.{_≡_}
+use mathlib.Core.Logic.{_≢_}
 use mathlib.Core.Bool.{true}
 use Rattle.model.specs.declared.Location.{Location}
 use Rattle.model.specs.declared.Location.the-variants.{Testing, Setting, Checking, Entering, Critical, Resetting, Leaving}
 use Rattle.model.specs.declared.Parameters.{Parameters}
 use Rattle.model.specs.declared.State.{State}
 use Rattle.model.specs.declared.Outcome.{Outcome}
+use Rattle.model.specs.Acts.{withdrawAct}
 use Rattle.model.specs.States.{trying, entryOf}
 use Rattle.model.specs.Answers.{freshOf}
 
@@ -30,6 +32,10 @@ pub record IsCritical (s : State) (i : ℕ) : Type 0 where
 pub record IsTrying (s : State) (i : ℕ) : Type 0 where
   pub from : 1 ≤ i
   pub at : trying (entryOf s i .location) ≡ true
+
+-- [8.120] an act by which its process does not leave the line
+abbrev pub LeadsOn : ℕ → Type 0
+LeadsOn act = act ≢ withdrawAct
 
 -- [2.80] the since of a location
 pub data Arrival : Location → ℕ → Type 0 where

@@ -100,17 +100,17 @@ pub fn number_at(s: &[u8], end: u8) -> Field
     number_below(s, NUMBER_BOUND, end)
 }
 
-// s starts with w and the end of a line.
+// The line that s starts with is w.
 fn line_is(s: &[u8], w: &[u8]) -> bool
     ensures { λ r. ⌜ r ≡ startsWith (now (w .entry) ++ (newline ∷ [])) (now (s .entry)) ⌝ }
 {
     if !starts_with(s, w) {
         return false;
     }
-    if s.len() <= w.len() {
-        return false;
+    if w.len() < s.len() {
+        return s[w.len()] == b'\n';
     }
-    s[w.len()] == b'\n'
+    false
 }
 
 // [6.70] The action whose word fills the line.

@@ -19,20 +19,20 @@ returns c =
     let e = sym (c .before .starts-with .ensures) ∙ not-true _ (c .if1 .taken) in
     sym (starts-append (a .w .now) (newline ∷ []) (a .s .now) ∙ rw e)
 
-returns-2 : tie.Need-returns-2
-returns-2 c =
-    let a = c .before .before .before .before .before .args in
-    let e = sym (c .before .before .starts-with .ensures) ∙ not-false _ (c .before .if1 .left) in
-    sym (starts-append (a .w .now) (newline ∷ []) (a .s .now) ∙ rw e (line-short (a .s .now) (length (a .w .now)) (c .if2 .taken)))
-
 shared-slice-read-result : tie.Need-shared-slice-read-result
 shared-slice-read-result c = search needs
 
-returns-3 : tie.Need-returns-3
-returns-3 c =
+returns-2 : tie.Need-returns-2
+returns-2 c =
     let a = c .before .before .before .before .before .before .args in
     let e = sym (c .before .before .before .starts-with .ensures) ∙ not-false _ (c .before .before .if1 .left) in
     sym (starts-append (a .w .now) (newline ∷ []) (a .s .now) ∙ rw e (line-ends (a .s .now) (length (a .w .now)) (omega arith)))
 
+returns-3 : tie.Need-returns-3
+returns-3 c =
+    let a = c .before .before .before .before .before .args in
+    let e = sym (c .before .before .starts-with .ensures) ∙ not-false _ (c .before .if1 .left) in
+    sym (starts-append (a .w .now) (newline ∷ []) (a .s .now) ∙ rw e (line-short (a .s .now) (length (a .w .now)) (c .if2 .left)))
+
 pub line-is-spec : {M : Type 1} → statement M
-line-is-spec = tie.close (tie.spec starts-with-requires returns returns-2 shared-slice-read-result returns-3)
+line-is-spec = tie.close (tie.spec starts-with-requires returns shared-slice-read-result returns-2 returns-3)
