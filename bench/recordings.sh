@@ -21,7 +21,7 @@ sales() {
     }'
 }
 
-# one window tries and withdraws again and again: every step is accepted, and `withdraw` is the longest word, and the last that a line is held to
+# one window tries and withdraws again and again: every step is accepted, and `withdraw` is the longest word and the last
 withdrawals() {
     awk 'BEGIN {
         printf "windows,a,b,c\n96,5,8,12\ntime,window,act\n"

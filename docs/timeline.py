@@ -57,7 +57,7 @@ def width(words):
 
 
 class Picture:
-    """Its parts, made from the top down: the next one goes to `y`. It is as wide as the last flags need."""
+    """Its parts, made from the top down: the next one goes to `y`. It is wide enough for every flag."""
 
     def __init__(self, end):
         self.parts, self.y, self.end, self.wide = [], 40, end, WIDTH

@@ -119,7 +119,7 @@ enum {
  *
  * A window is trying while it is testing, setting, checking or entering. From any point after funnelfawn_fresh at which some window is
  * trying and nobody sells, the clock moves on by at most 2c + 5a until a window is let in, as long as some window that was trying at that
- * point has not withdrawn since [8.78]. Once all of them have, the clock may run on. */
+ * point has not withdrawn since [8.78] [8.80]. Once all of them have, the clock may run on. */
 enum funnelfawn_act {
     FUNNELFAWN_ACT_WAIT,    /* none (the window is 0): nothing but the clock changes */
     FUNNELFAWN_ACT_TRY,     /* remainder: to testing */

@@ -71,7 +71,7 @@ impl Promises {
     fn start_span(&mut self, table: &Table) {
         let trying = windows(table).filter(|&window| is_trying(table.place(window)));
         let span = Span { start: table.clock, staying: trying.map(bit).sum() };
-        // a refused call leaves the point before it
+        // after a refused call the point is the last one again
         if table.seller() == 0 && span.staying != 0 && self.spans.last() != Some(&span) {
             self.spans.push(span);
         }

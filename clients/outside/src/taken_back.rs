@@ -17,7 +17,7 @@ pub fn call(random: &mut Random, table: &Table) -> (Answer, Verdict) {
     let due = expected::step(&mut testing, act, window, moment);
     let verdict = calls::step(&before, call, (due, &testing));
     if due.number != ACCEPTED {
-        return (due, verdict);
+        return (due, verdict.map_err(|what| format!("try {call:?} on {before:?}: {what}")));
     }
     let after = table_numbers(&Table { clock: moment, ..*table });
     let accepted = answer(ACCEPTED, table.seller(), moment);

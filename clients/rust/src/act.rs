@@ -15,9 +15,10 @@ pub enum Act {
     Reset,
     Rem,
     /// For a window whose patron walks off: from testing back to remainder, and the word stays. Anywhere else it is
-    /// [`Refusal::OutOfPlace`], and past the window's latest moment [`Refusal::Late`]. From a moment at which a window is trying and
-    /// nobody sells, the clock moves on by at most 2c + 5a until some window is let in, as long as one that was trying then has not
-    /// withdrawn since, [8.78].
+    /// [`Refusal::OutOfPlace`], and past the window's latest moment [`Refusal::Late`].
+    ///
+    /// Of a table from [`Table::fresh`](crate::Table::fresh) on: from a point at which a window is trying and nobody sells, the clock moves
+    /// on by at most 2c + 5a until some window is let in, as long as one that was trying then has not withdrawn since, [8.78] and [8.80].
     Withdraw,
 }
 

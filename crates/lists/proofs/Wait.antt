@@ -257,7 +257,9 @@ module _ {L : Lock} (tail : L .a ≤ L .tail) {x y : View} {act p m : ℕ} (move
       let f = from-one inv k (omega arith) in
       if-eq w p
       (λ z. let o = own z in
-      let g = if-eq (x .rank p) atTesting (λ t. goes .test-taken (stays z) t (omega arith)) (λ t. goes .check-other (omega arith) (omega arith)) in
+      let g = if-eq (x .rank p) atTesting
+      (λ t. goes .test-taken (stays z) t (omega arith))
+      (λ t. goes .check-other (omega arith) (omega arith)) in
       omega arith)
       (λ z. let u = move .others w z in
       record { at = omega arith; left = omega arith; waiting = waiting-stays z (h .waiting); not-setting = omega arith })

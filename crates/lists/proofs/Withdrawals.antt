@@ -16,7 +16,7 @@ use Rattle.model.specs.Folds.{endBy, resultsBy}
 use Rattle.model.specs.Calls.{Call, callOf, outcomeOf, tableOf, runOf}
 use Rattle.lists.specs.Demand3.{InSpan, Withdraws, NotWithdrawn}
 use Rattle.lists.specs.Withdrawals.{CallsTakenBack, HasWithdrawn, PastBoundAllWithdrew, OwedIfNobodyWithdraws}
-use Rattle.lists.specs.Withdrawals.{exampleStep, exampleTable, bothTry, bothWithdraw, oneWithdraws, comesBack, AllWithdraw, OneStays, ComingBack}
+use Rattle.lists.specs.Withdrawals.{exampleStep, exampleTable, bothTry, bothWithdraw, comesBack, AllWithdraw, OneStays, ComingBack}
 use Rattle.model.proofs.Tests.{if-eq}
 use Rattle.theory.specs.Acceptance.{ClockOnly}
 use Rattle.theory.proofs.Lowest.{accepted-tells}
@@ -96,15 +96,18 @@ example-fresh = record { parameters = exampleTable .parameters; accepted = refl;
 
 -- neither process is critical after the two tries, nor after the first
 none-after-both : (i : ℕ) → IsCritical (runOf exampleTable bothTry) i → ⊥
-unfolding endBy callOf stepOf soundOf entriesSound firstDeadline firstFrom entryOf leaves transitionOf effect criticalOf criticalFrom limitIn
+unfolding endBy callOf stepOf soundOf entriesSound firstDeadline firstFrom entryOf leaves transitionOf effect
+    criticalOf criticalFrom limitIn
 none-after-both = accepted-tells (stepOf exampleTable tryAct 1 0 .state) tryAct 2 0 refl .none .0 refl
 
 none-after-one : (i : ℕ) → IsCritical (runOf exampleTable (exampleStep tryAct 1 0 ∷ [])) i → ⊥
-unfolding endBy callOf stepOf soundOf entriesSound firstDeadline firstFrom entryOf leaves transitionOf effect criticalOf criticalFrom limitIn
+unfolding endBy callOf stepOf soundOf entriesSound firstDeadline firstFrom entryOf leaves transitionOf effect
+    criticalOf criticalFrom limitIn
 none-after-one = accepted-tells exampleTable tryAct 1 0 refl .none .0 refl
 
 pub all-withdraw : AllWithdraw
-unfolding endBy resultsBy callOf stepOf soundOf entriesSound firstDeadline firstFrom entryOf leaves transitionOf effect criticalOf criticalFrom limitIn
+unfolding endBy resultsBy callOf stepOf soundOf entriesSound firstDeadline firstFrom entryOf leaves transitionOf effect
+    criticalOf criticalFrom limitIn
 all-withdraw = record {
   fresh = example-fresh;
   accepted = refl;
@@ -120,7 +123,8 @@ all-withdraw = record {
 }
 
 pub one-stays : OneStays
-unfolding endBy resultsBy callOf stepOf soundOf entriesSound firstDeadline firstFrom entryOf leaves transitionOf effect criticalOf criticalFrom limitIn
+unfolding endBy resultsBy callOf stepOf soundOf entriesSound firstDeadline firstFrom entryOf leaves transitionOf effect
+    criticalOf criticalFrom limitIn
 one-stays = record {
   answers = refl;
   span = record {
@@ -139,9 +143,13 @@ no-entry s zero m = tt
 no-entry s (suc k) m = inr (λ e. omega (arith, e .crit), inr (λ e. omega (arith, e .crit), no-entry _ k (m + 5)))
 
 pub coming-back : ComingBack
-unfolding comesBack endBy callOf stepOf soundOf entriesSound firstDeadline firstFrom entryOf leaves transitionOf effect criticalOf criticalFrom limitIn
+unfolding comesBack endBy callOf stepOf soundOf entriesSound firstDeadline firstFrom entryOf leaves transitionOf effect
+    criticalOf criticalFrom limitIn
 coming-back = record {
   fresh = example-fresh;
+  clock = omega arith;
+  still = record { from = omega arith; at = refl };
+  gone = inl (record { withdraw = refl; own = refl; accepted = refl });
   runs-on = λ owed. omega (
     arith,
     owed (exampleStep tryAct 1 0 ∷ []) (comesBack 10 0) [] 1 refl

@@ -33,7 +33,7 @@ pub record Span (s : State) (w : ℕ) (ds : List Call) : Type 0 where
   pub none : (i : ℕ) → IsCritical s i → ⊥
   pub calls : InSpan s ds
 
--- [8.78] process w is taken out of the line by the call d
+-- [8.78] the call d is a withdraw of process w, and is accepted
 pub record Withdraws (s : State) (w : ℕ) (d : Call) : Type 0 where
   pub withdraw : d .action ≡ withdrawAct
   pub own : d .process ≡ w
@@ -44,7 +44,7 @@ abbrev pub NotWithdrawn : State → ℕ → List Call → Type 0
 NotWithdrawn s w [] = Unit {0}
 NotWithdrawn s w (d ∷ ds) = (Withdraws s w d → ⊥) × NotWithdrawn (tableOf s d) w ds
 
--- [8.80] [8.85] at a point of a span of the list ds from s on the clock is within the bound, if `owed` holds of the table where the span
+-- [8.80] [8.85] at a point of a span of the list ds from s on, the clock is within the bound, if `owed` holds of the table where the span
 -- starts, of a process w that was trying there, and of the calls from there to the point. The list is cut at these two places.
 abbrev pub OwedIf : (State → ℕ → List Call → Type 0) → ℕ → State → List Call → Type 0
 OwedIf owed bound s ds = (before during after : List Call) (w : ℕ) → ds ≡ before ++ during ++ after

@@ -36,7 +36,7 @@ PastBoundAllWithdrew = (s : State) → IsFresh s → (before during : List Call)
     → runOf s before .clock + owedWait (s .parameters) < runOf s (before ++ during) .clock
     → HasWithdrawn (runOf s before) w during
 
--- helper: no condition
+-- helper: the wait as it was owed before anybody could withdraw
 abbrev pub NoCondition : State → ℕ → List Call → Type 0
 NoCondition s w ds = Unit {0}
 
@@ -85,7 +85,7 @@ pub record OneStays : Type 0 where
   pub stays : NotWithdrawn (runOf exampleTable bothTry) 2 oneWithdraws
   pub gone : HasWithdrawn (runOf exampleTable bothTry) 1 oneWithdraws
 
--- [8.146] process 1 withdraws and tries anew, so many times, each time 5 after m
+-- [8.146] process 1 withdraws and tries anew, k times: at m + 5, at m + 10 and so on
 unfoldable pub comesBack : ℕ → ℕ → List Call
 comesBack zero m = []
 comesBack (suc k) m = exampleStep withdrawAct 1 (m + 5) ∷ exampleStep tryAct 1 (m + 5) ∷ comesBack k (m + 5)
@@ -97,4 +97,7 @@ StillTrying s w ds = IsTrying (runOf s ds) w
 -- [8.146] so to be trying at both ends is not enough
 pub record ComingBack : Type 0 where
   pub fresh : IsFresh exampleTable
+  pub clock : runOf exampleTable (exampleStep tryAct 1 0 ∷ comesBack 10 0) .clock ≡ exampleWait + 1
+  pub still : StillTrying (runOf exampleTable (exampleStep tryAct 1 0 ∷ [])) 1 (comesBack 10 0)
+  pub gone : HasWithdrawn (runOf exampleTable (exampleStep tryAct 1 0 ∷ [])) 1 (comesBack 10 0)
   pub runs-on : OwedIf StillTrying exampleWait exampleTable (exampleStep tryAct 1 0 ∷ comesBack 10 0) → ⊥

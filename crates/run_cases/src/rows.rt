@@ -115,7 +115,7 @@ const CASES: [Row; 91] = [
     [STEP,  TEST,     1,       20,  0,  0, 0,   20,  2, 5, 8, 12,   20, 2, TESTING,   20, ENTERING,  18],
     [STEP,  CRIT,     2,       20,  0,  0, 2,   20,  2, 5, 8, 12,   20, 2, TESTING,   20, CRITICAL,   0],
     [STEP,  WAIT,     0,       19,  0,  4, 0,   20,  2, 5, 8, 12,   20, 2, TESTING,   20, CRITICAL,   0],
-    // [20.200] from each place but testing
+    // [20.200] from each location but testing
     [FRESH,        2, 5,        8, 12,  0, 0,    0,  2, 5, 8, 12,    0, 0, REMAINDER,  0, REMAINDER,  0],
     [STEP,  WITHDRAW, 1,        0,  0,  9, 1,    0,  2, 5, 8, 12,    0, 0, REMAINDER,  0, REMAINDER,  0],
     [STEP,  TRY,      1,        0,  0,  0, 0,    0,  2, 5, 8, 12,    0, 0, TESTING,    0, REMAINDER,  0],

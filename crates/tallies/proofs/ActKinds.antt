@@ -5,7 +5,7 @@ use mathlib.Core.Path.{_≡_, refl, sym, ap, _∙_}
 use mathlib.Core.Logic.{_⊎_, inl, inr, _≢_}
 use mathlib.Core.Bool.{true}
 use native.Mathlib.Omega.{arith}
-use lib.ListN.{length, getD, set, length-set}
+use lib.ListN.{length, set, length-set}
 use lib.Seq.{ext-getD, getD-set-same, getD-set-other}
 use Rattle.model.specs.declared.Location.{Location}
 use Rattle.model.specs.declared.Location.the-variants.{Remainder, Testing, Entering, Critical, Resetting}
@@ -22,7 +22,7 @@ use Rattle.tallies.proofs.CountLaws.{weight, count-set}
 
 -- The kinds
 
--- an act that no count but that of the accepted acts tells apart, and no try time
+-- an act that changes no count but that of the accepted acts, and no try time
 pub record Plain (act : ℕ) : Type 0 where
   pub not-try : act ≢ tryAct
   pub not-crit : act ≢ critAct

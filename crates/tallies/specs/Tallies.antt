@@ -1,6 +1,6 @@
 -- Section 5 of the specification, its last clauses: lists of recorded steps with one summary for all, and that it holds what the log
 -- of the acts and of the answers to them tells. Assumes nothing.
-use Prim.Native.Nat.{ℕ, _+_}
+use Prim.Native.Nat.{_+_}
 use mathlib.Core.Path.{_≡_}
 use mathlib.Core.List.{List, map}
 use Rattle.model.specs.declared.State.{State}

@@ -10,5 +10,5 @@ pub(crate) const CELL: usize = 8;
 pub(crate) const CELLS: [u8; 80] =
     *b"wait    try     test    set     check   crit    exit    reset   rem     withdraw";
 
-// How many bytes of its cell a word takes: bytes too, as the table is laid out for each word that is written.
+// How many bytes of its cell a word takes; each is a `u8`, as the table is laid out anew for each word that is written.
 pub(crate) const WIDTHS: [u8; 10] = [4, 3, 4, 3, 5, 4, 4, 5, 3, 8];

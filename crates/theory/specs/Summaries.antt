@@ -88,7 +88,8 @@ pub data Counting (m : ℕ) : (act entries exits longest tried : ℕ) → (entri
   -- [5.70] [5.80]
   withdraw : {e x l t : ℕ} → Counting m withdrawAct e x l t e x l 0
   -- [5.70] [5.80] any other act
-  other : {act e x l t : ℕ} → act ≢ tryAct → act ≢ critAct → act ≢ exitAct → act ≢ withdrawAct → Counting m act e x l t e x l t
+  other : {act e x l t : ℕ} → act ≢ tryAct → act ≢ critAct → act ≢ exitAct → act ≢ withdrawAct
+      → Counting m act e x l t e x l t
 
 -- [5.70] [5.80] [5.90] y is the summary x with the accepted act of process p at the time m counted
 pub record AcceptedAdded (act p m : ℕ) (x y : Statistics) : Type 0 where

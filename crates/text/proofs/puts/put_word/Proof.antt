@@ -77,7 +77,9 @@ unfolding wordText
 returns-2 c =
     let a = c .before .before .before .before .before .before .before .before .before .before .before .before .args in
     let word = cell tabled (a .action) (c .before .before .before .before .before .before .before .before .before .before .if1 .left) in
-    put-both (rw (word .holds) at (c .before .before .before .before .before .before .put-text2 .ensures)) (put-one (c .before .before .put-byte .ensures))
+    put-both
+    (rw (word .holds) at (c .before .before .before .before .before .before .put-text2 .ensures))
+    (put-one (c .before .before .put-byte .ensures))
 
 pub put-word-spec : {M : Type 1} → statement M
 put-word-spec =
