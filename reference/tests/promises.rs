@@ -81,34 +81,29 @@ fn where_all_withdraw_the_clock_runs_on() {
     }
 }
 
+/// After these calls, which are accepted, the clock may move on to `last` and no farther.
+fn owed_until(last: u64, calls: [(u64, u64, u64); 3]) {
+    let mut watched = Watched::new(VALUES);
+    for (act, window, moment) in calls {
+        watched.accepted(act, window, moment);
+    }
+    assert_eq!(watched.overlooked(last), Ok(()));
+    assert!(watched.overlooked(last + 1).is_err());
+}
+
 #[test]
 fn the_wait_is_owed_to_one_who_stays() {
-    let mut watched = Watched::new(VALUES);
-    watched.accepted(TRY, 1, 0);
-    watched.accepted(TRY, 2, 0);
-    watched.accepted(WITHDRAW, 1, 3);
-    assert_eq!(watched.overlooked(49), Ok(()));
-    assert!(watched.overlooked(50).is_err());
+    owed_until(49, [(TRY, 1, 0), (TRY, 2, 0), (WITHDRAW, 1, 3)]);
 }
 
 #[test]
 fn one_who_comes_later_is_owed_a_wait_from_then_on() {
-    let mut watched = Watched::new(VALUES);
-    watched.accepted(TRY, 1, 0);
-    watched.accepted(TRY, 2, 3);
-    watched.accepted(WITHDRAW, 1, 5);
-    assert_eq!(watched.overlooked(52), Ok(()));
-    assert!(watched.overlooked(53).is_err());
+    owed_until(3 + 49, [(TRY, 1, 0), (TRY, 2, 3), (WITHDRAW, 1, 5)]);
 }
 
 #[test]
 fn one_who_comes_back_has_withdrawn_all_the_same() {
-    let mut watched = Watched::new(VALUES);
-    watched.accepted(TRY, 1, 0);
-    watched.accepted(WITHDRAW, 1, 5);
-    watched.accepted(TRY, 1, 9);
-    assert_eq!(watched.overlooked(58), Ok(()));
-    assert!(watched.overlooked(59).is_err());
+    owed_until(9 + 49, [(TRY, 1, 0), (WITHDRAW, 1, 5), (TRY, 1, 9)]);
 }
 
 #[test]

@@ -49,6 +49,14 @@ module _ (s : State) (d : Call) where
   unfolding callOf
   called = by-cond Gives (d .recorded) (λ _. judged-called (judged s (d .lent) (d .action) (d .process) (d .time))) (λ _. step-called)
 
+  -- one that is accepted is its step
+  accepted-is : {o : Outcome} → Called s d o → Accepted o → Accepted (stepFor s d) × (o ≡ stepFor s d)
+  accepted-is (accepted a) _ = (a, refl)
+  accepted-is (refused n _) a = absurd (n a)
+
+  pub accepted-call : Accepted (outcomeOf s d) → Accepted (stepFor s d) × (outcomeOf s d ≡ stepFor s d)
+  accepted-call = accepted-is called
+
   -- either kind answers 1 where the table is not sound
   pub unsound-call : soundOf s ≡ false → callOf s d ≡ beside (d .lent) (answers 1 0 0 s)
   unfolding callOf

@@ -21,20 +21,15 @@ use Rattle.model.proofs.Tests.{if-eq}
 use Rattle.theory.specs.Acceptance.{ClockOnly}
 use Rattle.theory.proofs.Lowest.{accepted-tells}
 use Rattle.theory.proofs.TakenBack.{withdraw-undoes-try}
-use Rattle.lists.proofs.Calls.{stepFor, Called, called}
+use Rattle.lists.proofs.Calls.{accepted-call}
 use Rattle.lists.proofs.Demand3.{every-list}
 
 -- A try that is taken back
 
--- a call that is accepted is its step
-accepted-step : {s : State} {d : Call} {o : Outcome} → Called s d o → Accepted o → Accepted (stepFor s d) × (o ≡ stepFor s d)
-accepted-step (Called.accepted a) _ = (a, refl)
-accepted-step (Called.refused n _) a = absurd (n a)
-
 pub calls-taken-back : CallsTakenBack
 calls-taken-back s size d e try withdraw same now a b =
-    let t = accepted-step (called s d) a in
-    let u = accepted-step (called (tableOf s d) e) b in
+    let t = accepted-call s d a in
+    let u = accepted-call (tableOf s d) e b in
     let p = d .process in
     let m = d .time in
     let steps : tableOf (tableOf s d) e ≡ stepOf (stepOf s tryAct p m .state) withdrawAct p m .state =
