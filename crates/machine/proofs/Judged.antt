@@ -8,7 +8,7 @@ use native.Mathlib.Omega.{arith}
 use native.Mathlib.Nat.{mod-eq-of-lt}
 use lib.Dec.{ltb, eqb}
 use lib.ListN.{length, set}
-use borrow.Author.Tests.{ltb-true, ltb-false, lt-ltb, le-ltb, eq-eqb, ne-eqb, eqb-true, not-false}
+use borrow.Author.Tests.{ltb-true, ltb-false, le-ltb, eq-eqb, ne-eqb, eqb-true, not-false}
 use Rattle.model.specs.declared.Location.{Location}
 use Rattle.model.specs.declared.State.{State}
 use Rattle.model.specs.declared.Transition.{Transition}
@@ -25,7 +25,7 @@ use Rattle.rules.specs.declared.survey.Survey.{Survey}
 use Rattle.rules.specs.Survey.{sceneOf}
 use Rattle.rules.specs.Judging.{lowestOf, checkFrom, turnJudged, judged}
 use Rattle.model.proofs.Soundness.{sound-numbers, sound-past}
-use Rattle.model.proofs.Tests.{by-test, if-lt, if-eq, tests}
+use Rattle.model.proofs.Tests.{by-test, if-eq, tests}
 use Rattle.model.proofs.Rows.{row-leaves}
 use Rattle.rules.proofs.Critical.{others-all, others-moved}
 use Rattle.rules.proofs.Notes.{Finds, none, one}
@@ -52,20 +52,16 @@ turnOf s act p m =
 refusal : {s : State} {act p m : ℕ} {j : Answer} → j .code ≢ 0 → Goes s act p m (record { answer = j; state = s }) j
 refusal n = refuses refl n
 
--- The first deadline against the time that is left to it
+-- The first deadline against the time
 
-module _ {clock process left m : ℕ} (h : m ≤ lastTime) where
-  missed-is : {d : Due} → Finds clock process left d → missed d m ≡ ltb left (m - clock)
-  missed-is (none z e) = sym (le-ltb left (m - clock) (omega (arith, e)))
-  missed-is (one n) =
-      rw (ne-eqb process 0 n)
-      (if-lt left (m - clock)
-      (λ l. lt-ltb (clock + left) m (omega (arith, l)) ∙ sym (lt-ltb left (m - clock) l))
-      (λ l. le-ltb (clock + left) m (omega (arith, l)) ∙ sym (le-ltb left (m - clock) l)))
+module _ {process time m : ℕ} (h : m ≤ lastTime) where
+  missed-is : {d : Due} → Finds process time d → missed d m ≡ ltb time m
+  missed-is (none z e) = sym (le-ltb time m (omega (arith, e)))
+  missed-is (one n) = rw (ne-eqb process 0 n)
 
-  missed-goes : {s : State} {act p : ℕ} {d : Due} → Finds clock process left d → ltb left (m - clock) ≡ true
-      → Goes s act p m (answers 8 (d .process) (d .time) s) (answerOf 8 process (clock + left))
-  missed-goes (none z e) late = absurd (omega (arith, e, ltb-true left (m - clock) late))
+  missed-goes : {s : State} {act p : ℕ} {d : Due} → Finds process time d → ltb time m ≡ true
+      → Goes s act p m (answers 8 (d .process) (d .time) s) (answerOf 8 process time)
+  missed-goes (none z e) late = absurd (omega (arith, e, ltb-true time m late))
   missed-goes (one n) late = refusal (λ z. omega arith)
 
 -- A sound state

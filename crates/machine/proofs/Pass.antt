@@ -32,7 +32,7 @@ sound-parts s = refl
 pub numbers-fault : (s : State) → standing s ≡ false → soundOf s ≡ false
 numbers-fault s e = sound-parts s ∙ rw e
 
--- standing limits are far below the time left where there is no deadline
+-- with standing numbers the stays end long before the deadline where there is none
 numbers-end : (s : State) → standing s ≡ true → (k : ℕ) → Ends s k
 unfolding numbersStand limitIn
 numbers-end s e k = omega (arith, simp tests at e)
@@ -47,7 +47,8 @@ pub record Passed (s : State) (acting i : ℕ) (f : Survey) : Type 0 where
   pub stand : standing s ≡ true
   pub sound : entriesSound s (i + 1) (drop i (s .processes)) ≡ entriesSound s 1 (s .processes)
   pub due-yet : Due
-  pub finds : Finds (s .clock) (f .process) (f .left) due-yet
+  pub ahead : s .clock ≤ f .due
+  pub finds : Finds (f .process) (f .due) due-yet
   pub due-left : firstFrom s (i + 1) due-yet (drop i (s .processes)) ≡ firstDeadline s
   pub critical : first (f .critical) (othersFrom acting (i + 1) (drop i (s .processes))) ≡ othersFrom acting 1 (s .processes)
 
@@ -55,7 +56,7 @@ pub record Passed (s : State) (acting i : ℕ) (f : Survey) : Type 0 where
 pub record Whole (s : State) (acting : ℕ) (f : Survey) : Type 0 where
   pub faultless : f .faulty ≡ 0
   pub sound : soundOf s ≡ true
-  pub finds : Finds (s .clock) (f .process) (f .left) (firstDeadline s)
+  pub finds : Finds (f .process) (f .due) (firstDeadline s)
   pub critical : othersFrom acting 1 (s .processes) ≡ f .critical
 
 pub data Surveyed (s : State) (acting : ℕ) (f : Survey) : Type 0 where
@@ -72,13 +73,15 @@ nothing-passed s acting stand size = record {
   stand = stand;
   sound = refl;
   due-yet = noneDue;
+  ahead = omega (arith, numbers-end s stand 1 .limit);
   finds = none refl refl;
   due-left = refl;
   critical = refl;
 }
 
-module _ (s : State) (acting i : ℕ) (f : Survey) (passed : Passed s acting i f) (more : i < 96) (d : Process) (g : Survey)
-    (e : g ≡ noted (sceneOf (s .parameters) (s .clock) acting) (i + 1) (getD (s .processes) i d .location) (limitOf s (i + 1)) f) where
+-- a look at the next entry, that of process k
+module _ (s : State) (acting i k : ℕ) (f : Survey) (passed : Passed s acting i f) (more : i < 96) (next : k ≡ i + 1) (d : Process) (g : Survey)
+    (e : g ≡ noted (sceneOf (s .parameters) (s .clock) acting) k (getD (s .processes) i d .location) (limitOf s k) f) where
   abbrev q : Process
   q = getD (s .processes) i d
 
@@ -87,7 +90,9 @@ module _ (s : State) (acting i : ℕ) (f : Survey) (passed : Passed s acting i f
   next-entry = drop-at (s .processes) i d (omega (arith, passed .size))
 
   is-noted : Noted s acting (i + 1) q f g
-  is-noted = rw e (note-at s acting (i + 1) f (passed .faultless) (q .location))
+  is-noted =
+      rw (e, next)
+      (note-at s acting (i + 1) f (passed .faultless) (passed .ahead) (numbers-end s (passed .stand) (i + 1)) (omega arith) (q .location))
 
   sound-left : entrySound s (i + 1) q && entriesSound s (i + 1 + 1) (drop (i + 1) (s .processes)) ≡ entriesSound s 1 (s .processes)
   unfolding entriesSound
@@ -125,9 +130,10 @@ module _ (s : State) (acting i : ℕ) (f : Survey) (passed : Passed s acting i f
         stand = passed .stand;
         sound = rw (t .sound) at sound-left;
         due-yet = due-next;
-        finds = t .due-next (omega arith) (numbers-end s (passed .stand) (i + 1)) (passed .finds);
+        ahead = t .ahead;
+        finds = t .due-next (passed .finds);
         due-left = due-left;
-        critical = sym (t .critical-next (omega arith) _) ∙ critical-left;
+        critical = sym (t .critical-next _) ∙ critical-left;
       }
 
 -- nothing is left after 96 entries

@@ -6,32 +6,12 @@ use model::Outcome;
 use model::Parameters;
 use model::Process;
 use model::State;
-use rules::actions::CHECK;
-use rules::actions::CRIT;
-use rules::actions::EXIT;
-use rules::actions::REM;
-use rules::actions::RESET;
-use rules::actions::SET;
-use rules::actions::TEST;
-use rules::actions::TRY;
-use rules::actions::UNKNOWN;
 use rules::actions::WAIT;
-use rules::actions::WITHDRAW;
-use rules::actions::checked;
-use rules::actions::no_row;
-use rules::actions::row;
-use rules::actions::tested;
+use rules::actions::transition_of;
 use rules::answers::check_from;
 use rules::answers::judge;
+use rules::answers::slot_of;
 use rules::limits::numbers_stand;
-use rules::stages::CHECKING;
-use rules::stages::CRITICAL;
-use rules::stages::ENTERING;
-use rules::stages::LEAVING;
-use rules::stages::REMAINDER;
-use rules::stages::RESETTING;
-use rules::stages::SETTING;
-use rules::stages::TESTING;
 use rules::stages::stage_of;
 use rules::survey::empty;
 use rules::survey::note;
@@ -42,7 +22,7 @@ use values::limit_of;
 use values::limits_stand;
 use values::no_parameters;
 ghost use mathlib.Core.Path.{_≡_};
-ghost use Prim.Native.Nat.{ℕ, _<_, _≤_, _-_};
+ghost use Prim.Native.Nat.{ℕ, _<_};
 ghost use lib.ListN.{getD};
 ghost use Rattle.model.specs.declared.Process.{Process};
 ghost use Rattle.model.specs.States.{entry, idle, initial};
@@ -92,19 +72,6 @@ pub fn fresh(parameters: Parameters) -> Outcome
     }
 }
 
-// The entry of a process; the first where there is no such process, so that it may be read before the process is judged.
-pub fn slot_of(process: u64) -> usize
-    ensures { λ r. ⌜ (r < 96) × (process ≤ 96 → r ≡ process - 1) × (96 < process → r ≡ 0) ⌝ }
-{
-    if process == 0 {
-        return 0;
-    }
-    if 96 < process {
-        return 0;
-    }
-    (process - 1) as usize
-}
-
 // [3.45] [4.80] [4.83] [21.40] [21.50] [21.110] One action of a process at a time. A single pass over the entries serves soundness, the
 // first deadline and the critical process; it stands here, as each hand-over of a state copies 1,584 bytes.
 pub fn step(mut state: State, action: u64, process: u64, time: u64) -> Outcome
@@ -118,35 +85,23 @@ pub fn step(mut state: State, action: u64, process: u64, time: u64) -> Outcome
         };
     }
     let scene = scene_of(parameters, state.clock, process);
-    let slot = slot_of(process);
-    let own_entry = state.processes[slot];
-    let own = own_entry.location;
     let mut found = empty();
-    let mut i: usize = 0;
-    while i < 96 {
-        let entry = state.processes[i];
+    // counted by the process, not by its place: else the test on n works out one from the other at each busy entry
+    let mut at: u64 = 1;
+    while at <= 96 {
+        let entry = state.processes[(at - 1) as usize];
         let location = entry.location;
-        let number = (i as u64) + 1;
-        found = note(found, scene, number, location, limit_of(parameters, number));
+        found = note(found, scene, at, location, limit_of(parameters, at));
         if found.faulty != 0 {
             break;
         }
-        i += 1;
+        at += 1;
     }
-    let word = state.word;
-    let transition = match action {
-        WAIT => no_row(word),
-        TRY => row(REMAINDER, Location::Testing(time), word),
-        TEST => row(TESTING, tested(word, time), word),
-        SET => row(SETTING, Location::Checking(time), process),
-        CHECK => row(CHECKING, checked(word, process, time), word),
-        CRIT => row(ENTERING, Location::Critical, word),
-        EXIT => row(CRITICAL, Location::Resetting(time), word),
-        RESET => row(RESETTING, Location::Leaving(time), 0),
-        REM => row(LEAVING, Location::Remainder, word),
-        WITHDRAW => row(TESTING, Location::Remainder, word),
-        UNKNOWN.. => no_row(word),
-    };
+    let transition = transition_of(action, process, time, state.word);
+    // read after the pass: before it, place and location take registers that each busy entry needs
+    let slot = slot_of(process);
+    let own_entry = state.processes[slot];
+    let own = own_entry.location;
     let answer = judge(
         found,
         scene,

@@ -71,3 +71,9 @@ module _ {A B : Type 0} (f : A → B) (rs : List A) (l : List B) (i : ℕ) (made
 
   pub rows-long : i ≤ length l → length (over (map f rs) l) ≡ length l
   rows-long h = length-over (map f rs) l (omega (arith, rows-made))
+
+-- Maps
+
+-- a list is as long as any map of it: `search (needs, length-mapped)` finds the length of an array of structs
+pub length-mapped : (X Y : Type 0) (f : X → Y) (l : List X) (n : ℕ) → length (map f l) ≡ n → length l ≡ n
+length-mapped X Y f l n e = sym (length-map l f) ∙ e

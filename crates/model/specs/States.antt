@@ -18,7 +18,7 @@ use Rattle.model.specs.Stages.{remainder, testing, setting, checking, en
 abbrev pub parametersOf : ℕ → ℕ → ℕ → ℕ → Parameters
 parametersOf n a b c = record { n = n; a = a; b = b; c = c }
 
--- [6.30] [9.10] of a list that starts with n, a, b and c
+-- [6.30] of a list that starts with n, a, b and c
 abbrev pub parametersIn : List ℕ → Parameters
 parametersIn l = parametersOf (getD l 0 0) (getD l 1 0) (getD l 2 0) (getD l 3 0)
 

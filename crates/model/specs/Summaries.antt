@@ -28,7 +28,7 @@ countsOf accepted refused entries exits longest = record {
 abbrev pub countsNumbers : Counts → List ℕ
 countsNumbers k = k .accepted ∷ k .refused ∷ k .entries ∷ k .exits ∷ k .longest ∷ []
 
--- [8.152] [9.30] the counts that numbers tell
+-- [8.152] the counts that numbers tell
 abbrev pub countsIn : List ℕ → Counts
 countsIn l = countsOf (getD l 0 0) (getD l 1 0) (getD l 2 0) (getD l 3 0) (getD l 4 0)
 

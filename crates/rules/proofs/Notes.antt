@@ -1,35 +1,35 @@
--- One entry of the pass: what a note of it finds, in the terms of the model's searches. The first deadline is kept as the time left
--- to it from the clock, so that no sum is taken of an entry that may not be sound. Assumes nothing.
-use Prim.Native.Nat.{ℕ, _+_, _-_, _≤_, _<_}
-use mathlib.Core.Path.{_≡_, refl, sym, _∙_}
+-- One entry of the pass: what a note of it finds, in the terms of the model's searches. The first deadline so far is not before the
+-- clock, and no turn finds one that is: so a deadline that is not sooner is not past either. Assumes nothing.
+use Prim.Native.Nat.{ℕ, _+_, _≤_, _<_}
+use mathlib.Core.Path.{_≡_, refl, _∙_}
 use mathlib.Core.Logic.{_≢_}
 use mathlib.Core.Bool.{true, false, cond, not}
 use native.Mathlib.Omega.{arith}
+use native.Mathlib.Nat.{mod-eq-of-lt}
 use lib.Dec.{leb, ltb, eqb}
-use borrow.Author.Tests.{ltb-true, ltb-false, leb-true, leb-false, lt-ltb, le-ltb, le-leb, lt-leb, eq-eqb, ne-eqb, not-true, not-false}
+use borrow.Author.Tests.{ltb-true, ltb-false, leb-true, leb-false, lt-ltb, le-ltb, le-leb, lt-leb, ne-eqb, not-true, not-false}
 use Rattle.model.specs.declared.Location.{Location}
 use Rattle.model.specs.declared.Location.the-variants.{Remainder, Testing, Setting, Checking, Entering, Critical, Resetting, Leaving}
 use Rattle.model.specs.declared.Process.{Process}
-use Rattle.model.specs.declared.Parameters.{Parameters}
 use Rattle.model.specs.declared.State.{State}
 use Rattle.model.specs.Stages.{remainder, checking, critical}
-use Rattle.model.specs.States.{entry, stageOf, sinceOf, timed, limitIn, limitOf, deadline, entrySound}
+use Rattle.model.specs.States.{entry, stageOf, sinceOf, timed, limitOf, deadline, entrySound}
 use Rattle.model.specs.Answers.{Due, due, noneDue, sooner}
 use Rattle.rules.specs.declared.survey.Survey.{Survey}
-use Rattle.rules.specs.Survey.{bare, sceneOf, endless, nothing, faulted, criticalAt, firstAt, timedNoted, criticalNoted, noted}
-use Rattle.model.proofs.Tests.{by-test, by-cond}
+use Rattle.rules.specs.Survey.{sceneOf, endless, faulted, criticalAt, firstAt, dueFrom, timedNoted, criticalNoted, noted}
+use Rattle.model.proofs.Tests.{by-cond}
 use Rattle.rules.proofs.Critical.{otherCritical}
 use Rattle.rules.proofs.Entries.{stayOf, idle-sound, past-unsound, critical-sound, timed-sound}
 
--- what a survey's process and time left tell of the first deadline so far: there is none, or it is that long after the clock
-pub data Finds (clock process left : ℕ) : Due → Type 0 where
-  none : process ≡ 0 → left ≡ endless → Finds clock process left noneDue
-  one : process ≢ 0 → Finds clock process left (due process (clock + left))
+-- what a survey's process and deadline tell of the first deadline so far: there is none, or they are it
+pub data Finds (process time : ℕ) : Due → Type 0 where
+  none : process ≡ 0 → time ≡ endless → Finds process time noneDue
+  one : process ≢ 0 → Finds process time (due process time)
 
--- the stays of process k are shorter than the time left where there is no deadline
+-- a stay of process k that began at no time after the clock ends before the deadline where there is none
 pub record Ends (s : State) (k : ℕ) : Type 0 where
-  pub limit : limitOf s k < endless
-  pub check : s .parameters .c < endless
+  pub limit : s .clock + limitOf s k < endless
+  pub check : s .clock + s .parameters .c < endless
 
 -- the first of two process numbers that is not 0
 abbrev pub first : ℕ → ℕ → ℕ
@@ -39,56 +39,74 @@ first x y = cond (eqb x 0) y x
 pub record Turn (s : State) (acting k : ℕ) (q : Process) (f g : Survey) : Type 0 where
   pub faultless : g .faulty ≡ 0
   pub sound : entrySound s k q ≡ true
-  pub due-next : 1 ≤ k → Ends s k → {d : Due} → Finds (s .clock) (f .process) (f .left) d
-      → Finds (s .clock) (g .process) (g .left) (cond (sooner s k q d) (due k (deadline s k q)) d)
-  pub critical-next : 1 ≤ k → (rest : ℕ) → first (f .critical) (cond (otherCritical acting k q) k rest) ≡ first (g .critical) rest
+  pub ahead : s .clock ≤ g .due
+  pub due-next : {d : Due} → Finds (f .process) (f .due) d
+      → Finds (g .process) (g .due) (cond (sooner s k q d) (due k (deadline s k q)) d)
+  pub critical-next : (rest : ℕ) → first (f .critical) (cond (otherCritical acting k q) k rest) ≡ first (g .critical) rest
 
 pub data Noted (s : State) (acting k : ℕ) (q : Process) (f g : Survey) : Type 0 where
   fault : entrySound s k q ≡ false → g .faulty ≢ 0 → Noted s acting k q f g
   fine : Turn s acting k q f g → Noted s acting k q f g
 
-module _ (s : State) (acting k : ℕ) (f : Survey) (so-far : f .faulty ≡ 0) where
+module _ (s : State) (acting k : ℕ) (f : Survey) (so-far : f .faulty ≡ 0) (ahead : s .clock ≤ f .due) (ends : Ends s k) (some : 1 ≤ k) where
   abbrev NotedAs : Location → Survey → Type 0
   NotedAs l g = Noted s acting k (entry l) f g
 
   -- A timed location
 
   module _ (l : Location) (t : timed l ≡ true) (away : eqb (stageOf l) remainder ≡ false) (out : eqb (stageOf l) critical ≡ false) where
-    abbrev left : ℕ
-    left = stayOf s k l - (s .clock - sinceOf l)
+    abbrev time : ℕ
+    time = deadline s k (entry l)
 
-    -- its deadline is not past
-    module _ (came : sinceOf l ≤ s .clock) (on-time : s .clock - sinceOf l ≤ stayOf s k l) where
-      found : 1 ≤ k → Finds (s .clock) k left (due k (deadline s k (entry l)))
-      found some =
-          let e : s .clock + left ≡ deadline s k (entry l) = omega arith in
-          rw (← e) (one (λ z. omega arith))
-
-      ends-below : Ends s k → left < endless
-      ends-below h =
-          let e : stayOf s k l < endless =
-          by-cond (λ (x : ℕ). x < endless) (eqb (stageOf l) checking) (λ _. h .check) (λ _. h .limit) in
+    -- of a process up to n that came at no time after the clock
+    module _ (h : k ≤ s .parameters .n) (came : sinceOf l ≤ s .clock) where
+      ends-below : time < endless
+      ends-below =
+          let e : s .clock + stayOf s k l < endless =
+          by-cond (λ (x : ℕ). s .clock + x < endless) (eqb (stageOf l) checking) (λ _. ends .check) (λ _. ends .limit) in
           omega arith
 
-      timed-next : 1 ≤ k → Ends s k → {d : Due} → Finds (s .clock) (f .process) (f .left) d
-          → (let g = cond (leb (f .left) left) f (firstAt k left f) in
-          Finds (s .clock) (g .process) (g .left) (cond (sooner s k (entry l) d) (due k (deadline s k (entry l))) d))
-      timed-next some ends (none z e) = rw (lt-leb (f .left) left (omega (arith, e, ends-below ends)), t) (found some)
-      timed-next some ends (one n) =
-          rw (t, ne-eqb (f .process) 0 n)
-          (by-test (leb (f .left) left)
-          (λ h. rw (h, le-ltb (deadline s k (entry l)) (s .clock + f .left) (omega (arith, leb-true (f .left) left h))) (one n))
-          (λ h. rw (h, lt-ltb (deadline s k (entry l)) (s .clock + f .left) (omega (arith, leb-false (f .left) left h))) (found some)))
+      fits : dueFrom (sinceOf l) (stayOf s k l) ≡ time
+      fits = mod-eq-of-lt (omega (arith, ends-below))
 
-      timed-turn : k ≤ s .parameters .n → NotedAs l (cond (leb (f .left) left) f (firstAt k left f))
-      timed-turn h = fine (record {
-        faultless = by-cond (λ (g : Survey). g .faulty ≡ 0) (leb (f .left) left) (λ _. so-far) (λ _. so-far);
-        sound = timed-sound s k h l t
-            ∙ simp (le-leb (sinceOf l) (s .clock) came, le-ltb (deadline s k (entry l)) (s .clock) (omega arith));
-        due-next = timed-next;
-        critical-next = λ _ rest. rw out
-            (by-cond (λ (g : Survey). first (f .critical) rest ≡ first (g .critical) rest) (leb (f .left) left) (λ _. refl) (λ _. refl));
+      on-time : s .clock ≤ time → entrySound s k (entry l) ≡ true
+      on-time a = timed-sound s k h l t ∙ simp (le-leb (sinceOf l) (s .clock) came, le-ltb time (s .clock) a)
+
+      -- its deadline is not sooner than the first so far
+      later : f .due ≤ time → NotedAs l f
+      later a = fine (record {
+        faultless = so-far;
+        sound = on-time (omega arith);
+        ahead = ahead;
+        due-next = next;
+        critical-next = λ rest. rw out;
       })
+        where
+          next : {d : Due} → Finds (f .process) (f .due) d → Finds (f .process) (f .due) (cond (sooner s k (entry l) d) (due k time) d)
+          next (none z e) = absurd (omega (arith, e, ends-below))
+          next (one n) = rw (t, ne-eqb (f .process) 0 n, le-ltb time (f .due) a) (one n)
+
+      -- it is, and it is not past
+      first-so-far : time < f .due → s .clock ≤ time → NotedAs l (firstAt k time f)
+      first-so-far a b = fine (record {
+        faultless = so-far;
+        sound = on-time b;
+        ahead = b;
+        due-next = next;
+        critical-next = λ rest. rw out;
+      })
+        where
+          next : {d : Due} → Finds (f .process) (f .due) d → Finds k time (cond (sooner s k (entry l) d) (due k time) d)
+          next (none z e) = rw t (one (λ z. omega arith))
+          next (one n) = rw (t, ne-eqb (f .process) 0 n, lt-ltb time (f .due) a) (one (λ z. omega arith))
+
+      came-noted : NotedAs l (cond (leb (f .due) time) f (cond (ltb time (s .clock)) (faulted f) (firstAt k time f)))
+      came-noted =
+          by-cond (NotedAs l) (leb (f .due) time)
+          (λ a. later (leb-true (f .due) time a))
+          (λ a. by-cond (NotedAs l) (ltb time (s .clock))
+          (λ b. fault (timed-sound s k h l t ∙ simp (le-leb (sinceOf l) (s .clock) came, b)) (λ z. omega arith))
+          (λ b. first-so-far (leb-false (f .due) time a) (ltb-false time (s .clock) b)))
 
     timed-noted : NotedAs l (cond (ltb (s .parameters .n) k) (faulted f) (timedNoted (s .clock) k (sinceOf l) (stayOf s k l) f))
     timed-noted =
@@ -97,24 +115,30 @@ module _ (s : State) (acting k : ℕ) (f : Survey) (so-far : f .faulty ≡ 0) wh
         (λ e. let h : k ≤ s .parameters .n = ltb-false (s .parameters .n) k e in
         by-cond (NotedAs l) (ltb (s .clock) (sinceOf l))
         (λ a. fault (timed-sound s k h l t ∙ simp (lt-leb (sinceOf l) (s .clock) (ltb-true (s .clock) (sinceOf l) a))) (λ z. omega arith))
-        (λ a. let came : sinceOf l ≤ s .clock = ltb-false (s .clock) (sinceOf l) a in
-        by-cond (NotedAs l) (ltb (stayOf s k l) (s .clock - sinceOf l))
-        (λ b. fault (timed-sound s k h l t ∙ simp (
-          le-leb (sinceOf l) (s .clock) came,
-          lt-ltb (sinceOf l + stayOf s k l) (s .clock) (omega (arith, ltb-true (stayOf s k l) (s .clock - sinceOf l) b)),
-        )) (λ z. omega arith))
-        (λ b. timed-turn came (ltb-false (stayOf s k l) (s .clock - sinceOf l) b) h)))
+        (λ a. let came : sinceOf l ≤ s .clock = ltb-false (s .clock) (sinceOf l) a in rw (fits h came) (came-noted h came)))
 
   -- An untimed location, which leaves the first deadline as it is
 
   remainder-noted : NotedAs Remainder f
-  remainder-noted = fine (record { faultless = so-far; sound = idle-sound s k; due-next = λ _ _ d. d; critical-next = λ _ rest. refl })
+  remainder-noted = fine (record {
+    faultless = so-far;
+    sound = idle-sound s k;
+    ahead = ahead;
+    due-next = λ d. d;
+    critical-next = λ rest. refl;
+  })
 
   -- x is the lowest critical process with it
   critical-turn : k ≤ s .parameters .n → (x : ℕ)
-      → (1 ≤ k → (rest : ℕ) → first (f .critical) (cond (otherCritical acting k (entry Critical)) k rest) ≡ first x rest)
+      → ((rest : ℕ) → first (f .critical) (cond (otherCritical acting k (entry Critical)) k rest) ≡ first x rest)
       → NotedAs Critical (criticalAt x f)
-  critical-turn h x next = fine (record { faultless = so-far; sound = critical-sound s k h; due-next = λ _ _ d. d; critical-next = next })
+  critical-turn h x next = fine (record {
+    faultless = so-far;
+    sound = critical-sound s k h;
+    ahead = ahead;
+    due-next = λ d. d;
+    critical-next = next;
+  })
 
   critical-noted : NotedAs Critical (cond (ltb (s .parameters .n) k) (faulted f) (criticalNoted acting k f))
   critical-noted =
@@ -122,10 +146,10 @@ module _ (s : State) (acting k : ℕ) (f : Survey) (so-far : f .faulty ≡ 0) wh
       (λ e. fault (past-unsound s k Critical refl (ltb-true (s .parameters .n) k e)) (λ z. omega arith))
       (λ e. let h : k ≤ s .parameters .n = ltb-false (s .parameters .n) k e in
       by-cond (NotedAs Critical) (eqb k acting)
-      (λ a. critical-turn h (f .critical) (λ _ rest. simp a))
+      (λ a. critical-turn h (f .critical) (λ rest. simp a))
       (λ a. by-cond (NotedAs Critical) (not (eqb (f .critical) 0))
-      (λ b. critical-turn h (f .critical) (λ _ rest. simp (a, not-true (eqb (f .critical) 0) b)))
-      (λ b. critical-turn h k (λ some rest. simp (a, not-false (eqb (f .critical) 0) b, ne-eqb k 0 (λ z. omega arith))))))
+      (λ b. critical-turn h (f .critical) (λ rest. simp (a, not-true (eqb (f .critical) 0) b)))
+      (λ b. critical-turn h k (λ rest. simp (a, not-false (eqb (f .critical) 0) b, ne-eqb k 0 (λ z. omega arith))))))
 
   -- Each location
 
@@ -139,13 +163,3 @@ module _ (s : State) (acting k : ℕ) (f : Survey) (so-far : f .faulty ≡ 0) wh
   note-at Critical = critical-noted
   note-at (Resetting t) = timed-noted (Resetting t) refl refl refl
   note-at (Leaving t) = timed-noted (Leaving t) refl refl refl
-
--- An entry by itself: a note of it finds a fault exactly where it is not sound
-
-pub entry-faulty : (k : Parameters) (clock i : ℕ) (l : Location)
-    → eqb (noted (sceneOf k clock 0) i l (limitIn k i) nothing .faulty) 0 ≡ entrySound (bare k clock) i (entry l)
-entry-faulty k clock i l = told (note-at (bare k clock) 0 i nothing refl l)
-  where
-    told : {g : Survey} → Noted (bare k clock) 0 i (entry l) nothing g → eqb (g .faulty) 0 ≡ entrySound (bare k clock) i (entry l)
-    told (fault e n) = ne-eqb _ 0 n ∙ sym e
-    told (fine t) = eq-eqb _ 0 (t .faultless) ∙ sym (t .sound)

@@ -1,22 +1,46 @@
 -- The answer to an action on numbers, from what the looks at the entries found. The acting process has the stage `place` and may check
--- from `release` on, and its act has the row t. `proofs/` of the machine relates these definitions to the model. Assumes nothing.
+-- from `release` on, and its act has the row t. `proofs/Rows` relates the row to the model, and `proofs/` of the machine the rest. Assumes nothing.
 use Prim.Native.Nat.{ℕ, _+_, _-_, _%_, _^_}
-use mathlib.Core.Bool.{cond, not, _&&_}
+use mathlib.Core.Bool.{cond, not, _&&_, _||_}
+use mathlib.Core.List.{[]}
 use lib.Dec.{ltb, eqb}
 use Rattle.model.specs.declared.Location.{Location}
+use Rattle.model.specs.declared.Location.the-variants.{Remainder}
+use Rattle.model.specs.declared.State.{State}
 use Rattle.model.specs.declared.Transition.{Transition}
 use Rattle.model.specs.declared.Answer.{Answer}
-use Rattle.model.specs.Stages.{critical}
+use Rattle.model.specs.Stages.{remainder, critical}
 use Rattle.model.specs.Acts.{waitAct, checkAct}
-use Rattle.model.specs.States.{stageOf, sinceOf}
+use Rattle.model.specs.States.{noParameters, stageOf, sinceOf}
+use Rattle.model.specs.Actions.{row, transitionOf}
 use Rattle.model.specs.Answers.{answerOf, beyond, unknown, misnamed}
 use Rattle.rules.specs.declared.survey.Scene.{Scene}
 use Rattle.rules.specs.declared.survey.Survey.{Survey}
+
+-- The row of an action: of a state it depends on the word alone
+
+-- helper: of an action that has no row: a wait, which leaves no place, or one that is unknown and refused
+abbrev pub noRow : ℕ → Transition
+noRow word = row remainder Remainder word
+
+-- helper: a state with this word, and nothing else
+abbrev pub worded : ℕ → State
+worded word = record { parameters = noParameters; clock = 0; word = word; processes = [] }
+
+-- [3.40] of any action
+unfoldable pub rowOf : ℕ → ℕ → ℕ → ℕ → Transition
+rowOf act p m word = cond (eqb act waitAct || unknown act) (noRow word) (transitionOf (worded word) act p m)
+
+-- The answer
 
 -- helper: the lowest critical process once process p has come to a location, from the lowest of the others
 unfoldable pub lowestOf : ℕ → ℕ → Location → ℕ
 lowestOf others p to =
     cond (not (eqb (stageOf to) critical)) others (cond (eqb others 0) p (cond (ltb others p) others p))
+
+-- helper: the place of a process's entry; the first where there is no such process, so that it may be read before the process is judged
+abbrev pub slotOf : ℕ → ℕ
+slotOf p = cond (ltb 96 p) 0 (p - 1)
 
 -- helper: from when on a process in this location may check; the sum of an entry that is not sound may wrap
 abbrev pub checkFrom : Location → ℕ → ℕ
@@ -37,6 +61,6 @@ judged f x place release t act m =
     (cond (beyond m) (answerOf 5 0 0)
     (cond (unknown act) (answerOf 6 0 0)
     (cond (misnamed (x .n) act (x .acting)) (answerOf 7 0 0)
-    (cond (ltb (f .left) (m - x .clock)) (answerOf 8 (f .process) (x .clock + f .left))
+    (cond (ltb (f .due) m) (answerOf 8 (f .process) (f .due))
     (cond (eqb act waitAct) (answerOf 0 (f .critical) m)
     (turnJudged (f .critical) (x .acting) place release t act m)))))))

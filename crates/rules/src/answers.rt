@@ -16,7 +16,7 @@ use std::num::wrapping_add_u64;
 use values::answer_with;
 ghost use mathlib.Core.Path.{_≡_};
 ghost use Rattle.model.specs.Answers.{misnamed};
-ghost use Rattle.rules.specs.Judging.{lowestOf, checkFrom, turnJudged, judged};
+ghost use Rattle.rules.specs.Judging.{lowestOf, slotOf, checkFrom, turnJudged, judged};
 
 // The lowest critical process once `process` has come to a location, from the lowest of the others.
 fn lowest(critical: u64, process: u64, to: Location) -> u64
@@ -45,6 +45,19 @@ fn is_misnamed(n: u64, action: u64, process: u64) -> bool
         return true;
     }
     n < process
+}
+
+// The place of a process's entry; the first where there is no such process, so that it may be read before the process is judged.
+pub fn slot_of(process: u64) -> usize
+    ensures { λ r. ⌜ r ≡ slotOf process ⌝ }
+{
+    if process == 0 {
+        return 0;
+    }
+    if 96 < process {
+        return 0;
+    }
+    (process - 1) as usize
 }
 
 // From when on a process in this location may check. The entry need not be sound: then the sum may wrap, and is of no account.
@@ -106,8 +119,8 @@ pub fn judge(
     if is_misnamed(scene.n, action, scene.acting) {
         return answer_with(7, 0, 0);
     }
-    if found.left < time - scene.clock {
-        return answer_with(8, found.process, scene.clock + found.left);
+    if found.due < time {
+        return answer_with(8, found.process, found.due);
     }
     if action == WAIT {
         return answer_with(0, found.critical, time);

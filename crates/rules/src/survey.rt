@@ -1,13 +1,15 @@
 // What one pass over the entries finds: whether they are sound, the deadline that comes first, and the lowest critical
 // process besides the acting one. The time of the action has no part in it.
+use crate::stages::CHECKING;
+use crate::stages::CRITICAL;
+use crate::stages::LEAVING;
 use crate::stages::REMAINDER;
 use crate::stages::stage_of;
 use model::Location;
 use model::Parameters;
-use values::limit_of;
+use std::num::wrapping_add_u64;
 ghost use mathlib.Core.Path.{_≡_};
-ghost use Rattle.model.specs.States.{entry, entrySound};
-ghost use Rattle.rules.specs.Survey.{bare, sceneOf, nothing, faulted, criticalNoted, timedNoted, noted};
+ghost use Rattle.rules.specs.Survey.{sceneOf, nothing, unsound, faulted, criticalNoted, timedNoted, noted, laterNoted, numbersNoted};
 
 // What a look at an entry, and the judgement after all of them, need besides: the numbers that all entries share, and who acts.
 pub struct Scene {
@@ -32,21 +34,21 @@ pub fn scene_of(parameters: Parameters, clock: u64, acting: u64) -> Scene
 pub struct Survey {
     // 0 where the entries up to here are sound, else 1
     pub faulty: u64,
-    // the process whose deadline comes first, the lowest of equals, and the time left to it from the clock
+    // the process whose deadline comes first, the lowest of equals, and that deadline
     pub process: u64,
-    pub left: u64,
+    pub due: u64,
     // the lowest critical process besides the acting one, 0 where there is none
     pub critical: u64,
 }
 
-// Before the first entry: no process, and more time left than there is.
+// Before the first entry: no process, and a deadline after all times.
 pub fn empty() -> Survey
     ensures { λ r. ⌜ r ≡ nothing ⌝ }
 {
     Survey {
         faulty: 0,
         process: 0,
-        left: 18446744073709551615,
+        due: 18446744073709551615,
         critical: 0,
     }
 }
@@ -57,13 +59,20 @@ fn with_fault(found: Survey) -> Survey
     Survey {
         faulty: 1,
         process: found.process,
-        left: found.left,
+        due: found.due,
         critical: found.critical,
     }
 }
 
+// What is found of a table that is not sound, whatever was seen of its entries.
+pub fn fault() -> Survey
+    ensures { λ r. ⌜ r ≡ unsound ⌝ }
+{
+    with_fault(empty())
+}
+
 // A critical process: the lowest of them counts, besides the acting one.
-pub fn note_critical(found: Survey, acting: u64, process: u64) -> Survey
+fn note_critical(found: Survey, acting: u64, process: u64) -> Survey
     ensures { λ r. ⌜ r ≡ criticalNoted acting process found ⌝ }
 {
     if process == acting {
@@ -75,35 +84,36 @@ pub fn note_critical(found: Survey, acting: u64, process: u64) -> Survey
     Survey {
         faulty: found.faulty,
         process: found.process,
-        left: found.left,
+        due: found.due,
         critical: process,
     }
 }
 
-// A process that may stay for `limit`. Only differences are taken, which fit whatever the entry holds.
-pub fn note_timed(found: Survey, clock: u64, process: u64, since: u64, limit: u64) -> Survey
+// A process that may stay for `limit`. A deadline that is not sooner than the first so far is done with after two tests: the first is
+// not before the clock, so neither is this one.
+fn note_timed(found: Survey, clock: u64, process: u64, since: u64, limit: u64) -> Survey
     ensures { λ r. ⌜ r ≡ timedNoted clock process since limit found ⌝ }
 {
     if clock < since {
         return with_fault(found);
     }
-    let stay = clock - since;
-    if limit < stay {
-        return with_fault(found);
-    }
-    let left = limit - stay;
-    if found.left <= left {
+    let due = wrapping_add_u64(since, limit);
+    if found.due <= due {
         return found;
+    }
+    if due < clock {
+        return with_fault(found);
     }
     Survey {
         faulty: found.faulty,
         process: process,
-        left: left,
+        due: due,
         critical: found.critical,
     }
 }
 
-// What is found once the entry of a process is looked at too: its location, and the bound of its stay outside checking.
+// What is found once the entry of a process is looked at too: its location, and the bound of its stay outside checking. The test on n
+// stands between that for the remainder and the match: side by side the two become a table of jumps, which costs each entry more.
 pub fn note(found: Survey, scene: Scene, process: u64, location: Location, limit: u64) -> Survey
     ensures { λ r. ⌜ r ≡ noted scene process location limit found ⌝ }
 {
@@ -125,12 +135,52 @@ pub fn note(found: Survey, scene: Scene, process: u64, location: Location, limit
     }
 }
 
-// [2.120] Whether the entry of a process is sound beside these parameters and this clock.
-pub fn entry_stands(parameters: Parameters, clock: u64, process: u64, location: Location) -> bool
-    ensures { λ r. ⌜ r ≡ entrySound (bare parameters clock) process (entry location) ⌝ }
+// A stage from checking on, and an arrival. A stage past leaving tells no entry, nor does an arrival of a critical process.
+fn note_later(
+    found: Survey,
+    scene: Scene,
+    process: u64,
+    stage: u64,
+    since: u64,
+    limit: u64,
+) -> Survey
+    ensures { λ r. ⌜ r ≡ laterNoted scene process stage since limit found ⌝ }
 {
-    let scene = scene_of(parameters, clock, 0);
-    let limit = limit_of(parameters, process);
-    let found = note(empty(), scene, process, location, limit);
-    found.faulty == 0
+    if LEAVING < stage {
+        return with_fault(found);
+    }
+    if stage == CRITICAL {
+        if since != 0 {
+            return with_fault(found);
+        }
+        return note_critical(found, scene.acting, process);
+    }
+    if stage == CHECKING {
+        return note_timed(found, scene.clock, process, since, scene.c);
+    }
+    note_timed(found, scene.clock, process, since, limit)
+}
+
+// As `note`, of an entry that is given as two numbers, of a process from 1 to n. Most are in the remainder, and most of the others are
+// testing: these are looked at first. Where a location is made of the numbers, a busy entry costs ten instructions more.
+pub fn note_numbers(
+    found: Survey,
+    scene: Scene,
+    process: u64,
+    stage: u64,
+    since: u64,
+    limit: u64,
+) -> Survey
+    ensures { λ r. ⌜ r ≡ numbersNoted scene process stage since limit found ⌝ }
+{
+    if stage == REMAINDER {
+        if since != 0 {
+            return with_fault(found);
+        }
+        return found;
+    }
+    if stage < CHECKING {
+        return note_timed(found, scene.clock, process, since, limit);
+    }
+    note_later(found, scene, process, stage, since, limit)
 }

@@ -1,11 +1,12 @@
 -- What soundness of a summary tells, what the recorded step comes to by the answer of the step, and that an act which it counts can
--- be counted. Assumes nothing.
+-- be counted and is counted as in the model. Assumes nothing.
 use Prim.Native.Nat.{ℕ, _+_, _-_, _≤_, _<_}
 use mathlib.Core.Path.{_≡_, sym, _∙_}
 use mathlib.Core.Logic.{_≢_}
 use mathlib.Core.Bool.{true, cond, _&&_}
 use mathlib.Core.List.{List}
 use native.Mathlib.Omega.{arith}
+use native.Mathlib.Nat.{mod-eq-of-lt}
 use lib.Dec.{leb, eqb}
 use borrow.Author.Tests.{eq-eqb, ne-eqb, eqb-false, lt-leb}
 use lib.ListN.{length, getD, set, drop}
@@ -15,11 +16,11 @@ use Rattle.model.specs.declared.Counts.{Counts}
 use Rattle.model.specs.declared.Statistics.{Statistics}
 use Rattle.model.specs.States.{soundOf}
 use Rattle.model.specs.Answers.{answers, stepOf}
-use Rattle.model.specs.Summaries.{statisticsOf, countsSound, triesSound, statisticsSound, full, countsAfter, triedAfter}
-use Rattle.model.specs.Summaries.{acceptedCounted, refusedCounted, beside, recordedOf}
+use Rattle.model.specs.Summaries.{statisticsOf, countsSound, triesSound, statisticsSound, full, oneRefused, countsAfter, triedAfter}
+use Rattle.model.specs.Summaries.{mostActs, acceptedCounted, refusedCounted, beside, recordedOf}
 use Rattle.model.specs.Facts.{Accepted}
 use Rattle.theory.specs.Summaries.{HasRoom, RecordedTells}
-use Rattle.statistics.specs.Countings.{faultBy, Room}
+use Rattle.statistics.specs.Countings.{faultBy, Room, oneMore, refusedAfter, acceptedAfter}
 use Rattle.model.proofs.Lists.{drop-at, drop-end}
 use Rattle.model.proofs.Soundness.{sound-numbers}
 use Rattle.model.proofs.Tests.{by-test}
@@ -29,7 +30,7 @@ use Rattle.theory.proofs.Steps.{unsound-iff-one, step-refuses}
 use Rattle.theory.proofs.RecordedSteps.{judged, accepted-counted, refused-counted}
 use Rattle.theory.proofs.Summaries.{summary-sound-iff-plain, recorded-is-plain}
 
--- Try moments
+-- Try times
 
 module _ (clock : ℕ) (l : List ℕ) (i : ℕ) where
   -- those from place i on: that at i, and those from i + 1 on
@@ -38,13 +39,13 @@ module _ (clock : ℕ) (l : List ℕ) (i : ℕ) where
   tries-at h = rw (drop-at l i 0 h)
 
   -- those from place i on are sound just where all are: by where a pass over them ends
-  pub all-stand : length l ≡ 96 → i ≡ 96 → triesSound clock (drop i l) ≡ triesSound clock l → eqb i 96 ≡ triesSound clock l
+  pub all-stand : i ≡ length l → triesSound clock (drop i l) ≡ triesSound clock l → eqb i (length l) ≡ triesSound clock l
   unfolding triesSound
-  all-stand h e inv = eq-eqb i 96 e ∙ rw (drop-end l i (omega arith) (omega arith)) at inv
+  all-stand e inv = eq-eqb i (length l) e ∙ rw (drop-end l i (omega arith) (omega arith)) at inv
 
-  pub one-late : i < 96 → i < length l → clock < getD l i 0 → triesSound clock (drop i l) ≡ triesSound clock l
-      → eqb i 96 ≡ triesSound clock l
-  one-late h k late inv = ne-eqb i 96 (omega arith) ∙ simp (lt-leb _ _ late) at (sym (tries-at k)) ∙ inv
+  pub one-late : i < length l → clock < getD l i 0 → triesSound clock (drop i l) ≡ triesSound clock l
+      → eqb i (length l) ≡ triesSound clock l
+  one-late h late inv = ne-eqb i (length l) (omega arith) ∙ simp (lt-leb _ _ late) at (sym (tries-at h)) ∙ inv
 
 -- The refusals 2 and 3
 
@@ -64,12 +65,25 @@ module _ (clock : ℕ) (x : Statistics) where
   pub counts-room : HasRoom clock x → Room (x .counts)
   counts-room h = omega (arith, h .sound .counts, h .not-full)
 
+-- Where there is room no count wraps
+
+one-more : (k : ℕ) → k < mostActs → oneMore k ≡ k + 1
+one-more k h = mod-eq-of-lt (omega arith)
+
+module _ (k : Counts) where
+  pub refused-after : Room k → refusedAfter k ≡ oneRefused k
+  refused-after room = rw (one-more (k .refused) (room .refused))
+
+  pub accepted-after : (act m tried : ℕ) → Room k → acceptedAfter k act m tried ≡ countsAfter k act m tried
+  accepted-after act m tried room =
+      rw (one-more (k .accepted) (room .accepted), one-more (k .entries) (room .entries), one-more (k .exits) (room .exits))
+
 -- The recorded step
 
 pub not-one-sound : (s : State) (act p m : ℕ) → stepOf s act p m .answer .code ≢ 1 → soundOf s ≡ true
 not-one-sound s act p m n = by-test (soundOf s) (λ e. e) (λ e. absurd (n (unsound-iff-one s act p m .1 e)))
 
--- the try moments have a place for the process of an accepted act
+-- the try times have a place for the process of an accepted act
 pub accepted-named : (s : State) (act p m : ℕ) → Accepted (stepOf s act p m) → p ≤ 96
 accepted-named s act p m a =
     let sound = not-one-sound s act p m (omega arith) in

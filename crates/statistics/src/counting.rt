@@ -1,58 +1,55 @@
-// A summary that is not full after one more act: the counts, and the try moment of the acting window.
+// A summary after one more action: the counts, and the try time of the acting process.
+// Any counts are taken: those without room may wrap, and a summary that is not full has room.
 use crate::wait_from;
 use model::Counts;
 use rules::actions::CRIT;
 use rules::actions::EXIT;
 use rules::actions::TRY;
 use rules::actions::WITHDRAW;
+use std::num::wrapping_add_u64;
 use values::greater;
 ghost use mathlib.Core.Path.{_≡_};
-ghost use Rattle.model.specs.Summaries.{oneRefused, oneAccepted, oneEntry, oneExit, countsAfter, triedAfter};
-ghost use Rattle.statistics.specs.Countings.{Room};
+ghost use Rattle.model.specs.Summaries.{triedAfter};
+ghost use Rattle.statistics.specs.Countings.{refusedAfter, otherAfter, entryAfter, exitAfter, acceptedAfter};
 
 // [5.100]
-pub(crate) fn with_refused(mut counts: Counts) -> Counts
-    requires { ⌜ Room counts ⌝ }
-    ensures { λ r. ⌜ r ≡ oneRefused counts ⌝ }
+pub fn with_refused(mut counts: Counts) -> Counts
+    ensures { λ r. ⌜ r ≡ refusedAfter counts ⌝ }
 {
-    counts.refused += 1;
+    counts.refused = wrapping_add_u64(counts.refused, 1);
     counts
 }
 
 // [5.70] Neither a crit nor an exit.
 fn with_accepted(mut counts: Counts) -> Counts
-    requires { ⌜ Room counts ⌝ }
-    ensures { λ r. ⌜ r ≡ oneAccepted counts ⌝ }
+    ensures { λ r. ⌜ r ≡ otherAfter counts ⌝ }
 {
-    counts.accepted += 1;
+    counts.accepted = wrapping_add_u64(counts.accepted, 1);
     counts
 }
 
 // [5.70] [5.90] A crit, and the wait that it ends.
 fn with_entry(mut counts: Counts, wait: u64) -> Counts
-    requires { ⌜ Room counts ⌝ }
-    ensures { λ r. ⌜ r ≡ oneEntry counts wait ⌝ }
+    ensures { λ r. ⌜ r ≡ entryAfter counts wait ⌝ }
 {
-    counts.accepted += 1;
-    counts.entries += 1;
+    counts.accepted = wrapping_add_u64(counts.accepted, 1);
+    counts.entries = wrapping_add_u64(counts.entries, 1);
     counts.longest = greater(counts.longest, wait);
     counts
 }
 
 // [5.70] An exit.
 fn with_exit(mut counts: Counts) -> Counts
-    requires { ⌜ Room counts ⌝ }
-    ensures { λ r. ⌜ r ≡ oneExit counts ⌝ }
+    ensures { λ r. ⌜ r ≡ exitAfter counts ⌝ }
 {
-    counts.accepted += 1;
-    counts.exits += 1;
+    counts.accepted = wrapping_add_u64(counts.accepted, 1);
+    counts.exits = wrapping_add_u64(counts.exits, 1);
     counts
 }
 
-// [5.70] [5.90] The counts after an accepted act of a window that tried at `tried`.
-pub(crate) fn counts_after(counts: Counts, action: u64, time: u64, tried: u64) -> Counts
-    requires { ⌜ Room counts ⌝ }
-    ensures { λ r. ⌜ r ≡ countsAfter counts action time tried ⌝ }
+// [5.70] [5.90] The counts after an accepted action of a process that tried at `tried`.
+pub fn counts_after(counts: Counts, action: u64, time: u64, tried: u64) -> Counts
+    ensures { λ r. ⌜ r ≡ acceptedAfter counts action time tried ⌝ }
 {
     if action == CRIT {
         return with_entry(counts, wait_from(tried, time));
@@ -63,8 +60,8 @@ pub(crate) fn counts_after(counts: Counts, action: u64, time: u64, tried: u64) -
     with_accepted(counts)
 }
 
-// [5.80] The try moment of the acting window after its act.
-pub(crate) fn tried_after(tried: u64, action: u64, time: u64) -> u64
+// [5.80] The try time of the acting process after its action.
+pub fn tried_after(tried: u64, action: u64, time: u64) -> u64
     ensures { λ r. ⌜ r ≡ triedAfter tried action time ⌝ }
 {
     if action == TRY {

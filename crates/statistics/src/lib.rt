@@ -1,14 +1,13 @@
 // The running summary: `record` takes one action and counts it, by value; `record_step` is lent the summary.
 // Both take any state and any summary, and answer what `recordedOf` of the model says.
-mod counting;
-mod soundness;
+pub mod counting;
+pub mod soundness;
 
 use crate::counting::counts_after;
 use crate::counting::tried_after;
 use crate::counting::with_refused;
 use crate::soundness::fault_by;
 use crate::soundness::tries_stand;
-use machine::slot_of;
 use machine::step;
 use model::Counts;
 use model::Outcome;
@@ -16,6 +15,7 @@ use model::Recorded;
 use model::State;
 use model::Statistics;
 use rules::actions::WAIT;
+use rules::answers::slot_of;
 use values::answer_with;
 ghost use mathlib.Core.Path.{_≡_};
 ghost use mathlib.Core.Bool.{cond};
@@ -77,7 +77,7 @@ pub fn record(
 {
     let counts = statistics.counts;
     let tries = statistics.tries;
-    let fault = fault_by(counts, tries_stand(tries, state.clock));
+    let fault = fault_by(counts, tries_stand(&tries, state.clock));
     if fault != 0 {
         return Recorded {
             outcome: refuse(state, fault),

@@ -7,7 +7,7 @@ ghost use Rattle.statistics.specs.Countings.{faultBy};
 // [5.40] [5.60] of acts and of microseconds
 const MOST: u64 = 1000000000000;
 
-// [5.40] [5.50] All but the try moments.
+// [5.40] [5.50] All but the try times.
 fn counts_stand(counts: Counts) -> bool
     ensures { λ r. ⌜ r ≡ countsSound counts ⌝ }
 {
@@ -26,23 +26,24 @@ fn counts_stand(counts: Counts) -> bool
     counts.longest <= MOST
 }
 
-// [5.40] The try moments.
-pub(crate) fn tries_stand(tries: [u64; 96], clock: u64) -> bool
-    ensures { λ r. ⌜ r ≡ triesSound clock tries ⌝ }
+// [5.40] The try times.
+pub fn tries_stand(tries: &[u64], clock: u64) -> bool
+    ensures { λ r. ⌜ r ≡ triesSound clock (now (tries .entry)) ⌝ }
 {
+    let end = tries.len();
     let mut i: usize = 0;
-    while i < 96 {
+    while i < end {
         if clock < tries[i] {
             break;
         }
         i += 1;
     }
-    i == 96
+    i == end
 }
 
-// [4.2] [4.3] [5.60] The number of the refusal, 2 or 3; 0 where an act can be counted. `past` tells whether no try moment is after
+// [4.2] [4.3] [5.60] The number of the refusal, 2 or 3; 0 where an act can be counted. `past` tells whether no try time is after
 // the clock.
-pub(crate) fn fault_by(counts: Counts, past: bool) -> u64
+pub fn fault_by(counts: Counts, past: bool) -> u64
     ensures { λ r. ⌜ r ≡ faultBy counts past ⌝ }
 {
     if !counts_stand(counts) {

@@ -1,6 +1,5 @@
 -- `rules::answers::judge` meets its contract. `past3`, `past5`, .. say at the place behind a test what is left of the
 -- definition there, so that each exit computes one condition. Assumes nothing.
-use Prim.Native.Nat.{_+_, _-_}
 use mathlib.Core.Path.{_≡_, sym, _∙_}
 use mathlib.Core.Bool.{cond}
 use lib.Dec.{ltb, eqb}
@@ -48,7 +47,7 @@ past3 : (c : tie.Else3)
     judged (a .found) (a .scene) (a .place) (a .release) (a .transition) (a .action) (a .time)
     ≡ cond (unknown (a .action)) (answerOf 6 0 0)
     (cond (misnamed (a .scene .n) (a .action) (a .scene .acting)) (answerOf 7 0 0)
-    (cond (ltb (a .found .left) (a .time - a .scene .clock)) (answerOf 8 (a .found .process) (a .scene .clock + a .found .left))
+    (cond (ltb (a .found .due) (a .time)) (answerOf 8 (a .found .process) (a .found .due))
     (cond (eqb (a .action) waitAct) (answerOf 0 (a .found .critical) (a .time))
     (turnJudged (a .found .critical) (a .scene .acting) (a .place) (a .release) (a .transition) (a .action) (a .time))))))
 unfolding judged
@@ -73,15 +72,12 @@ returns-5 c =
 past5 : (c : tie.Else5)
     → (let a = c .before .before .before .before .before .before .before .before .args in
     judged (a .found) (a .scene) (a .place) (a .release) (a .transition) (a .action) (a .time)
-    ≡ cond (ltb (a .found .left) (a .time - a .scene .clock)) (answerOf 8 (a .found .process) (a .scene .clock + a .found .left))
+    ≡ cond (ltb (a .found .due) (a .time)) (answerOf 8 (a .found .process) (a .found .due))
     (cond (eqb (a .action) waitAct) (answerOf 0 (a .found .critical) (a .time))
     (turnJudged (a .found .critical) (a .scene .acting) (a .place) (a .release) (a .transition) (a .action) (a .time))))
 past5 c =
     past3 (c .before .before .before)
     ∙ simp (le-ltb _ _ (c .before .before .if4 .left), sym (c .before .is-misnamed .ensures) ∙ c .if5 .left)
-
-add-answer-with : tie.Need-add-answer-with
-add-answer-with c = search needs
 
 answer-with-requires-6 : tie.Need-answer-with-requires-6
 answer-with-requires-6 c κs = search needs
@@ -89,18 +85,18 @@ answer-with-requires-6 c κs = search needs
 returns-6 : tie.Need-returns-6
 returns-6 c =
     c .answer-with6 .ensures
-    ∙ sym (past5 (c .before .before .before .before .before .before) ∙ simp (lt-ltb _ _ (c .before .before .before .if6 .taken)))
+    ∙ sym (past5 (c .before .before .before) ∙ simp (lt-ltb _ _ (c .before .if6 .taken)))
 
 answer-with-requires-7 : tie.Need-answer-with-requires-7
 answer-with-requires-7 c κs = search needs
 
 -- nobody is late
 past6 : (c : tie.Else6)
-    → (let a = c .before .before .before .before .before .before .before .before .before .before .before .args in
+    → (let a = c .before .before .before .before .before .before .before .before .before .before .args in
     judged (a .found) (a .scene) (a .place) (a .release) (a .transition) (a .action) (a .time)
     ≡ cond (eqb (a .action) waitAct) (answerOf 0 (a .found .critical) (a .time))
     (turnJudged (a .found .critical) (a .scene .acting) (a .place) (a .release) (a .transition) (a .action) (a .time)))
-past6 c = past5 (c .before .before .before) ∙ simp (le-ltb _ _ (c .if6 .left))
+past6 c = past5 (c .before .before) ∙ simp (le-ltb _ _ (c .if6 .left))
 
 returns-7 : tie.Need-returns-7
 returns-7 c = c .answer-with7 .ensures ∙ sym (past6 (c .before .before) ∙ simp (eq-eqb _ _ (c .before .if7 .taken)))
@@ -126,7 +122,6 @@ judge-spec =
     is-misnamed-requires
     answer-with-requires-5
     returns-5
-    add-answer-with
     answer-with-requires-6
     returns-6
     answer-with-requires-7

@@ -1,14 +1,13 @@
 -- `statistics::counting::with_refused` meets its contract. Assumes nothing.
-use mathlib.Core.Path.{refl}
 use borrow.Author.Needs.{needs}
 use Rattle.statistics.proofs.counting.with_refused.Statement.{statement}
 use Rattle.statistics.proofs.counting.with_refused.Tie as tie
 
-add-counts : tie.Need-add-counts
-add-counts c = search needs
+wrapping-add-u64-requires : tie.Need-wrapping-add-u64-requires
+wrapping-add-u64-requires c κs = search needs
 
 returns : tie.Need-returns
-returns c = refl
+returns c = rw (c .wrapping-add-u64 .ensures)
 
 pub with-refused-spec : {M : Type 1} → statement M
-with-refused-spec = tie.close (tie.spec add-counts returns)
+with-refused-spec = tie.close (tie.spec wrapping-add-u64-requires returns)

@@ -1,4 +1,4 @@
--- `statistics::soundness::tries_stand` meets its contract: the try moments that are left stand just where all do. Assumes nothing.
+-- `statistics::soundness::tries_stand` meets its contract: the try times that are left stand just where all do. Assumes nothing.
 use Prim.Native.Nat.{_-_, _≤_}
 use mathlib.Core.Path.{_≡_, refl, sym, _∙_}
 use mathlib.Core.Logic.{⊎-elim}
@@ -12,10 +12,10 @@ use Rattle.statistics.proofs.soundness.tries_stand.Statement.{statement
 use Rattle.statistics.proofs.soundness.tries_stand.Tie as tie
 
 abbrev Inv-loop : tie.InvT-loop
-Inv-loop clock tries i₀ i = (i ≤ 96) × (triesSound clock (drop i tries) ≡ triesSound clock tries)
+Inv-loop tries clock end i₀ i = (i ≤ end) × (triesSound clock (drop i tries) ≡ triesSound clock tries)
 
 abbrev μ-loop : tie.MeasureT-loop
-μ-loop clock tries i₀ i = 96 - i
+μ-loop tries clock end i₀ i = end - i
 
 loop-holds : tie.Need-loop-holds Inv-loop μ-loop
 loop-holds c = (omega arith, refl)
@@ -23,8 +23,8 @@ loop-holds c = (omega arith, refl)
 mul-if1 : tie.Need-mul-if1 Inv-loop μ-loop
 mul-if1 c = search needs
 
-array-read-if1 : tie.Need-array-read-if1 Inv-loop μ-loop
-array-read-if1 c = search needs
+shared-slice-read-if1 : tie.Need-shared-slice-read-if1 Inv-loop μ-loop
+shared-slice-read-if1 c = search needs
 
 add-i : tie.Need-add-i Inv-loop μ-loop
 add-i c = search needs
@@ -34,21 +34,21 @@ loop-less c = search needs
 
 loop-again : tie.Need-loop-again Inv-loop μ-loop
 loop-again c =
-    let a = c .before .before .before .args in
-    let v = c .before .before .loop in
-    (omega arith, simp (le-leb _ _ (c .if1 .left)) at (sym (tries-at (a .clock) (a .t1) (v .i) (search needs))) ∙ v .inv .1)
+    let a = c .before .before .before .before .args in
+    let v = c .before .before .before .loop in
+    (omega arith, simp (le-leb _ _ (c .if1 .left)) at (sym (tries-at (a .clock) (a .tries .now) (v .i) (search needs))) ∙ v .inv .1)
 
 returns : tie.Need-returns Inv-loop μ-loop
--- the loop runs to its end, or breaks at a try moment after the clock
+-- the loop runs to its end, or breaks at a try time after the clock
 returns c =
     let a = c .before .before .args in
     let v = c .before .loop in
     ⊎-elim
-    (λ w. all-stand (a .clock) (a .t1) (v .i) (search needs) (omega (arith, w .left, v .inv .0)) (v .inv .1))
-    (λ w. one-late (a .clock) (a .t1) (v .i) (omega (arith, w .0 .taken)) (search needs) (w .1 .taken) (v .inv .1))
+    (λ w. all-stand (a .clock) (a .tries .now) (v .i) (omega (arith, w .left, v .inv .0)) (v .inv .1))
+    (λ w. one-late (a .clock) (a .tries .now) (v .i) (w .0 .taken) (w .2 .taken) (v .inv .1))
     (c .loop-test .came)
 
 pub tries-stand-spec : {M : Type 1} → statement M
 tries-stand-spec =
     tie.close
-    (tie.spec Inv-loop μ-loop loop-holds mul-if1 array-read-if1 add-i loop-less loop-again returns)
+    (tie.spec Inv-loop μ-loop loop-holds mul-if1 shared-slice-read-if1 add-i loop-less loop-again returns)
