@@ -1,44 +1,27 @@
 -- What `funnelfawn_record_and_tell` gives back, from what the recorded step and the adding give, and the wait that a list for a summary
 -- tells. Assumes nothing.
-use Prim.Native.Nat.{ℕ, _+_, _-_, _≤_}
+use Prim.Native.Nat.{ℕ, _-_, _≤_}
 use mathlib.Core.Path.{_≡_, sym, ap, _∙_}
 use mathlib.Core.Logic.{_≢_, ⊎-elim}
 use mathlib.Core.List.{List}
 use native.Mathlib.Omega.{arith}
-use lib.ListN.{length, take}
-use lib.Seq.{getD-take, getD-drop}
-use borrow.Author.Tests.{ne-eqb, le-ltb}
+use borrow.Author.Tests.{ne-eqb}
 use Rattle.model.specs.declared.State.{State}
 use Rattle.model.specs.declared.Answer.{Answer}
 use Rattle.model.specs.declared.Statistics.{Statistics}
 use Rattle.model.specs.declared.Recorded.{Recorded}
 use Rattle.model.specs.Acts.{critAct}
-use Rattle.model.specs.Summaries.{waitFrom, waitOf}
-use Rattle.layout.specs.Encodings.{tableIn, countsLength, summaryLength, statisticsIn, summaryIn}
+use Rattle.layout.specs.Encodings.{tableIn, summaryIn, waitIn}
 use Rattle.layout.specs.Interface.{LentBoth, recordGave, lentRecord}
 use Rattle.recent.specs.Encodings.{boardGave, lentAdd}
 use Rattle.recent.specs.Tellings.{toldGave, lentTell}
 use Rattle.model.proofs.Soundness.{sound-numbers}
 use Rattle.theory.proofs.Acceptance.{accepted-iff-allowed}
 use Rattle.theory.proofs.RecordedSteps.{Judged, judged}
-use Rattle.layout.proofs.LentSteps.{RecordGiven, record-given}
+use Rattle.lending.proofs.LentSteps.{RecordGiven, record-given}
 use Rattle.funnelfawn.specs.declared.Told.{Told}
-use Rattle.funnelfawn.specs.Loading.{waitIn, aloneWith}
-
--- The wait
-
--- a list that is long enough has a try moment of each process
-pub record HasTry (summary : List ℕ) (p : ℕ) : Type 0 where
-  pub long : summaryLength ≤ length summary
-  pub some : 1 ≤ p
-  pub most : p ≤ 96
-
-wait-is : (summary : List ℕ) (p m : ℕ) → HasTry summary p → waitIn summary p m ≡ waitOf (summaryIn summary) p m
-unfolding waitIn statisticsIn
-wait-is summary p m h =
-    rw (le-ltb _ _ (h .long), ne-eqb p 0 (omega arith), le-ltb _ _ (h .most))
-    (ap (λ (tried : ℕ). waitFrom tried m)
-    (sym (getD-drop countsLength (take summaryLength summary) (p - 1) 0 ∙ getD-take summaryLength summary (countsLength + (p - 1)) 0 (omega arith))))
+use Rattle.layout.proofs.Counting.{HasTry, wait-is}
+use Rattle.funnelfawn.specs.Telling.{aloneWith}
 
 -- The recorded step of an accepted crit
 

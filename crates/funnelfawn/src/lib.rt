@@ -1,28 +1,31 @@
 // The box for callers in C: each function takes numbers and lists of numbers, any at all, and gives back what its definition says, the
 // lent numbers included. include/funnelfawn.h says the same in C.
-mod summaries;
-mod tables;
 
-use crate::summaries::SUMMARY;
-use crate::tables::TABLE;
-use machine::fresh;
-use machine::step;
+use layout::wait_in;
 use model::Answer;
 use model::Parameters;
 use model::Reading;
 use report::report;
 use rules::actions::CRIT;
-use statistics::record;
 use values::answer_with;
 ghost use mathlib.Core.Path.{_≡_};
 ghost use Rattle.model.specs.States.{parametersOf};
 ghost use Rattle.model.specs.Readings.{lent, readGave, readOf};
 ghost use Rattle.model.specs.Writings.{eventsOf, writeGave, writeOf};
 ghost use Rattle.model.specs.Reports.{reportOf};
+ghost use Rattle.layout.specs.Layouts.{layoutNumber};
 ghost use Rattle.layout.specs.Interface.{lentGave, lentFresh, lentStep, recordGave, lentRecord, summaryGave, lentSummary};
 ghost use Rattle.recent.specs.Encodings.{boardGave, lentSetUp, lentAdd, lentShow};
 ghost use Rattle.recent.specs.Tellings.{toldGave, lentTell};
-ghost use Rattle.funnelfawn.specs.Loading.{aloneWith};
+ghost use Rattle.funnelfawn.specs.Telling.{aloneWith};
+
+// [9.15] [21.110] The layout of what is lent, as one number.
+#[no_mangle]
+pub extern "C" fn funnelfawn_layout() -> u64
+    ensures { λ r. ⌜ r ≡ layoutNumber ⌝ }
+{
+    layout::number()
+}
 
 // The parameters that a call is handed as numbers.
 fn parameters_of(n: u64, a: u64, b: u64, c: u64) -> Parameters
@@ -41,16 +44,7 @@ fn parameters_of(n: u64, a: u64, b: u64, c: u64) -> Parameters
 pub extern "C" fn funnelfawn_fresh(n: u64, a: u64, b: u64, c: u64, table: &mut [u64]) -> Answer
     ensures { λ r. ⌜ lentGave r (now (table .exit)) ≡ lentFresh (parametersOf n a b c) (now (table .entry)) ⌝ }
 {
-    let outcome = fresh(parameters_of(n, a, b, c));
-    let answer = outcome.answer;
-    if answer.code != 0 {
-        return answer;
-    }
-    if table.len() < TABLE {
-        return answer_with(16, 0, 0);
-    }
-    tables::save(&mut table[..TABLE], outcome.state);
-    answer
+    layout::fresh(parameters_of(n, a, b, c), table)
 }
 
 // [9.60] [21.110] One act, in the lent table.
@@ -58,19 +52,7 @@ pub extern "C" fn funnelfawn_fresh(n: u64, a: u64, b: u64, c: u64, table: &mut [
 pub extern "C" fn funnelfawn_step(table: &mut [u64], action: u64, process: u64, time: u64) -> Answer
     ensures { λ r. ⌜ lentGave r (now (table .exit)) ≡ lentStep (now (table .entry)) action process time ⌝ }
 {
-    if table.len() < TABLE {
-        return answer_with(1, 0, 0);
-    }
-    let loaded = tables::load(&table[..TABLE]);
-    if loaded.faulty != 0 {
-        return answer_with(1, 0, 0);
-    }
-    let outcome = step(loaded.state, action, process, time);
-    let answer = outcome.answer;
-    if answer.code == 0 {
-        tables::store(&mut table[..TABLE], outcome.state, process);
-    }
-    answer
+    layout::step(table, action, process, time)
 }
 
 // [9.70] [21.110] A new summary, in the lent numbers.
@@ -78,11 +60,7 @@ pub extern "C" fn funnelfawn_step(table: &mut [u64], action: u64, process: u64, 
 pub extern "C" fn funnelfawn_new_summary(summary: &mut [u64]) -> Answer
     ensures { λ r. ⌜ summaryGave r (now (summary .exit)) ≡ lentSummary (now (summary .entry)) ⌝ }
 {
-    if summary.len() < SUMMARY {
-        return answer_with(16, 0, 0);
-    }
-    summaries::clear(&mut summary[..SUMMARY]);
-    answer_with(0, 0, 0)
+    layout::new_summary(summary)
 }
 
 // [9.80] [21.110] One act, in the lent table, counted in the lent summary.
@@ -97,26 +75,7 @@ pub extern "C" fn funnelfawn_record(
     ensures { λ r. ⌜ recordGave r (now (table .exit)) (now (summary .exit))
         ≡ lentRecord (now (table .entry)) (now (summary .entry)) action process time ⌝ }
 {
-    if table.len() < TABLE {
-        return answer_with(1, 0, 0);
-    }
-    let loaded = tables::load(&table[..TABLE]);
-    if loaded.faulty != 0 {
-        return answer_with(1, 0, 0);
-    }
-    if summary.len() < SUMMARY {
-        return answer_with(2, 0, 0);
-    }
-    let lent = summaries::load(&summary[..SUMMARY]);
-    let recorded = record(loaded.state, lent, action, process, time);
-    let outcome = recorded.outcome;
-    let answer = outcome.answer;
-    if answer.code == 0 {
-        tables::store(&mut table[..TABLE], outcome.state, process);
-    }
-    // a refusal is counted too; 2 and 3 give the summary back as it was
-    summaries::store(&mut summary[..SUMMARY], recorded.statistics, process);
-    answer
+    layout::record(table, summary, action, process, time)
 }
 
 // [9.90] [21.110] Reads a recording: its steps go to the three lists.
@@ -207,7 +166,7 @@ fn alone(answer: Answer) -> Told
 }
 
 // [10.200] [10.205] [21.110] One act, in the lent table, counted in the lent summary; the lent board is told of an accepted crit. The wait is
-// read first, as the step clears the try moment that it comes from.
+// read first, as the step clears the try time that it comes from.
 #[no_mangle]
 pub extern "C" fn funnelfawn_record_and_tell(
     table: &mut [u64],
@@ -220,8 +179,8 @@ pub extern "C" fn funnelfawn_record_and_tell(
     ensures { λ r. ⌜ toldGave (recordGave (r .answer) (now (table .exit)) (now (summary .exit))) (boardGave (r .told) (now (board .exit)))
         ≡ lentTell (now (table .entry)) (now (summary .entry)) (now (board .entry)) action process time ⌝ }
 {
-    let wait = summaries::wait_in(summary, process, time);
-    let answer = funnelfawn_record(table, summary, action, process, time);
+    let wait = wait_in(summary, process, time);
+    let answer = layout::record(table, summary, action, process, time);
     if answer.code != 0 {
         return alone(answer);
     }

@@ -90,7 +90,7 @@ module _ (l : List ℕ) (fits : summaryLength ≤ length l) where
   summary-numbers : statisticsNumbers (summaryIn l) ≡ take summaryLength l
   summary-numbers = summary-numbers-told (take summaryLength l) (omega (arith, length-take-le summaryLength l fits))
 
-  -- which has 96 try moments
+  -- which has 96 try times
   pub summary-is-whole : length (summaryIn l .tries) ≡ 96
   summary-is-whole =
       omega (

@@ -1,7 +1,7 @@
 -- Numbers and what they tell: a table and a summary come back from their numbers, the numbers of an entry or a table from what they
 -- tell, and how many they are. Assumes nothing.
-use Prim.Native.Nat.{ℕ, zero, suc, _+_, _*_, _≤_}
-use mathlib.Core.Path.{_≡_, refl, sym}
+use Prim.Native.Nat.{ℕ, zero, suc, _+_, _*_, _≤_, _<_}
+use mathlib.Core.Path.{_≡_, refl, sym, ap}
 use mathlib.Core.Bool.{true, false≢true}
 use mathlib.Core.List.{List, [], _∷_}
 use native.Mathlib.Omega.{arith}
@@ -13,7 +13,7 @@ use Rattle.model.specs.declared.Process.{Process}
 use Rattle.model.specs.declared.State.{State}
 use Rattle.model.specs.declared.Statistics.{Statistics}
 use Rattle.model.specs.Stages.{leaving}
-use Rattle.model.specs.States.{entry, idle, stageOf, sinceOf, locationAt}
+use Rattle.model.specs.States.{entry, stageOf, sinceOf, locationAt}
 use Rattle.layout.specs.Encodings.{headerLength, stride, processNumbers, stateNumbers, processesIn, stateIn, tellsEntry, areEntries}
 use Rattle.layout.specs.Encodings.{countsLength, statisticsNumbers, statisticsIn}
 use Rattle.model.proofs.Lists.{drop-at}
@@ -81,19 +81,26 @@ unfolding processNumbers
 length-processes [] = refl
 length-processes (q ∷ qs) = omega (arith, length-processes qs)
 
--- of entry j the stage and the arrival stand at 2j and 2j + 1; past the end all are idle
-pub record NumbersAt (l : List ℕ) (j : ℕ) (q : Process) : Type 0 where
-  pub stage-at : getD l (stride * j) 0 ≡ stageOf (q .location)
-  pub since-at : getD l (stride * j + 1) 0 ≡ sinceOf (q .location)
+-- as many entries are told as there are pairs
+pub length-told : (m : ℕ) (l : List ℕ) → length l ≡ stride * m → length (processesIn l) ≡ m
+unfolding processesIn
+length-told zero [] e = refl
+length-told zero (x ∷ l) e = absurd (omega arith)
+length-told (suc m) [] e = absurd (omega arith)
+length-told (suc m) (x ∷ []) e = absurd (omega arith)
+length-told (suc m) (x ∷ y ∷ l) e = ap suc (length-told m l (omega arith))
 
-pub numbers-at : (qs : List Process) (j : ℕ) → NumbersAt (processNumbers qs) j (getD qs j idle)
-unfolding processNumbers
-numbers-at [] j = record { stage-at = refl; since-at = refl }
-numbers-at (q ∷ qs) zero = record { stage-at = refl; since-at = refl }
-numbers-at (q ∷ qs) (suc j) =
-    let e : stride * suc j ≡ suc (suc (stride * j)) = omega arith in
-    let f : stride * suc j + 1 ≡ suc (suc (stride * j + 1)) = omega arith in
-    record { stage-at = rw e (numbers-at qs j .stage-at); since-at = rw f (numbers-at qs j .since-at) }
+-- entry i is told by the numbers at 2i and 2i + 1
+pub told-at : (i : ℕ) (l : List ℕ) (d : Process) → stride * i + 1 < length l
+    → getD (processesIn l) i d ≡ entry (locationAt (getD l (stride * i) 0) (getD l (stride * i + 1) 0))
+unfolding processesIn
+told-at i [] d h = absurd (omega arith)
+told-at i (x ∷ []) d h = absurd (omega arith)
+told-at zero (x ∷ y ∷ l) d h = refl
+told-at (suc i) (x ∷ y ∷ l) d h =
+    let e : stride * suc i ≡ suc (suc (stride * i)) = omega arith in
+    let f : stride * suc i + 1 ≡ suc (suc (stride * i + 1)) = omega arith in
+    rw (f, e) (told-at i l d (omega arith))
 
 -- A table
 

@@ -1,19 +1,44 @@
 -- Section 9 of the specification, its lists: a state and a summary as numbers at fixed places, for a caller who can lend nothing else.
 -- Assumes nothing.
-use Prim.Native.Nat.{ℕ, _+_, _*_}
-use mathlib.Core.Bool.{Bool, true, false, _&&_}
+use Prim.Native.Nat.{ℕ, _+_, _*_, _-_}
+use mathlib.Core.Bool.{Bool, true, false, cond, _&&_, _||_}
 use mathlib.Core.List.{List, [], _∷_, _++_}
 use lib.ListN.{length, getD, take, drop}
-use lib.Dec.{leb, eqb}
+use lib.Dec.{leb, ltb, eqb}
 use Rattle.model.specs.declared.Process.{Process}
 use Rattle.model.specs.declared.Parameters.{Parameters}
 use Rattle.model.specs.declared.State.{State}
+use Rattle.model.specs.declared.Counts.{Counts}
 use Rattle.model.specs.declared.Statistics.{Statistics}
 use Rattle.model.specs.Stages.{leaving}
-use Rattle.model.specs.States.{entry, stageOf, sinceOf, soundOf, locationAt, parametersIn}
-use Rattle.model.specs.Summaries.{countsNumbers, countsIn, statisticsOf}
+use Rattle.model.specs.States.{entry, stageOf, sinceOf, soundOf, locationAt, parametersOf}
+use Rattle.model.specs.Summaries.{countsOf, countsNumbers, statisticsOf, waitFrom}
 
 -- A table, the numbers of a state
+
+-- [9.10] where n stands
+abbrev pub countPlace : ℕ
+countPlace = 0
+
+-- [9.10] where a stands
+abbrev pub aPlace : ℕ
+aPlace = 1
+
+-- [9.10] where b stands
+abbrev pub bPlace : ℕ
+bPlace = 2
+
+-- [9.10] where c stands
+abbrev pub cPlace : ℕ
+cPlace = 3
+
+-- [9.10] where the clock stands
+abbrev pub clockPlace : ℕ
+clockPlace = 4
+
+-- [9.10] where the word stands
+abbrev pub wordPlace : ℕ
+wordPlace = 5
 
 -- [9.10] the numbers before the entries
 abbrev pub headerLength : ℕ
@@ -27,13 +52,13 @@ stride = 2
 abbrev pub tableLength : ℕ
 tableLength = headerLength + stride * 96
 
--- [9.10] where the clock stands, after the parameters
-abbrev pub clockPlace : ℕ
-clockPlace = 4
+-- [9.10] where the stage of an entry stands, entry 0 being that of process 1
+abbrev pub stagePlace : ℕ → ℕ
+stagePlace i = headerLength + stride * i
 
--- [9.10] where the word stands
-abbrev pub wordPlace : ℕ
-wordPlace = clockPlace + 1
+-- [9.10] where its arrival stands
+abbrev pub sincePlace : ℕ → ℕ
+sincePlace i = stagePlace i + 1
 
 -- [9.10] the numbers of the entries
 unfoldable pub processNumbers : List Process → List ℕ
@@ -50,6 +75,18 @@ stateNumbers s = parametersNumbers (s .parameters) ++ (s .clock ∷ s .word ∷ 
 
 -- The state that numbers tell
 
+-- [9.10] its parameters
+abbrev pub tableParameters : List ℕ → Parameters
+tableParameters l = parametersOf (getD l countPlace 0) (getD l aPlace 0) (getD l bPlace 0) (getD l cPlace 0)
+
+-- [9.10] the clock
+abbrev pub clockIn : List ℕ → ℕ
+clockIn l = getD l clockPlace 0
+
+-- [9.10] the word
+abbrev pub wordIn : List ℕ → ℕ
+wordIn l = getD l wordPlace 0
+
 -- [9.10] the entries that numbers tell
 unfoldable pub processesIn : List ℕ → List Process
 processesIn [] = []
@@ -60,9 +97,9 @@ processesIn (stage ∷ since ∷ rest) = entry (locationAt stage since) ∷ proc
 unfoldable pub stateIn : List ℕ → State
 stateIn l =
     record {
-      parameters = parametersIn l;
-      clock = getD l clockPlace 0;
-      word = getD l wordPlace 0;
+      parameters = tableParameters l;
+      clock = clockIn l;
+      word = wordIn l;
       processes = processesIn (drop headerLength l);
     }
 
@@ -90,9 +127,33 @@ isSoundTable l = isTable l && soundOf (tableIn l)
 
 -- A summary
 
+-- [9.30] where the count of accepted actions stands
+abbrev pub acceptedPlace : ℕ
+acceptedPlace = 0
+
+-- [9.30] that of refused ones
+abbrev pub refusedPlace : ℕ
+refusedPlace = 1
+
+-- [9.30] that of entries
+abbrev pub entriesPlace : ℕ
+entriesPlace = 2
+
+-- [9.30] that of exits
+abbrev pub exitsPlace : ℕ
+exitsPlace = 3
+
+-- [9.30] where the longest wait stands
+abbrev pub longestPlace : ℕ
+longestPlace = 4
+
 -- [9.30] the numbers before the try times
 abbrev pub countsLength : ℕ
 countsLength = 5
+
+-- [9.30] where the try time of an entry stands
+abbrev pub triedPlace : ℕ → ℕ
+triedPlace i = countsLength + i
 
 -- [9.30] the numbers of a summary
 abbrev pub summaryLength : ℕ
@@ -102,10 +163,19 @@ summaryLength = countsLength + 96
 unfoldable pub statisticsNumbers : Statistics → List ℕ
 statisticsNumbers x = countsNumbers (x .counts) ++ x .tries
 
+-- [9.30] the counts that they tell
+abbrev pub summaryCounts : List ℕ → Counts
+summaryCounts l =
+    countsOf (getD l acceptedPlace 0) (getD l refusedPlace 0) (getD l entriesPlace 0) (getD l exitsPlace 0) (getD l longestPlace 0)
+
 -- [9.30] the summary that just its numbers tell
 unfoldable pub statisticsIn : List ℕ → Statistics
-statisticsIn l = statisticsOf (countsIn l) (drop countsLength l)
+statisticsIn l = statisticsOf (summaryCounts l) (drop countsLength l)
 
 -- [9.30] the summary that the first numbers of a list tell
 abbrev pub summaryIn : List ℕ → Statistics
 summaryIn l = statisticsIn (take summaryLength l)
+
+-- [5.90] [10.200] the wait that a crit of process p at the time m ends; a list that is too short has none, nor has a number that is no process
+unfoldable pub waitIn : List ℕ → ℕ → ℕ → ℕ
+waitIn l p m = cond (ltb (length l) summaryLength || (eqb p 0 || ltb 96 p)) 0 (waitFrom (getD l (triedPlace (p - 1)) 0) m)

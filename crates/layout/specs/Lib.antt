@@ -1,4 +1,7 @@
 pub mod Encodings
+pub mod Layouts
 pub mod Numbers
 pub mod Interface
-pub mod Guarantees
+pub mod Places
+pub mod Steps
+pub mod Countings

@@ -25,7 +25,7 @@ TableIsWhole = (l : List ℕ) → isTable l ≡ true → length (tableIn l .proc
 abbrev pub NumbersComeBack : Type 0
 NumbersComeBack = (l : List ℕ) → isTable l ≡ true → over (stateNumbers (tableIn l)) l ≡ l
 
--- Summaries, of 96 try moments
+-- Summaries, of 96 try times
 
 -- [9.40] as a table does
 abbrev pub SummaryComesBack : Type 0

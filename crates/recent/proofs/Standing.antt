@@ -1,4 +1,4 @@
--- Which lists tell a board, and where each of its entries stands in them, around the end of the places. Assumes nothing.
+-- How long a board is, which lists tell one, and where each of its entries stands in them, around the end of the places. Assumes nothing.
 use Prim.Native.Nat.{ℕ, zero, suc, _+_, _-_, _<_, min}
 use mathlib.Core.Path.{_≡_, refl, subst}
 use mathlib.Core.List.{List, [], _∷_, _++_}
@@ -10,8 +10,11 @@ use borrow.Author.Tests.{leb-true, ltb-true, le-leb, lt-ltb}
 use Rattle.model.proofs.Tests.{and-true-iff}
 use Rattle.recent.specs.Boards.{Entry, mostKept}
 use Rattle.recent.specs.Encodings.{firstIndex, countIndex, boardLength, entryAt, entriesFrom, ringFrom, boardIn, isBoard}
-use Rattle.recent.specs.Facts.{IsAt, BoardToldIff, EveryRing}
+use Rattle.recent.specs.Facts.{IsAt, BoardLayout, BoardToldIff, EveryRing}
 use Rattle.recent.proofs.Places.{entries-length, ring-length}
+
+pub board-layout : BoardLayout
+board-layout = refl
 
 pub board-told-iff : BoardToldIff
 unfolding isBoard

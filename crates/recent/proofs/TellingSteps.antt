@@ -23,9 +23,9 @@ use Rattle.tallies.specs.Tallies.{recordNext}
 use Rattle.tallies.proofs.Tallies.{along-judged, recorded-allowed, recorded-wait, recorded-clock, recorded-later}
 use Rattle.layout.specs.Encodings.{summaryIn}
 use Rattle.layout.specs.Interface.{LentBoth, lentRecord}
-use Rattle.layout.specs.Guarantees.{lentCall, bothInNumbers}
+use Rattle.lending.specs.Guarantees.{lentCall, bothInNumbers}
 use Rattle.layout.proofs.Encodings.{summary-comes-back}
-use Rattle.layout.proofs.LentTallies.{next-whole, record-in-numbers}
+use Rattle.lending.proofs.LentTallies.{next-whole, record-in-numbers}
 use Rattle.recent.specs.Boards.{mostKept, howMany, isProcess}
 use Rattle.recent.specs.Encodings.{LentBoard, lentAdd}
 use Rattle.recent.specs.Lists.{lentBoardCall, lastTold, workedOut}

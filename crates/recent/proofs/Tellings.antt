@@ -15,8 +15,8 @@ use Rattle.tallies.specs.Tallies.{startOf}
 use Rattle.tallies.proofs.Tallies.{along-start}
 use Rattle.layout.specs.Encodings.{tableLength, summaryLength}
 use Rattle.layout.specs.Interface.{LentBoth, lentFresh, lentSummary}
-use Rattle.layout.proofs.LentSteps.{fresh-given, new-given}
-use Rattle.layout.proofs.LentTallies.{fresh-in-numbers, fresh-accepted, fresh-whole}
+use Rattle.lending.proofs.LentSteps.{fresh-given, new-given}
+use Rattle.lending.proofs.LentTallies.{fresh-in-numbers, fresh-accepted, fresh-whole}
 use Rattle.recent.specs.Encodings.{lentSetUp}
 use Rattle.recent.specs.Lists.{lentBoardCall, lastTold}
 use Rattle.recent.specs.Tellings.{LentTold, TellCall, lentShowing, lentTellCall, Noted, noted, attemptsIn, showing, tellingsIn, ShownAt}

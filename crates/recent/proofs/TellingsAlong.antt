@@ -12,7 +12,7 @@ use Rattle.model.specs.Tallies.{attempt}
 use Rattle.model.proofs.Tests.{by-cond}
 use Rattle.tallies.proofs.Tallies.{Along}
 use Rattle.layout.specs.Encodings.{stateNumbers, statisticsNumbers}
-use Rattle.layout.proofs.LentTallies.{BothWhole}
+use Rattle.lending.proofs.LentTallies.{BothWhole}
 use Rattle.recent.specs.Lists.{BoardCall, asked, lastTold}
 use Rattle.recent.specs.Tellings.{LentTold, entered, TellCall, Noted, noted, attemptsIn, showing, adding, tellingsIn, ShownAt, ToldFigures}
 use Rattle.recent.proofs.Lists.{LentFollows}

@@ -8,10 +8,10 @@ use Rattle.model.specs.Texts.{Event}
 use Rattle.model.specs.Folds.{endBy}
 use Rattle.model.proofs.Tests.{by-test}
 use Rattle.layout.specs.Interface.{LentBoth, recordGave, lentRecord}
-use Rattle.layout.specs.Guarantees.{lentCall, lentRun, lentAll}
-use Rattle.layout.proofs.LentSteps.{recordCall}
-use Rattle.layout.proofs.LentLists.{every-lent-list}
-use Rattle.layout.proofs.LentTallies.{every-lent-tally}
+use Rattle.lending.specs.Guarantees.{lentCall, lentRun, lentAll}
+use Rattle.lending.proofs.LentSteps.{recordCall}
+use Rattle.lending.proofs.LentLists.{every-lent-list}
+use Rattle.lending.proofs.LentTallies.{every-lent-tally}
 use Rattle.recent.specs.Tellings.{LentTold, lentTell, TellCall, lentTellCall, tellStart, tellAll, stepsTold, actsTold, EveryToldSteps}
 
 -- table and summary of what a call gave back

@@ -8,6 +8,7 @@ use mathlib.Core.List.{List, [], _∷_, _++_}
 use lib.ListN.{length, getD}
 use Rattle.model.specs.States.{lastTime}
 use Rattle.model.specs.Answers.{answerOf}
+use Rattle.layout.specs.Layouts.{layout}
 use Rattle.recent.specs.Boards.{Entry, entryWith, Board, boardOf, mostWidth, mostKept, boardSound, setUpOf, addOf, showOf}
 use Rattle.recent.specs.Encodings.{lastIndex, firstIndex, countIndex, boardHeader, entryIndex, boardLength, nextAt}
 use Rattle.recent.specs.Encodings.{isBoard, boardIn, boardGave, lentSetUp, lentAdd, lentShow}
@@ -122,6 +123,10 @@ pub record BoardStaysSound : Type 0 where
   pub show : (b : Board) (t : ℕ) → SoundBoard b → SoundBoard (showOf b t .board)
 
 -- Lent numbers
+
+-- [9.15] the layout of the number is that of boards too
+abbrev pub BoardLayout : Type 0
+BoardLayout = layout .board ≡ boardLength
 
 -- [10.110] [10.120] when a list tells a board
 abbrev pub BoardToldIff : Type 0

@@ -17,7 +17,7 @@ use Rattle.model.specs.Tallies.{Attempt, attempt, waitAfter}
 use Rattle.model.specs.Folds.{endBy, resultsBy, itself, logBy}
 use Rattle.layout.specs.Encodings.{tableLength, summaryIn}
 use Rattle.layout.specs.Interface.{LentBoth, recordGave, lentFresh, lentSummary, lentRecord}
-use Rattle.layout.specs.Guarantees.{LentCall, lentRun, LentDemand3, lentStart, lentAll, LentTally}
+use Rattle.lending.specs.Guarantees.{LentCall, lentRun, LentDemand3, lentStart, lentAll, LentTally}
 use Rattle.recent.specs.Boards.{Entry, mostKept, howMany, figuresAt}
 use Rattle.recent.specs.Encodings.{LentBoard, boardGave, lentSetUp, lentAdd, lentShow}
 use Rattle.recent.specs.Lists.{BoardCall, Asked, asked, acceptedIn, workedOut}

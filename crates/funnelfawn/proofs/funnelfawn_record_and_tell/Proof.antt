@@ -8,8 +8,8 @@ use Rattle.funnelfawn.proofs.funnelfawn_record_and_tell.Tie as tie
 wait-in-requires : tie.Need-wait-in-requires
 wait-in-requires c κs = search needs
 
-funnelfawn-record-requires : tie.Need-funnelfawn-record-requires
-funnelfawn-record-requires c κs = search needs
+record-requires : tie.Need-record-requires
+record-requires c κs = search needs
 
 alone-requires : tie.Need-alone-requires
 alone-requires c κs = search needs
@@ -24,7 +24,7 @@ returns : tie.Need-returns
 returns c =
     let a = c .before .before .before .before .before .before .before .before .before .before .before .before .before .before .before .args in
     tell-refused (a .table .now) (a .summary .now) (a .board .now) (a .action) (a .process) (a .time)
-    (c .before .before .before .before .before .before .before .funnelfawn-record .ensures) (c .before .if1 .taken) (c .alone .ensures)
+    (c .before .before .before .before .before .before .before .record .ensures) (c .before .if1 .taken) (c .alone .ensures)
 
 alone-requires-2 : tie.Need-alone-requires-2
 alone-requires-2 c κs = search needs
@@ -40,7 +40,7 @@ returns-2 c =
     let stepped = c .before .before .before .before .before .before .before .before in
     let a = stepped .before .before .before .before .before .before .before .before .args in
     tell-other (a .table .now) (a .summary .now) (a .board .now) (a .action) (a .process) (a .time)
-    (stepped .funnelfawn-record .ensures) (c .before .before .if1 .left) (c .before .if2 .taken) (c .alone2 .ensures)
+    (stepped .record .ensures) (c .before .before .if1 .left) (c .before .if2 .taken) (c .alone2 .ensures)
 
 add-requires : tie.Need-add-requires
 add-requires c κs = search needs
@@ -61,7 +61,7 @@ returns-3 c =
     let waited = stepped .before .before .before in
     let a = waited .before .before .before .before .before .args in
     tell-entered (a .table .now) (a .summary .now) (a .board .now) (a .action) (a .process) (a .time)
-    (stepped .funnelfawn-record .ensures) (entered .before .if1 .left) (entered .if2 .left) (waited .wait-in .ensures)
+    (stepped .record .ensures) (entered .before .if1 .left) (entered .if2 .left) (waited .wait-in .ensures)
     (c .before .before .add .ensures)
 
 pub funnelfawn-record-and-tell-spec : {M : Type 1} → statement M
@@ -69,7 +69,7 @@ funnelfawn-record-and-tell-spec =
     tie.close
     (tie.spec
     wait-in-requires
-    funnelfawn-record-requires
+    record-requires
     alone-requires
     same-length
     same-length-2

@@ -1,0 +1,76 @@
+-- Writing the numbers of a table entry by entry: after i of them, those of the entries that are left complete what is written.
+-- Assumes nothing.
+use Prim.Native.Nat.{ℕ, _+_, _*_, _≤_, _<_}
+use mathlib.Core.Path.{_≡_, sym, _∙_}
+use mathlib.Core.List.{List, _∷_, _++_, append-nil}
+use native.Mathlib.Omega.{arith}
+use lib.ListN.{length, getD, take, drop, set, length-set}
+use lib.Seq.{take-all}
+use Rattle.model.specs.declared.Process.{Process}
+use Rattle.model.specs.declared.State.{State}
+use Rattle.model.specs.States.{stageOf, sinceOf}
+use Rattle.layout.specs.Encodings.{countPlace, aPlace, bPlace, cPlace, clockPlace, wordPlace, headerLength, stride, tableLength}
+use Rattle.layout.specs.Encodings.{processNumbers, stateNumbers}
+use Rattle.model.proofs.Lists.{drop-at, drop-end}
+use Rattle.layout.specs.Places.{parametersPut, clocked, placedAt}
+use Rattle.layout.proofs.Lists.{fill-at, fill-pair}
+
+-- the numbers before the entries are written, and i entries: the numbers of those that are left complete them
+pub record EntriesWritten (s : State) (l : List ℕ) (i : ℕ) : Type 0 where
+  pub most : i ≤ 96
+  pub size : length (s .processes) ≡ 96
+  pub long : length l ≡ tableLength
+  pub written : take (headerLength + stride * i) l ++ processNumbers (drop i (s .processes)) ≡ stateNumbers s
+
+module _ (s : State) (l : List ℕ) where
+  -- the numbers before the entries
+  abbrev limited : List ℕ
+  limited = parametersPut l (s .parameters)
+
+  pub header-written : length (s .processes) ≡ 96 → length l ≡ tableLength → EntriesWritten s (clocked limited (s .clock) (s .word)) 0
+  unfolding stateNumbers
+  header-written size long = record {
+    most = omega arith;
+    size = size;
+    long = simp length-set long;
+    written =
+        fill-at (set limited clockPlace (s .clock)) wordPlace (s .word) _ (simp length-set (omega arith))
+        ∙ fill-at limited clockPlace (s .clock) _ (simp length-set (omega arith))
+        ∙ fill-at (set (set (set l countPlace (s .parameters .n)) aPlace (s .parameters .a)) bPlace (s .parameters .b)) cPlace (s .parameters .c) _
+        (simp length-set (omega arith))
+        ∙ fill-at (set (set l countPlace (s .parameters .n)) aPlace (s .parameters .a)) bPlace (s .parameters .b) _ (simp length-set (omega arith))
+        ∙ fill-at (set l countPlace (s .parameters .n)) aPlace (s .parameters .a) _ (simp length-set (omega arith))
+        ∙ fill-at l countPlace (s .parameters .n) _ (omega arith);
+  }
+
+module _ (s : State) (l : List ℕ) (i : ℕ) (done : EntriesWritten s l i) where
+  module _ (d : Process) (more : i < 96) where
+    abbrev q : Process
+    q = getD (s .processes) i d
+
+    -- entry i is the next one of what is left
+    next-numbers : processNumbers (drop i (s .processes))
+        ≡ stageOf (q .location) ∷ sinceOf (q .location) ∷ processNumbers (drop (i + 1) (s .processes))
+    unfolding processNumbers
+    next-numbers = rw (drop-at (s .processes) i d (omega (arith, done .size)))
+
+    -- its numbers are stored
+    pub entry-written : EntriesWritten s (placedAt l i (q .location)) (i + 1)
+    entry-written =
+        let e : headerLength + stride * (i + 1) ≡ headerLength + stride * i + 1 + 1 = omega arith in
+        record {
+          most = omega arith;
+          size = done .size;
+          long = simp length-set (done .long);
+          written =
+              rw e (fill-pair l (headerLength + stride * i) (stageOf (q .location)) (sinceOf (q .location))
+              (processNumbers (drop (i + 1) (s .processes))) (omega (arith, done .long)))
+              ∙ rw next-numbers at (done .written);
+        }
+
+  -- nothing is left after 96 entries
+  pub all-written : 96 ≤ i → l ≡ stateNumbers s
+  unfolding processNumbers
+  all-written all =
+      sym (take-all (headerLength + stride * i) l (omega (arith, done .long))) ∙ sym (append-nil (take (headerLength + stride * i) l))
+      ∙ rw (drop-end (s .processes) i (omega (arith, done .size)) (omega (arith, done .size, done .most))) at (done .written)

@@ -1,0 +1,78 @@
+-- What an action stores is what it changes: the clock, the word and the entry of its process in the numbers of a table, the counts and
+-- the try time of its process in those of a summary. Assumes nothing.
+use Prim.Native.Nat.{ℕ, zero, suc, _+_, _*_, _-_}
+use mathlib.Core.Path.{_≡_, refl, sym, ap, _∙_}
+use mathlib.Core.List.{List, [], _∷_, _++_}
+use native.Mathlib.Omega.{arith}
+use lib.ListN.{set}
+use Rattle.model.specs.declared.Location.{Location}
+use Rattle.model.specs.declared.Process.{Process}
+use Rattle.model.specs.declared.State.{State}
+use Rattle.model.specs.declared.Transition.{Transition}
+use Rattle.model.specs.declared.Counts.{Counts}
+use Rattle.model.specs.declared.Statistics.{Statistics}
+use Rattle.model.specs.States.{entry, stageOf, sinceOf}
+use Rattle.model.specs.Actions.{changed, waited, moved}
+use Rattle.model.specs.Summaries.{countsNumbers, statisticsOf, oneRefused, refusedCounted}
+use Rattle.layout.specs.Encodings.{stride, sincePlace, processNumbers, parametersNumbers, stateNumbers}
+use Rattle.layout.specs.Encodings.{headerLength, refusedPlace, triedPlace, statisticsNumbers}
+use Rattle.layout.specs.Places.{clocked, placedAt, countsPut}
+use Rattle.layout.proofs.Lists.{set-behind}
+
+-- A table
+
+-- an entry among the processes is its pair among their numbers
+entries-set : (qs : List Process) (i : ℕ) (q : Process)
+    → processNumbers (set qs i q)
+    ≡ set (set (processNumbers qs) (stride * i) (stageOf (q .location))) (stride * i + 1) (sinceOf (q .location))
+unfolding processNumbers
+entries-set [] i q = refl
+entries-set (r ∷ qs) zero q = refl
+entries-set (r ∷ qs) (suc i) q =
+    let e : stride * suc i ≡ suc (suc (stride * i)) = omega arith in
+    let f : stride * suc i + 1 ≡ suc (suc (stride * i + 1)) = omega arith in
+    rw (f, e, entries-set qs i q)
+
+-- the numbers before the entries
+abbrev headerOf : State → List ℕ
+headerOf s = parametersNumbers (s .parameters) ++ (s .clock ∷ s .word ∷ [])
+
+-- an entry stored behind them is stored among the entries
+placed-behind : (s : State) (i : ℕ) (to : Location)
+    → placedAt (headerOf s ++ processNumbers (s .processes)) i to ≡ headerOf s ++ processNumbers (set (s .processes) i (entry to))
+placed-behind s i to =
+    let ns = processNumbers (s .processes) in
+    let e : sincePlace i ≡ headerLength + (stride * i + 1) = omega arith in
+    rw (e, set-behind (headerOf s) ns (stride * i) (stageOf to))
+    (set-behind (headerOf s) (set ns (stride * i) (stageOf to)) (stride * i + 1) (sinceOf to)
+    ∙ ap (λ (l : List ℕ). headerOf s ++ l) (sym (entries-set (s .processes) i (entry to))))
+
+-- with process p in another location, which stands in the row t
+pub moved-stored : (s : State) (p m : ℕ) (t : Transition)
+    → stateNumbers (moved s p m t) ≡ placedAt (clocked (stateNumbers s) m (t .word)) (p - 1) (t .to)
+unfolding stateNumbers
+moved-stored s p m t = sym (placed-behind (changed s m (t .word) (s .processes)) (p - 1) (t .to))
+
+-- after a wait
+pub waited-stored : (s : State) (m : ℕ) → stateNumbers (waited s m) ≡ clocked (stateNumbers s) m (s .word)
+unfolding stateNumbers
+waited-stored s m = refl
+
+-- A summary
+
+-- other counts, and another try time
+pub counted-stored : (x : Statistics) (k : Counts) (i v : ℕ)
+    → statisticsNumbers (statisticsOf k (set (x .tries) i v)) ≡ set (countsPut (statisticsNumbers x) k) (triedPlace i) v
+unfolding statisticsNumbers
+counted-stored x k i v = sym (set-behind (countsNumbers k) (x .tries) i v)
+
+-- other counts alone
+pub counts-stored : (x : Statistics) (k : Counts) → statisticsNumbers (statisticsOf k (x .tries)) ≡ countsPut (statisticsNumbers x) k
+unfolding statisticsNumbers
+counts-stored x k = refl
+
+-- another count of refused actions
+pub refused-stored : (x : Statistics)
+    → statisticsNumbers (refusedCounted x) ≡ set (statisticsNumbers x) refusedPlace (oneRefused (x .counts) .refused)
+unfolding statisticsNumbers
+refused-stored x = refl

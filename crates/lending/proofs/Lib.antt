@@ -1,0 +1,6 @@
+pub mod LentSteps
+pub mod Refusals
+pub mod Writes
+pub mod LentLists
+pub mod LentTakenBack
+pub mod LentTallies
