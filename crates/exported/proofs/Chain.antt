@@ -1,48 +1,27 @@
--- The statements about chains of exported calls: the contracts allow one result for each call, that of the definition, so a chain is the list
--- of calls, and every list has a chain. Assumes nothing.
+-- The statements about chains of exported calls on a board, or that tell one: the contracts allow one result for each call, that of the
+-- definition, so a chain is the list of calls, and every list has a chain. Assumes nothing.
 use Prim.Native.Nat.{ℕ}
 use mathlib.Core.Path.{_≡_, refl, ap, _∙_}
 use mathlib.Core.List.{List, []}
 use Rattle.model.specs.Answers.{answerOf}
 use Rattle.model.specs.Folds.{resultsBy, itself}
 use Rattle.model.specs.declared.Parameters.{Parameters}
-use Rattle.layout.specs.Interface.{Lent, lentFresh, LentSummary, lentSummary, recordGave}
+use Rattle.layout.specs.Interface.{Lent, LentSummary, recordGave}
 use Rattle.recent.specs.Encodings.{LentBoard, lentSetUp, lentAdd, lentShow}
 use Rattle.recent.specs.Lists.{BoardCall, lentBoardCall, boardAfter}
 use Rattle.recent.specs.Tellings.{LentTold, toldGave, TellCall, lentTell, lentTellCall, tellStart}
 use Rattle.model.proofs.Tests.{by-test}
 use Rattle.model.proofs.Folds.{chain-results, chain-last, list-chain}
-use Rattle.layout.proofs.Refusals.{lent-successes}
 use Rattle.recent.proofs.Refusals.{lent-set-ups}
 use Rattle.recent.proofs.Lists.{every-board-list}
 use Rattle.recent.proofs.OneTelling.{tell-is-plain}
 use Rattle.recent.proofs.Tellings.{every-told-figures}
 use Rattle.recent.proofs.ToldLists.{every-told-steps}
-use Rattle.exported.specs.Lending.{Lends, Starts, StartsSummary, SetsUp, AddsTo, ShowsOn, TellsTo}
+use Rattle.exported.specs.Lending.{Starts, StartsSummary, SetsUp, ShowsOn}
 use Rattle.exported.specs.Chains.{MadeOnBoard, EveryBoardChain, SomeBoardChain}
 use Rattle.exported.specs.Chains.{MadeTelling, startsWith, EveryToldFiguresChain, EveryToldStepsChain, SomeToldChain}
-
--- One result is allowed
-
-starts-is : (k : Parameters) (table : List ℕ) (r : Lent) → Starts k table r → r ≡ lentFresh k table
-starts-is k table r s = rw (s .1 .entry, s .1 .exit) at (s .2)
-
-new-is : (summary : List ℕ) (r : LentSummary) → StartsSummary summary r → r ≡ lentSummary summary
-new-is summary r s = rw (s .1 .entry, s .1 .exit) at (s .2)
-
-sets-up-is : (w : ℕ) (board : List ℕ) (r : LentBoard) → SetsUp w board r → r ≡ lentSetUp w board
-sets-up-is w board r s = rw (s .1 .entry, s .1 .exit) at (s .2)
-
-adds-is : (board : List ℕ) (t p wait : ℕ) (r : LentBoard) → AddsTo board t p wait r → r ≡ lentAdd board t p wait
-adds-is board t p wait r s = rw (s .1 .entry, s .1 .exit) at (s .2)
-
-shows-is : (board : List ℕ) (t : ℕ) (r : LentBoard) → ShowsOn board t r → r ≡ lentShow board t
-shows-is board t r s = rw (s .1 .entry, s .1 .exit) at (s .2)
-
-tells-is : (table summary board : List ℕ) (act p m : ℕ) (r : LentTold) → TellsTo table summary board act p m r
-    → r ≡ lentTell table summary board act p m
-tells-is table summary board act p m r s =
-    rw (s .1 .entry, s .1 .exit, s .2 .entry, s .2 .exit, s .3 .entry, s .3 .exit) at (s .4)
+use Rattle.exported.proofs.Lending.{starts-is, new-is, sets-up-is, adds-is, shows-is, tells-is, lending}
+use Rattle.exported.proofs.TableChain.{some-table-start, some-summary-start}
 
 -- The board alone
 
@@ -60,15 +39,6 @@ every-board-chain w board start ds rs d r s ch m =
     (every-board-list w board ds d)
 
 -- Every list has a chain
-
--- a list that holds `before` may be lent, and be left with `after`
-abbrev lending : (before after : List ℕ) → Lends before after
-lending before after = record {
-  lent = record { ptr = (0, 0); name = 0; now = before };
-  left = record { ptr = (0, 0); name = 0; now = after };
-  entry = refl;
-  exit = refl;
-}
 
 shows-on : (l : List ℕ) (t : ℕ) → ShowsOn l t (lentShow l t)
 shows-on l t = (([], tt), lending l (lentShow l t .board), refl)
@@ -128,16 +98,8 @@ tell-callable r d = by-test (d .shows)
 
 pub some-told-chain : SomeToldChain
 some-told-chain = record {
-  table = λ k table stand long. (
-    lentFresh k table,
-    (([], tt), lending table (lentFresh k table .table), refl),
-    lent-successes .fresh-iff k table .1 (stand, long),
-  );
-  summary = λ summary long. (
-    lentSummary summary,
-    (([], tt), lending summary (lentSummary summary .summary), refl),
-    lent-successes .new-summary-iff summary .1 long,
-  );
+  table = some-table-start;
+  summary = some-summary-start;
   board = λ w board stand long. (
     lentSetUp w board,
     (([], tt), lending board (lentSetUp w board .board), refl),

@@ -1,1 +1,3 @@
+pub mod Lending
+pub mod TableChain
 pub mod Chain

@@ -10,13 +10,13 @@ use Rattle.model.specs.Folds.{Chained, lastOf, itself}
 use Rattle.model.specs.Answers.{answerOf}
 use Rattle.model.specs.Summaries.{waitOf}
 use Rattle.layout.specs.Interface.{Lent, LentSummary, recordGave}
-use Rattle.theory.specs.Soundness.{ParametersStand}
-use Rattle.layout.specs.Encodings.{tableLength, summaryLength, summaryIn}
+use Rattle.layout.specs.Encodings.{summaryIn}
 use Rattle.recent.specs.Encodings.{boardLength, LentBoard, boardGave}
 use Rattle.recent.specs.Facts.{WidthStands}
 use Rattle.recent.specs.Lists.{BoardCall, boardAfter, askedOf, BoardPromise}
 use Rattle.recent.specs.Tellings.{LentTold, toldGave, entered, TellCall, notedOf, ToldFigures, tellStart, tellResults, ToldHolds}
 use Rattle.exported.specs.Lending.{Starts, StartsSummary, SetsUp, AddsTo, ShowsOn, TellsTo}
+use Rattle.exported.specs.TableChains.{SomeTableStart, SomeSummaryStart}
 
 -- The board alone
 
@@ -84,9 +84,8 @@ EveryToldStepsChain = (k : Parameters) (w : ℕ) (table summary board : List ℕ
 -- [10.236] the premises of the two statements above are not empty ones: a start can be had in lists that are long enough, and every list of
 -- calls has a chain
 pub record SomeToldChain : Type 0 where
-  pub table : (k : Parameters) (table : List ℕ) → ParametersStand k → tableLength ≤ length table
-      → (f : Lent) × Starts k table f × (f .answer .code ≡ 0)
-  pub summary : (summary : List ℕ) → summaryLength ≤ length summary → (x : LentSummary) × StartsSummary summary x × (x .answer .code ≡ 0)
+  pub table : SomeTableStart
+  pub summary : SomeSummaryStart
   pub board : (w : ℕ) (board : List ℕ) → WidthStands w → boardLength ≤ length board
       → (b : LentBoard) × SetsUp w board b × (b .answer .code ≡ 0)
   pub chain : (r : LentTold) (ds : List TellCall) → (rs : List LentTold) × TellChain r ds rs

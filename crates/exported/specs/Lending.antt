@@ -6,17 +6,19 @@ use mathlib.Core.List.{List}
 use contract.Lifetimes.{Lfts}
 use denote.Ref.{RefT}
 use Rattle.model.specs.declared.Parameters.{Parameters}
-use Rattle.layout.specs.Interface.{Lent, LentSummary}
+use Rattle.layout.specs.Interface.{Lent, LentSummary, LentBoth}
 use Rattle.recent.specs.Encodings.{LentBoard}
 use Rattle.recent.specs.Tellings.{LentTold}
 use Rattle.funnelfawn.proofs.funnelfawn_fresh.Reads as fresh-reads
 use Rattle.funnelfawn.proofs.funnelfawn_new_summary.Reads as new-reads
+use Rattle.funnelfawn.proofs.funnelfawn_step.Reads as step-reads
+use Rattle.funnelfawn.proofs.funnelfawn_record.Reads as record-reads
 use Rattle.funnelfawn.proofs.funnelfawn_set_up_board.Reads as set-up-reads
 use Rattle.funnelfawn.proofs.funnelfawn_add_to_board.Reads as add-reads
 use Rattle.funnelfawn.proofs.funnelfawn_show_board.Reads as show-reads
 use Rattle.funnelfawn.proofs.funnelfawn_record_and_tell.Reads as tell-reads
 
--- [10.236] a list is lent that holds the numbers `before`, and is left with the numbers `after`
+-- [9.152] [10.236] a list is lent that holds the numbers `before`, and is left with the numbers `after`
 pub record Lends (before after : List ℕ) : Type 0 where
   pub lent : RefT (List ℕ)
   pub left : RefT (List ℕ)
@@ -25,13 +27,13 @@ pub record Lends (before after : List ℕ) : Type 0 where
 
 -- Starts
 
--- [10.236] `funnelfawn_fresh` may give r
+-- [9.152] [10.236] `funnelfawn_fresh` may give r
 abbrev pub Starts : Parameters → List ℕ → Lent → Type 0
 Starts k table r =
     (κs : Lfts 1) × (t : Lends table (r .table))
     × fresh-reads.Post κs (k .n, (k .a, (k .b, (k .c, (t .lent, tt))))) (r .answer) (k .n, (k .a, (k .b, (k .c, (t .left, tt)))))
 
--- [10.236] `funnelfawn_new_summary` may give r
+-- [9.154] [10.236] `funnelfawn_new_summary` may give r
 abbrev pub StartsSummary : List ℕ → LentSummary → Type 0
 StartsSummary summary r = (κs : Lfts 1) × (x : Lends summary (r .summary)) × new-reads.Post κs (x .lent, tt) (r .answer) (x .left, tt)
 
@@ -40,6 +42,18 @@ abbrev pub SetsUp : ℕ → List ℕ → LentBoard → Type 0
 SetsUp w board r = (κs : Lfts 1) × (b : Lends board (r .board)) × set-up-reads.Post κs (w, (b .lent, tt)) (r .answer) (w, (b .left, tt))
 
 -- Calls
+
+-- [9.152] `funnelfawn_step` may give r
+abbrev pub StepsTo : List ℕ → ℕ → ℕ → ℕ → Lent → Type 0
+StepsTo table act p m r =
+    (κs : Lfts 1) × (t : Lends table (r .table))
+    × step-reads.Post κs (t .lent, (act, (p, (m, tt)))) (r .answer) (t .left, (act, (p, (m, tt))))
+
+-- [9.152] [9.154] `funnelfawn_record` may give r
+abbrev pub RecordsTo : List ℕ → List ℕ → ℕ → ℕ → ℕ → LentBoth → Type 0
+RecordsTo table summary act p m r =
+    (κs : Lfts 2) × (t : Lends table (r .table)) × (x : Lends summary (r .summary))
+    × record-reads.Post κs (t .lent, (x .lent, (act, (p, (m, tt))))) (r .answer) (t .left, (x .left, (act, (p, (m, tt)))))
 
 -- [10.236] `funnelfawn_add_to_board` may give r
 abbrev pub AddsTo : List ℕ → ℕ → ℕ → ℕ → LentBoard → Type 0
@@ -52,7 +66,7 @@ abbrev pub ShowsOn : List ℕ → ℕ → LentBoard → Type 0
 ShowsOn board clock r =
     (κs : Lfts 1) × (b : Lends board (r .board)) × show-reads.Post κs (b .lent, (clock, tt)) (r .answer) (b .left, (clock, tt))
 
--- [10.236] `funnelfawn_record_and_tell` may give r
+-- [9.152] [9.154] [10.236] `funnelfawn_record_and_tell` may give r
 abbrev pub TellsTo : List ℕ → List ℕ → List ℕ → ℕ → ℕ → ℕ → LentTold → Type 0
 TellsTo table summary board act p m r =
     (κs : Lfts 3) × (t : Lends table (r .table)) × (x : Lends summary (r .summary)) × (b : Lends board (r .board))

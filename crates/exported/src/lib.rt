@@ -1,2 +1,2 @@
-// What holds of every list of exported calls on a board, or that tell one, whoever makes them, by their contracts; this crate has no
-// code.
+// What holds of every list of exported calls on a table or a board, or that tell a board, whoever makes them, by their contracts; this
+// crate has no code.
