@@ -1,4 +1,4 @@
-//! The cases of a board in plain numbers, and the loop, for the library and the reference. They have the numbers from 21 on, beside those
+//! The cases of a board in plain numbers, and the loop, for the library and the reference. They have the numbers from 201 on, beside those
 //! of cases.rs.
 
 use crate::cases::{calls, chosen};
@@ -15,21 +15,21 @@ pub struct Case {
     pub is_emptied: bool,
 }
 
-// 21 to 24 add: to an empty board; to 100 and to 1,024 entries, of which one expires at each adding, so that the next one finds as many,
-// and the ring goes round; and to 1,024 that all count, which is refused with 18. 25 to 28 show: an empty board, 100 entries, 1,024, and
+// 201 to 204 add: to an empty board; to 100 and to 1,024 entries, of which one expires at each adding, so that the next one finds as many,
+// and the ring goes round; and to 1,024 that all count, which is refused with 18. 205 to 208 show: an empty board, 100 entries, 1,024, and
 // as many around the end of the ring; none of them expires.
 pub fn chosen_case() -> Case {
     const ALL_COUNT: u64 = 1_000_000_000;
     let number = chosen();
     let (w, kept) = match number {
-        22 => (100, 100),
-        23 => (1024, 1024),
-        26 => (ALL_COUNT, 100),
-        24 | 27 | 28 => (ALL_COUNT, 1024),
+        202 => (100, 100),
+        203 => (1024, 1024),
+        206 => (ALL_COUNT, 100),
+        204 | 207 | 208 => (ALL_COUNT, 1024),
         _ => (ALL_COUNT, 0),
     };
-    let first = if number == 28 { 512 } else { 0 };
-    Case { w, kept, first, adds: number < 25, is_emptied: number == 21 }
+    let first = if number == 208 { 512 } else { 0 };
+    Case { w, kept, first, adds: number < 205, is_emptied: number == 201 }
 }
 
 impl Case {

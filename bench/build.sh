@@ -3,7 +3,7 @@
 # where rustup puts them, if the shell was not told
 command -v cargo >/dev/null || PATH=$PATH:$HOME/.cargo/bin
 
-for tool in cargo rustc valgrind; do
+for tool in cargo rustc size valgrind; do
     command -v $tool >/dev/null || fail "there is no $tool"
 done
 
@@ -34,7 +34,7 @@ for name in reference board_reference; do
 done
 compile reference_told reference --extern reference=reference/target/release/libreference.rlib --cfg told
 
-for name in library board_library; do
+for name in library board_library stack; do
     compile $name $name -L native=target/staticlib -l static=funnelfawn
 done
 for way in recorded told; do

@@ -1,50 +1,88 @@
 //! The cases of the benchmarks in plain numbers, and the loop, for every program in Rust that runs them.
-//! crates/workload/src/lib.rt has the cases 0 to 8 in Rattle, under the same numbers. Those above 8 are only here: they are for the
-//! library and the reference, and `bench` and `bench_apart` take a case of one digit.
+//! crates/workload/src/lib.rt has those of two digits in Rattle, under the same numbers.
 
-// 0 makes no step: what it costs is taken off the others. 1, 2 and 3 are accepted acts of 2, 24 and 96 windows.
-// 4 is refused with 9, the act being out of place; 5, 9 and 10 with 8, as window 1 of 96, 2 and 24 is late; the others with 1:
-// n is 97; the entry of window 1 of 96 came after the clock; and (8, 11 and 12) that of the last window of 96, 2 and 24.
-// 13 and 14 are accepted crits of window 1 of 2 and of 96, which is put back to entering before each.
-const OUT_OF_PLACE: u64 = 4;
-const LATE: u64 = 5;
-pub const UNSOUND_COUNT: u64 = 6;
-const UNSOUND_FIRST: u64 = 7;
-const LATE_2: u64 = 9;
-const LATE_24: u64 = 10;
-const CRIT_2: u64 = 13;
-const CRIT_96: u64 = 14;
+// A case is 10 times its kind and a digit for its windows: 1, 2 and 3 for 2, 24 and 96. 0 makes no step: what it costs is taken off the
+// others. Kinds 1 to 3 have idle tables: rounds of accepted acts; window 1 is late; the last window came after the clock. Kinds 4 to 6 are
+// the same on busy ones, where every window is testing and the word is held, so that an accepted test leads back to testing. Kind 7 has its
+// windows in the six timed places in turn, and waits at the clock's own moment. Kind 8 is out of place; in kind 9 window 1 came after the
+// clock. The acts of kind 10 are accepted crits of window 1, which is put back to entering before each.
+const ACCEPTED: u64 = 1;
+const LATE: u64 = 2;
+const UNSOUND: u64 = 3;
+const BUSY: u64 = 4;
+const BUSY_LATE: u64 = 5;
+const BUSY_UNSOUND: u64 = 6;
+const MIXED: u64 = 7;
+const OUT_OF_PLACE: u64 = 8;
+const UNSOUND_FIRST: u64 = 9;
+const CRIT: u64 = 10;
+
+/// The only case whose table has a count of windows that is not sound.
+const UNSOUND_COUNT: u64 = 94;
 
 /// The limits of every table: a, b, c.
 pub const LIMITS: [u64; 3] = [5, 8, 12];
 
-pub fn count_of(case: u64) -> u64 {
-    match case {
-        1 | 9 | 11 | CRIT_2 => 2,
-        2 | 10 | 12 => 24,
+/// How many windows a case has.
+fn size_of(case: u64) -> u64 {
+    match case % 10 {
+        1 => 2,
+        2 => 24,
         _ => 96,
     }
 }
 
-/// The window that a case puts into testing, and its arrival there; the clock is 0, so 9 is not sound.
-pub fn testing_of(case: u64) -> Option<(u64, u64)> {
-    match case {
-        0..=OUT_OF_PLACE | UNSOUND_COUNT | CRIT_2 | CRIT_96 => None,
-        LATE | LATE_2 | LATE_24 => Some((1, 0)),
-        UNSOUND_FIRST => Some((1, 9)),
-        _ => Some((count_of(case), 9)),
+/// The n of its table.
+pub fn count_of(case: u64) -> u64 {
+    if case == UNSOUND_COUNT {
+        return 97;
+    }
+    size_of(case)
+}
+
+pub fn word_of(case: u64) -> u64 {
+    match case / 10 {
+        BUSY..=MIXED => 1,
+        _ => 0,
     }
 }
 
-/// Rounds of the eight acts of one window after the other, all accepted; or one act again and again, which is refused.
-/// The 2,000 steps of workload do not reach its turn at 16,000, and more steps here do not turn: the clock goes on.
-fn act_of(case: u64, i: u64) -> [u64; 3] {
+/// The place of a window by its number, and its arrival there; the clock is 0, so 9 is not sound.
+pub fn place_of(case: u64, window: u64) -> (u64, u64) {
+    let last = size_of(case);
+    match case / 10 {
+        _ if last < window => (0, 0),
+        LATE if window == 1 => (1, 0),
+        UNSOUND_FIRST if window == 1 => (1, 9),
+        UNSOUND | BUSY_UNSOUND if window == last => (1, 9),
+        BUSY | BUSY_LATE | BUSY_UNSOUND => (1, 0),
+        MIXED => (timed_place((window - 1) % 6), 0),
+        _ => (0, 0),
+    }
+}
+
+/// Of six numbers in a row each of the timed places: all but remainder, which is 0, and selling, which is 5.
+fn timed_place(k: u64) -> u64 {
+    k + 1 + k / 4
+}
+
+/// The act of a kind that makes the same one again and again.
+fn only_act(kind: u64) -> Option<[u64; 3]> {
+    match kind {
+        ACCEPTED | BUSY | CRIT => None,
+        MIXED => Some([0, 0, 0]),
+        OUT_OF_PLACE => Some([8, 1, 0]),
+        _ => Some([0, 0, 1000]),
+    }
+}
+
+/// The acts of the other kinds. The 2,000 steps of workload do not reach its turn at 16,000, and more steps here do not turn: the clock goes on.
+fn act_of(kind: u64, size: u64, i: u64) -> [u64; 3] {
     let (round, place) = (i / 8, i % 8);
-    match case {
-        OUT_OF_PLACE => [8, 1, 0],
-        CRIT_2 | CRIT_96 => [5, 1, i],
-        LATE.. => [0, 0, 1000],
-        _ => [place + 1, round % count_of(case) + 1, round * 20 + place + place / 3 * 8 - place / 6 * 8],
+    match kind {
+        ACCEPTED => [place + 1, round % size + 1, round * 20 + place + place / 3 * 8 - place / 6 * 8],
+        BUSY => [2, i % size + 1, i / size],
+        _ => [5, 1, i],
     }
 }
 
@@ -68,9 +106,11 @@ pub fn calls(case: u64) -> u64 {
 
 /// Makes the steps, and gives back the sum of all answers.
 pub fn run(case: u64, mut step: impl FnMut([u64; 3]) -> [u64; 3]) -> u64 {
+    let (kind, size) = (case / 10, size_of(case));
+    let only = only_act(kind);
     let mut sum = 0u64;
     for i in 0..calls(case) {
-        sum = step(act_of(case, i)).into_iter().fold(sum, u64::wrapping_add);
+        sum = step(only.unwrap_or_else(|| act_of(kind, size, i))).into_iter().fold(sum, u64::wrapping_add);
     }
     sum
 }

@@ -8,27 +8,12 @@ mod ffi;
 #[allow(dead_code)]
 #[path = "../clients/rust/src/raw.rs"]
 mod raw;
+mod tables;
 
-use raw::{Answer, HEADER, STRIDE, TABLE};
+use raw::Answer;
+use tables::table_of;
 
-const N: usize = 0;
 const CLOCK: usize = 4;
-const TESTING: u64 = 1;
-
-fn table_of(case: u64) -> [u64; TABLE] {
-    let mut table = [0; TABLE];
-    let [a, b, c] = cases::LIMITS;
-    let made = raw::fresh(cases::count_of(case), a, b, c, &mut table);
-    assert_eq!(made.number, 0);
-    if case == cases::UNSOUND_COUNT {
-        table[N] = 97;
-    }
-    if let Some((window, arrival)) = cases::testing_of(case) {
-        let entry = HEADER + STRIDE * (window as usize - 1);
-        table[entry..entry + STRIDE].copy_from_slice(&[TESTING, arrival]);
-    }
-    table
-}
 
 fn numbers(answer: Answer) -> [u64; 3] {
     [answer.number, answer.window, answer.moment]
@@ -56,6 +41,7 @@ fn main() {
 /// Accepted crits, a microsecond after one another, of which the board keeps 100.
 #[cfg(told)]
 fn main() {
+    use raw::HEADER;
     const ENTERING: u64 = 4;
     let case = cases::chosen();
     let (mut table, mut summary, mut board) = (table_of(case), [0u64; raw::SUMMARY], [0u64; raw::BOARD]);

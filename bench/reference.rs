@@ -4,21 +4,31 @@ mod cases;
 
 #[cfg(told)]
 use reference::board::{record_and_tell, set_up, Board, Told};
-use reference::machine::{fresh, Place, Table, Values};
+use reference::machine::{Place, Table, Values};
 use reference::summary::Summary;
 #[cfg(not(told))]
 use reference::{answer::Answer, summary::recorded_step};
 
+fn place_of(place: u64, arrival: u64) -> Place {
+    match place {
+        0 => Place::Remainder,
+        1 => Place::Testing(arrival),
+        2 => Place::Setting(arrival),
+        3 => Place::Checking(arrival),
+        4 => Place::Entering(arrival),
+        5 => Place::Selling,
+        6 => Place::Resetting(arrival),
+        _ => Place::Leaving(arrival),
+    }
+}
+
 fn table_of(case: u64) -> Table {
     let [a, b, c] = cases::LIMITS;
-    let (_, mut table) = fresh(Values { n: cases::count_of(case), a, b, c });
-    if case == cases::UNSOUND_COUNT {
-        table.values.n = 97;
-    }
-    if let Some((window, arrival)) = cases::testing_of(case) {
-        table.places[window as usize - 1] = Place::Testing(arrival);
-    }
-    table
+    let places = std::array::from_fn(|i| {
+        let (place, arrival) = cases::place_of(case, i as u64 + 1);
+        place_of(place, arrival)
+    });
+    Table { values: Values { n: cases::count_of(case), a, b, c }, clock: 0, word: cases::word_of(case), places }
 }
 
 /// A call, as one of the library is.

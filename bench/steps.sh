@@ -1,39 +1,42 @@
 # The rows of bench/run that are made of steps, or of calls on a board, by the cases of bench/cases.rs and bench/boards.rs. Sourced by it.
 
+# idle tables, busy ones, and the single cases
+step_cases='11 12 13 21 22 23 31 32 33 41 42 43 51 52 53 61 62 63 73 83 93 94'
+
 # parts DO: DO NAME PROGRAM PROGRAM_BESIDE TITLE CASE.. for each part of the table
 parts() {
-    "$1" inlined bin/bench bench/twin 'a step within Rattle, inlined; the twin, inlined' 1 2 3 4 5 6 7 8
-    "$1" called bin/bench_apart bench/twin_apart 'a step within Rattle, called; the twin, called' 1 2 3 4 5 6 7 8
-    "$1" library bench/library bench/twin_apart 'a step through the C library; the twin, called' 1 2 3 9 10 5 11 12 8 7 6
-    "$1" recorded bench/library_recorded bench/reference 'a recorded step through the C library; the reference' 1 2 3 5 8
-    "$1" told bench/library_told bench/reference_told 'the same, telling a board that keeps 100 entries; the reference' 13 14
-    "$1" board bench/board_library bench/board_reference 'a board through the C library; the reference' 21 22 23 24 25 26 27 28
+    "$1" inlined bin/bench bench/twin 'a step within Rattle, inlined; the twin, inlined' $step_cases
+    "$1" called bin/bench_apart bench/twin_apart 'a step within Rattle, called; the twin, called' $step_cases
+    "$1" library bench/library bench/twin_apart 'a step through the C library; the twin, called' $step_cases
+    "$1" recorded bench/library_recorded bench/reference 'a recorded step through the C library; the reference' $step_cases
+    "$1" told bench/library_told bench/reference_told 'the same, telling a board that keeps 100 entries; the reference' 101 103
+    "$1" board bench/board_library bench/board_reference 'a board through the C library; the reference' 201 202 203 204 205 206 207 208
 }
 
+size_of() { case $1 in *1) echo 2 ;; *2) echo 24 ;; *) echo 96 ;; esac; }
+
 label_of() {
+    n=$(size_of "$1")
     case $1 in
-    1) echo 'accepted, n = 2' ;;
-    2) echo 'accepted, n = 24' ;;
-    3) echo 'accepted, n = 96' ;;
-    4) echo 'refused 9, out of place, n = 96' ;;
-    5) echo 'refused 8, late, n = 96' ;;
-    6) echo 'refused 1, n = 97' ;;
-    7) echo 'refused 1, the first entry, n = 96' ;;
-    8) echo 'refused 1, the last entry, n = 96' ;;
-    9) echo 'refused 8, late, n = 2' ;;
-    10) echo 'refused 8, late, n = 24' ;;
-    11) echo 'refused 1, the last entry, n = 2' ;;
-    12) echo 'refused 1, the last entry, n = 24' ;;
-    13) echo 'an accepted crit, n = 2' ;;
-    14) echo 'an accepted crit, n = 96' ;;
-    21) echo 'adding, none kept' ;;
-    22) echo 'adding, 100 kept, one expires' ;;
-    23) echo 'adding, 1,024 kept, one expires' ;;
-    24) echo 'refused 18, 1,024 kept' ;;
-    25) echo 'showing, none kept' ;;
-    26) echo 'showing, 100 kept' ;;
-    27) echo 'showing, 1,024 kept' ;;
-    28) echo 'showing, 1,024 kept around the end' ;;
+    1?) echo "accepted, n = $n" ;;
+    2?) echo "refused 8, late, n = $n" ;;
+    3?) echo "refused 1, the last entry, n = $n" ;;
+    4?) echo "busy: accepted, n = $n" ;;
+    5?) echo "busy: refused 8, late, n = $n" ;;
+    6?) echo "busy: refused 1, the last entry, n = $n" ;;
+    7?) echo "busy, in all places: accepted, n = $n" ;;
+    8?) echo "refused 9, out of place, n = $n" ;;
+    93) echo "refused 1, the first entry, n = $n" ;;
+    94) echo 'refused 1, n = 97' ;;
+    10?) echo "an accepted crit, n = $n" ;;
+    201) echo 'adding, none kept' ;;
+    202) echo 'adding, 100 kept, one expires' ;;
+    203) echo 'adding, 1,024 kept, one expires' ;;
+    204) echo 'refused 18, 1,024 kept' ;;
+    205) echo 'showing, none kept' ;;
+    206) echo 'showing, 100 kept' ;;
+    207) echo 'showing, 1,024 kept' ;;
+    208) echo 'showing, 1,024 kept around the end' ;;
     esac
 }
 

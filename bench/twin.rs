@@ -195,19 +195,28 @@ pub fn step(state: State, action: u64, process: u64, time: u64) -> Outcome {
     answered(state, 0, process, time)
 }
 
+fn location_of(place: u64, arrival: u64) -> Location {
+    match place {
+        0 => Remainder,
+        1 => Testing(arrival),
+        2 => Setting(arrival),
+        3 => Checking(arrival),
+        4 => Entering(arrival),
+        5 => Critical,
+        6 => Resetting(arrival),
+        _ => Leaving(arrival),
+    }
+}
+
 /// Set into `main`, it may cost each turn of the loop a copy of the state.
 #[inline(never)]
 fn state_of(case: u64) -> State {
-    let idle = Process { location: Remainder };
     let [a, b, c] = cases::LIMITS;
-    let mut state = State { n: cases::count_of(case), a, b, c, clock: 0, word: 0, processes: [idle; 96] };
-    if case == cases::UNSOUND_COUNT {
-        state.n = 97;
-    }
-    if let Some((window, arrival)) = cases::testing_of(case) {
-        state.processes[window as usize - 1] = Process { location: Testing(arrival) };
-    }
-    state
+    let processes = std::array::from_fn(|i| {
+        let (place, arrival) = cases::place_of(case, i as u64 + 1);
+        Process { location: location_of(place, arrival) }
+    });
+    State { n: cases::count_of(case), a, b, c, clock: 0, word: cases::word_of(case), processes }
 }
 
 fn main() {

@@ -1,67 +1,78 @@
 -- The work of the benchmarks: of each case how many processes it has, the state that it starts from, and its acts. It is measured and is
 -- no part of the box; here stands what is measured. Assumes nothing.
-use Prim.Native.Nat.{ℕ, _+_, _-_, _*_, _/_, _%_}
-use mathlib.Core.Bool.{cond, _&&_}
-use lib.ListN.{set}
-use lib.Dec.{leb, eqb}
-use Rattle.model.specs.declared.Location.the-variants.{Testing}
+use Prim.Native.Nat.{ℕ, zero, suc, _+_, _-_, _*_, _/_, _%_}
+use mathlib.Core.Bool.{cond}
+use mathlib.Core.List.{List}
+use lib.ListN.{set, replicate}
+use lib.Dec.{leb, ltb, eqb}
+use Rattle.model.specs.declared.Location.{Location}
+use Rattle.model.specs.declared.Location.the-variants.{Remainder, Testing}
 use Rattle.model.specs.declared.Process.{Process}
 use Rattle.model.specs.declared.State.{State}
-use Rattle.model.specs.States.{parametersOf, entry}
-use Rattle.model.specs.Acts.{waitAct, tryAct, remAct}
-use Rattle.model.specs.Actions.{changed}
-use Rattle.model.specs.Answers.{freshOf}
+use Rattle.model.specs.States.{parametersOf, entry, idle, locationAt}
+use Rattle.model.specs.Acts.{waitAct, tryAct, testAct, remAct}
 use Rattle.workload.specs.declared.Act.{Act}
 
--- helper: the case that a byte names: a digit from 1 to 8 that case, any other byte case 0, which makes no step
-abbrev pub caseOf : ℕ → ℕ
-caseOf byte = cond (leb 49 byte && leb byte 56) (byte - 48) 0
+-- helper: the value of a digit; 0 of any other byte
+abbrev pub digitOf : ℕ → ℕ
+digitOf byte = cond (ltb byte 48) 0 (cond (ltb 57 byte) 0 (byte - 48))
 
--- Cases 1, 2 and 3 are accepted acts of 2, 24 and 96 processes; 4 is refused with 9, 5 with 8, and 6, 7 and 8 with 1
+-- A case is 10 times its kind and a digit for its processes. Case 0 makes no step. Kinds 1, 4 and 7 are accepted, 8 is refused with 9,
+-- 2 and 5 with 8, and 3, 6 and 9 with 1
 
 -- helper: how many processes a case has
 abbrev pub sizeIn : ℕ → ℕ
-sizeIn case = cond (eqb case 1) 2 (cond (eqb case 2) 24 96)
+sizeIn case = cond (eqb (case % 10) 1) 2 (cond (eqb (case % 10) 2) 24 96)
 
 -- The state that a case starts from
 
--- helper: the entry of a process that came to testing at a time
-abbrev pub cameAt : ℕ → Process
-cameAt time = entry (Testing time)
+-- helper: the n of its parameters, which in one case is not sound
+abbrev pub countIn : ℕ → ℕ
+countIn case = cond (eqb case 94) 97 (sizeIn case)
 
--- helper: a state with another entry at a place
-abbrev pub withEntry : State → ℕ → Process → State
-withEntry s slot q = changed s (s .clock) (s .word) (set (s .processes) slot q)
+-- helper: its word, which is held in kinds 4 to 7
+abbrev pub wordIn : ℕ → ℕ
+wordIn case = cond (ltb (case / 10) 4) 0 (cond (ltb 7 (case / 10)) 0 1)
 
--- helper: a state with another number of processes
-abbrev pub withCount : State → ℕ → State
-withCount s n =
-    record {
-      parameters = parametersOf n (s .parameters .a) (s .parameters .b) (s .parameters .c);
-      clock = s .clock;
-      word = s .word;
-      processes = s .processes;
-    }
+-- helper: at one place alone testing since a time, at the others the remainder
+abbrev pub onlyIn : ℕ → ℕ → ℕ → Location
+onlyIn place chosen time = cond (eqb place chosen) (Testing time) Remainder
 
--- helper: the fresh state of a case
-abbrev pub freshIn : ℕ → State
-freshIn case = freshOf (parametersOf (sizeIn case) 5 8 12) .state
+-- helper: where one of so many processes is, by the place of its entry. The clock is 0: who came at 9 is not sound
+unfoldable pub placedIn : ℕ → ℕ → ℕ → Location
+placedIn kind size place =
+    cond (eqb kind 2) (onlyIn place 0 0)
+    (cond (eqb kind 3) (onlyIn (place + 1) size 9)
+    (cond (eqb kind 4) (Testing 0)
+    (cond (eqb kind 5) (Testing 0)
+    (cond (eqb kind 6) (Testing (cond (eqb (place + 1) size) 9 0))
+    (cond (eqb kind 7) (locationAt (place % 6 + 1 + place % 6 / 4) 0)
+    (cond (eqb kind 9) (onlyIn place 0 9)
+    Remainder))))))
 
--- helper: a fresh state, in case 5 with a process that has to test by 5, in cases 6, 7 and 8 not sound: n is 97, the first or the
--- last entry came after the clock
+-- helper: the same in a case, where the others are in the remainder
+unfoldable pub locationIn : ℕ → ℕ → Location
+locationIn case place = cond (leb (sizeIn case) place) Remainder (placedIn (case / 10) (sizeIn case) place)
+
+-- helper: 96 entries, of which the first are those of a case, and the others idle
+unfoldable pub entriesIn : ℕ → ℕ → List Process
+entriesIn case zero = replicate 96 idle
+entriesIn case (suc k) = set (entriesIn case k) k (entry (locationIn case k))
+
+-- helper: the state
 unfoldable pub startIn : ℕ → State
 startIn case =
-    cond (eqb case 5) (withEntry (freshIn case) 0 (cameAt 0))
-    (cond (eqb case 6) (withCount (freshIn case) 97)
-    (cond (eqb case 7) (withEntry (freshIn case) 0 (cameAt 9))
-    (cond (eqb case 8) (withEntry (freshIn case) 95 (cameAt 9))
-    (freshIn case))))
+    record { parameters = parametersOf (countIn case) 5 8 12; clock = 0; word = wordIn case; processes = entriesIn case 96 }
 
 -- The acts
 
--- helper: the process whose round it is: each in turn
+-- helper: the process whose turn it is: each of them once in a lap
 abbrev pub turnIn : ℕ → ℕ → ℕ
-turnIn case round = round % sizeIn case + 1
+turnIn case i = i % sizeIn case + 1
+
+-- helper: the lap
+abbrev pub lapIn : ℕ → ℕ → ℕ
+lapIn case i = i / sizeIn case
 
 -- helper: the time of an act of a round: a round takes 20, and the check and what follows it come 8 later
 abbrev pub timeIn : ℕ → ℕ → ℕ
@@ -71,14 +82,16 @@ timeIn round place = round * 20 + place + place / 3 * 8 - place / 6 * 8
 abbrev pub actWith : ℕ → ℕ → ℕ → Act
 actWith action process time = record { action = action; process = process; time = time }
 
--- helper: the act of a round at one of its eight places
-abbrev pub roundAct : ℕ → ℕ → ℕ → Act
-roundAct case round place = actWith (tryAct + place) (turnIn case round) (timeIn round place)
+-- helper: rounds of the eight actions of one process after the other, from anew after 16,000
+abbrev pub roundAct : ℕ → ℕ → Act
+roundAct case i =
+    actWith (tryAct + i % 16_000 % 8) (turnIn case (i % 16_000 / 8)) (timeIn (i % 16_000 / 8) (i % 16_000 % 8))
 
--- helper: the i-th act of a case: rounds of the eight actions of one process after the other, from anew after 16,000; or one act
--- again and again, which is refused
+-- helper: the i-th act of a case: in kind 1 of a round, in kind 4 a test, and in the others one act again and again
 unfoldable pub actIn : ℕ → ℕ → Act
 actIn case i =
-    cond (eqb case 4) (actWith remAct 1 0)
-    (cond (leb 5 case) (actWith waitAct 0 1000)
-    (roundAct case (i % 16_000 / 8) (i % 16_000 % 8)))
+    cond (eqb (case / 10) 1) (roundAct case i)
+    (cond (eqb (case / 10) 4) (actWith testAct (turnIn case i) (lapIn case i))
+    (cond (eqb (case / 10) 7) (actWith waitAct 0 0)
+    (cond (eqb (case / 10) 8) (actWith remAct 1 0)
+    (actWith waitAct 0 1000))))

@@ -7,27 +7,43 @@ use model::Parameters;
 use model::Process;
 use model::State;
 use rules::actions::REM;
+use rules::actions::TEST;
 use rules::actions::TRY;
 use rules::actions::WAIT;
+use rules::stages::location_at;
 use std::num::wrapping_add_u64;
 ghost use mathlib.Core.Path.{_≡_};
-ghost use Prim.Native.Nat.{_≤_};
-ghost use Rattle.workload.specs.Work.{caseOf, sizeIn, cameAt, startIn, turnIn, actIn};
+ghost use Prim.Native.Nat.{_<_, _≤_};
+ghost use Rattle.workload.specs.Work.{digitOf, sizeIn, countIn, wordIn, onlyIn, placedIn, locationIn, startIn, turnIn, lapIn, roundAct, actIn};
 
-// The cases. NONE makes no step: what it costs is taken off the others. 1, 2 and 3 are accepted acts of 2, 24 and 96 processes.
+// The cases. NONE makes no step: what it costs is taken off the others. Each other one is 10 times its kind and a digit for its
+// processes: 1, 2 and 3 for 2, 24 and 96.
 const NONE: u64 = 0;
 
-// OUT_OF_PLACE and LATE are refused with 9 and 8, the three that follow with 1: n is 97, the first or the last entry came
-// after the clock.
-const OUT_OF_PLACE: u64 = 4;
+// The kinds. On an idle table: rounds of accepted acts; process 1 is late; the last process came after the clock.
+const ACCEPTED: u64 = 1;
 
-const LATE: u64 = 5;
+const LATE: u64 = 2;
 
-const UNSOUND_COUNT: u64 = 6;
+const UNSOUND: u64 = 3;
 
-const UNSOUND_FIRST: u64 = 7;
+// The same on a busy one: all are testing and the word is held, so that an accepted test leads back to testing.
+const BUSY: u64 = 4;
 
-const UNSOUND_LAST: u64 = 8;
+const BUSY_LATE: u64 = 5;
+
+const BUSY_UNSOUND: u64 = 6;
+
+// All are in the six timed locations in turn, and an accepted wait leaves the clock as it is.
+const MIXED: u64 = 7;
+
+// On an idle table again: an act is out of place; process 1 came after the clock.
+const OUT_OF_PLACE: u64 = 8;
+
+const UNSOUND_FIRST: u64 = 9;
+
+// The case whose n is 97.
+const UNSOUND_COUNT: u64 = 94;
 
 struct Act {
     action: u64,
@@ -35,110 +51,196 @@ struct Act {
     time: u64,
 }
 
-// The case that a digit names.
-fn case_of(digit: u8) -> u64
-    ensures { λ r. ⌜ r ≡ caseOf digit ⌝ }
+fn digit(byte: u8) -> u64
+    ensures { λ r. ⌜ r ≡ digitOf byte ⌝ }
 {
-    match digit {
-        b'1' => 1,
-        b'2' => 2,
-        b'3' => 3,
-        b'4' => OUT_OF_PLACE,
-        b'5' => LATE,
-        b'6' => UNSOUND_COUNT,
-        b'7' => UNSOUND_FIRST,
-        b'8' => UNSOUND_LAST,
-        _ => NONE,
+    if byte < b'0' {
+        return 0;
     }
+    if b'9' < byte {
+        return 0;
+    }
+    (byte - b'0') as u64
 }
 
-// The case that the program's argument names by a digit. Which one it is comes from the operating system.
+// The case that the program's argument names by two digits, or by a 0. Which one it is comes from the operating system.
 pub fn chosen() -> u64
-    ensures { λ r. ⌜ r ≤ 8 ⌝ }
+    ensures { λ r. ⌜ r ≤ 99 ⌝ }
 {
     let mut word = [b'0'; 8];
     os::arg(1, &mut word);
-    case_of(word[0])
+    let kind = digit(word[0]);
+    let size = digit(word[1]);
+    kind * 10 + size
 }
 
-fn count_of(case: u64) -> u64
+// How many processes a case has.
+fn size_of(case: u64) -> u64
     ensures { λ r. ⌜ r ≡ sizeIn case ⌝ }
 {
-    match case {
+    match case % 10 {
         1 => 2,
         2 => 24,
         _ => 96,
     }
 }
 
-// The process whose round it is: each of them in turn.
-fn turn_of(case: u64, round: u64) -> u64
-    ensures { λ r. ⌜ r ≡ turnIn case round ⌝ }
+fn count_of(case: u64) -> u64
+    ensures { λ r. ⌜ r ≡ countIn case ⌝ }
 {
-    match case {
-        1 => round % 2 + 1,
-        2 => round % 24 + 1,
-        _ => round % 96 + 1,
+    if case == UNSOUND_COUNT {
+        return 97;
+    }
+    size_of(case)
+}
+
+fn word_of(case: u64) -> u64
+    ensures { λ r. ⌜ r ≡ wordIn case ⌝ }
+{
+    let kind = case / 10;
+    if kind < BUSY {
+        return 0;
+    }
+    if MIXED < kind {
+        return 0;
+    }
+    1
+}
+
+fn only(place: u64, chosen: u64, time: u64) -> Location
+    ensures { λ r. ⌜ r ≡ onlyIn place chosen time ⌝ }
+{
+    if place == chosen {
+        return Location::Testing(time);
+    }
+    Location::Remainder
+}
+
+// Where one of so many processes is, by the place of its entry.
+fn placed(kind: u64, size: u64, place: u64) -> Location
+    requires { ⌜ place < size ⌝ }
+    ensures { λ r. ⌜ r ≡ placedIn kind size place ⌝ }
+{
+    match kind {
+        LATE => only(place, 0, 0),
+        UNSOUND => only(place + 1, size, 9),
+        BUSY => Location::Testing(0),
+        BUSY_LATE => Location::Testing(0),
+        BUSY_UNSOUND => {
+            if place + 1 == size {
+                return Location::Testing(9);
+            }
+            Location::Testing(0)
+        }
+        MIXED => location_at(place % 6 + 1 + place % 6 / 4, 0),
+        UNSOUND_FIRST => only(place, 0, 9),
+        _ => Location::Remainder,
     }
 }
 
-fn came_at(time: u64) -> Process
-    ensures { λ r. ⌜ r ≡ cameAt time ⌝ }
+fn location_of(case: u64, place: u64) -> Location
+    ensures { λ r. ⌜ r ≡ locationIn case place ⌝ }
 {
-    entry_at(Location::Testing(time))
+    let size = size_of(case);
+    if size <= place {
+        return Location::Remainder;
+    }
+    placed(case / 10, size, place)
 }
 
 // The state that a case starts from.
 pub fn state_of(case: u64) -> State
     ensures { λ r. ⌜ r ≡ startIn case ⌝ }
 {
-    let made = machine::fresh(Parameters {
-        n: count_of(case),
-        a: 5,
-        b: 8,
-        c: 12,
-    });
-    let mut state = made.state;
-    if case == LATE {
-        state.processes[0] = came_at(0);
+    let mut processes = [Process {
+        location: Location::Remainder,
+    }; 96];
+    let mut i: usize = 0;
+    while i < 96 {
+        let location = location_of(case, i as u64);
+        processes[i] = entry_at(location);
+        i += 1;
     }
-    if case == UNSOUND_COUNT {
-        state.parameters.n = 97;
+    State {
+        parameters: Parameters {
+            n: count_of(case),
+            a: 5,
+            b: 8,
+            c: 12,
+        },
+        clock: 0,
+        word: word_of(case),
+        processes: processes,
     }
-    if case == UNSOUND_FIRST {
-        state.processes[0] = came_at(9);
-    }
-    if case == UNSOUND_LAST {
-        state.processes[95] = came_at(9);
-    }
-    state
 }
 
-// Rounds of the eight actions of one process after the other, all accepted; or one act again and again, which is refused.
-fn act_of(case: u64, i: u64) -> Act
-    ensures { λ r. ⌜ r ≡ actIn case i ⌝ }
+// The process whose turn it is: each of them once in a lap.
+fn turn_of(case: u64, i: u64) -> u64
+    ensures { λ r. ⌜ r ≡ turnIn case i ⌝ }
+{
+    match case % 10 {
+        1 => i % 2 + 1,
+        2 => i % 24 + 1,
+        _ => i % 96 + 1,
+    }
+}
+
+fn lap_of(case: u64, i: u64) -> u64
+    ensures { λ r. ⌜ r ≡ lapIn case i ⌝ }
+{
+    match case % 10 {
+        1 => i / 2,
+        2 => i / 24,
+        _ => i / 96,
+    }
+}
+
+// Rounds of the eight actions of one process after the other.
+fn round_act(case: u64, i: u64) -> Act
+    ensures { λ r. ⌜ r ≡ roundAct case i ⌝ }
 {
     let turn = i % 16000;
     let round = turn / 8;
     let place = turn % 8;
-    if case == OUT_OF_PLACE {
+    Act {
+        action: TRY + place,
+        process: turn_of(case, round),
+        time: round * 20 + place + place / 3 * 8 - place / 6 * 8,
+    }
+}
+
+fn act_of(case: u64, i: u64) -> Act
+    ensures { λ r. ⌜ r ≡ actIn case i ⌝ }
+{
+    let kind = case / 10;
+    if kind == ACCEPTED {
+        return round_act(case, i);
+    }
+    if kind == BUSY {
+        return Act {
+            action: TEST,
+            process: turn_of(case, i),
+            time: lap_of(case, i),
+        };
+    }
+    if kind == MIXED {
+        return Act {
+            action: WAIT,
+            process: 0,
+            time: 0,
+        };
+    }
+    if kind == OUT_OF_PLACE {
         return Act {
             action: REM,
             process: 1,
             time: 0,
         };
     }
-    if LATE <= case {
-        return Act {
-            action: WAIT,
-            process: 0,
-            time: 1000,
-        };
-    }
     Act {
-        action: TRY + place,
-        process: turn_of(case, round),
-        time: round * 20 + place + place / 3 * 8 - place / 6 * 8,
+        action: WAIT,
+        process: 0,
+        time: 1000,
     }
 }
 

@@ -1,16 +1,17 @@
--- `workload::count_of` meets its contract: each arm is a branch of `sizeIn`. Assumes nothing.
-use borrow.Author.Tests.{ne-eqb}
+-- `workload::count_of` meets its contract. Assumes nothing.
+use borrow.Author.Needs.{needs}
+use borrow.Author.Tests.{eq-eqb, ne-eqb}
 use Rattle.workload.proofs.count_of.Statement.{statement}
 use Rattle.workload.proofs.count_of.Tie as tie
 
 returns : tie.Need-returns
-returns c = rw (c .match .keys1)
+returns c = simp (eq-eqb _ _ (c .if1 .taken))
+
+size-of-requires : tie.Need-size-of-requires
+size-of-requires c κs = search needs
 
 returns-2 : tie.Need-returns-2
-returns-2 c = rw (c .match .keys2)
-
-returns-3 : tie.Need-returns-3
-returns-3 c = simp (ne-eqb _ _ (c .match .rest .0 .1), ne-eqb _ _ (c .match .rest .1))
+returns-2 c = simp (ne-eqb _ _ (c .before .if1 .left)) (c .size-of .ensures)
 
 pub count-of-spec : {M : Type 1} → statement M
-count-of-spec = tie.close (tie.spec returns returns-2 returns-3)
+count-of-spec = tie.close (tie.spec returns size-of-requires returns-2)

@@ -1,0 +1,72 @@
+//! How deep a step and a recorded step through the C library go in a case: the most bytes below their caller's that one call writes to,
+//! of either. The calls are made on a stack of their own, which is filled with one number before each.
+
+#[allow(dead_code)]
+mod cases;
+#[allow(dead_code)]
+#[path = "../clients/rust/src/ffi.rs"]
+mod ffi;
+#[allow(dead_code)]
+#[path = "../clients/rust/src/raw.rs"]
+mod raw;
+mod tables;
+
+use std::arch::asm;
+
+const FILLING: u64 = 0x5a0f_a5f0_5a0f_a5f0;
+
+/// The numbers that a call may write to, twice as many as any of the library's needs but one; above them its caller's part starts.
+const FREE: usize = 4096;
+
+/// The two last are arguments for which C has no register.
+#[repr(align(16))]
+struct Stack([u64; FREE + 2]);
+
+/// Makes a call of C. Its answer goes where the first of its eight arguments says; of the seven others those that it does not have are 0.
+fn depth(stack: &mut Stack, function: *const (), answer: &mut [u64; 3], given: [u64; 7]) -> usize {
+    stack.0[..FREE].fill(FILLING);
+    stack.0[FREE..].copy_from_slice(&given[5..]);
+    unsafe {
+        asm!(
+            "mov r12, rsp",
+            "mov rsp, {caller}",
+            "call {function}",
+            "mov rsp, r12",
+            caller = in(reg) stack.0.as_mut_ptr().add(FREE),
+            function = in(reg) function,
+            in("rdi") answer,
+            in("rsi") given[0],
+            in("rdx") given[1],
+            in("rcx") given[2],
+            in("r8") given[3],
+            in("r9") given[4],
+            out("r12") _,
+            clobber_abi("C"),
+        );
+    }
+    let untouched = stack.0.iter().take_while(|&&number| number == FILLING).count();
+    size_of_val(&stack.0[untouched..FREE])
+}
+
+fn lent(numbers: &mut [u64]) -> [u64; 2] {
+    [numbers.as_mut_ptr() as u64, numbers.len() as u64]
+}
+
+fn main() {
+    let case = cases::chosen();
+    let mut stack = Stack([0; FREE + 2]);
+    let (mut stepped, mut recorded, mut summary) = (tables::table_of(case), tables::table_of(case), [0; raw::SUMMARY]);
+    let (mut step, mut record) = (0, 0);
+    cases::run(case, |[act, window, moment]| {
+        let (mut answer, mut answer_recorded) = ([0; 3], [0; 3]);
+        let [table, length] = lent(&mut stepped);
+        let given = [table, length, act, window, moment, 0, 0];
+        step = step.max(depth(&mut stack, ffi::funnelfawn_step as *const (), &mut answer, given));
+        let ([table, length], [counts, size]) = (lent(&mut recorded), lent(&mut summary));
+        let given = [table, length, counts, size, act, window, moment];
+        record = record.max(depth(&mut stack, ffi::funnelfawn_record as *const (), &mut answer_recorded, given));
+        assert_eq!(answer, answer_recorded);
+        answer
+    });
+    println!("{step} {record}");
+}
