@@ -1,9 +1,10 @@
 /* Funnelfawn for C and C++: Fischer's timed lock over a table of up to 96 sales windows.
  *
  * Link with libfunnelfawn.a (x86-64 Linux) and the C library, of which only memcpy and memset are used. No function keeps state,
- * allocates, prints or blocks; each takes any numbers at all and returns. funnelfawn_replay needs about 210 KB of stack, the others less
- * than 16 KB. The library is proved against docs/SPECIFICATION.md; numbers such as [9.50] are its clauses, and its section 1 has the words
- * that it uses for the windows, places, moments and acts of this header.
+ * allocates, prints or blocks; each takes any numbers at all and returns. funnelfawn_replay needs about 210 KB of stack, funnelfawn_fresh
+ * and funnelfawn_write less than 2 KB, the others less than 1 KB, and a step, recorded or not, less than 512 bytes. The library is proved
+ * against docs/SPECIFICATION.md; numbers such as [9.50] are its clauses, and its section 1 has the words that it uses for the windows,
+ * places, moments and acts of this header.
  *
  * What is lent
  *   A list is a pointer and the count of its elements (not of bytes). The caller owns it; the library keeps no pointer past the call.
@@ -14,6 +15,7 @@
  *   Elements past those that a call speaks of stay as they are. A call that is refused leaves all that was lent as it was, but for the
  *   count of refused acts in a lent summary, which 4 to 10 raise by one [9.120], and for a board that is not set up, 17, whose list then
  *   holds one that no call accepts [10.65].
+ *   What stands where in a list has a number, FUNNELFAWN_LAYOUT: compare it with the archive's before the first list is lent [9.15].
  *
  * Time is counted in whole microseconds, from 0 to 1,000,000,000,000. */
 #ifndef FUNNELFAWN_H
@@ -28,6 +30,15 @@ extern "C" {
 #else
 #define FUNNELFAWN_RESTRICT restrict
 #endif
+
+/* [9.15] The layout: one number for what stands where in all that is lent, tables, summaries and boards. It goes up whenever one of them
+ * comes to hold more numbers, or a number there to mean something else. FUNNELFAWN_LAYOUT is that of this header, and funnelfawn_layout()
+ * that of the archive: a program compares the two once, at its start, so that a header and an archive of different versions are found out
+ * before a list is lent. Of numbers that were stored by another program or on another day it says nothing, unless the layout is stored
+ * with them. */
+enum { FUNNELFAWN_LAYOUT = 1 };
+
+uint64_t funnelfawn_layout(void);
 
 /* Tables: [9.10], and section 2 of the specification
  *
@@ -178,15 +189,18 @@ struct funnelfawn_answer funnelfawn_fresh(uint64_t n, uint64_t a, uint64_t b, ui
 /* [9.60] One act of a window at a moment, the clock from then on.
  *   0, the lowest of the windows that are selling after it (0 if none is; from a fresh table on there is at most one), and the clock, with
  *   the table brought up to date: its clock, its word and the two numbers of the acting window are written, and no other [9.130];
- *   or the lowest of 1, 4, 5, .., 10 whose condition holds. */
+ *   or the lowest of 1, 4, 5, .., 10 whose condition holds, and then nothing is written. */
 struct funnelfawn_answer funnelfawn_step(uint64_t *table, size_t table_length, uint64_t act, uint64_t window, uint64_t moment);
 
 /* [9.70] A new summary: all zeros. 0, 0, 0; or 16. */
 struct funnelfawn_answer funnelfawn_new_summary(uint64_t *summary, size_t summary_length);
 
 /* [9.80] The same act, counted: as funnelfawn_step, and the summary is brought up to date, its five numbers and the try moment of the
- * acting window; or the lowest of 1 to 10 whose condition holds. 1, 2 and 3 leave the summary as it was, 4 to 10 raise its count of
- * refused acts. */
+ * acting window; or the lowest of 1 to 10 whose condition holds. With 1, 2 and 3 nothing is written, to the table or to the summary; with
+ * 4 to 10 one number is, the summary's count of refused acts, which goes up by one. So a table may lie where it can only be read if the act
+ * is refused, a summary only if the answer is 1, 2 or 3: an accepted act on such a list faults, and may leave the table moved on and the act
+ * uncounted. To ask what an act would be answered, lend copies. That no other number is written, not even with the one that it has, is
+ * tested; the proofs speak of what the numbers are. */
 struct funnelfawn_answer funnelfawn_record(uint64_t *FUNNELFAWN_RESTRICT table, size_t table_length,
                                            uint64_t *FUNNELFAWN_RESTRICT summary, size_t summary_length, uint64_t act, uint64_t window,
                                            uint64_t moment);

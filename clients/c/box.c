@@ -1,6 +1,7 @@
 /* A small box office: acts come in on standard input as they happen, and out goes what the seat ledger reads.
  * The input starts like a recording (README.md, "Recordings"), with its three lines of head, and then has one act a line, without end.
- * Exit status: 0; 1 where the head is refused; 2 where the input or the output breaks. */
+ * Exit status: 0; 1 where the head is refused; 2 where the input or the output breaks; 3 where the archive has another layout than the
+ * header. */
 #include "funnelfawn.h"
 
 #include <inttypes.h>
@@ -142,8 +143,13 @@ static void say_summary(const uint64_t *summary)
 int main(void)
 {
     struct office office = {0};
-    struct funnelfawn_answer opened = open_office(&office);
+    struct funnelfawn_answer opened;
 
+    if (funnelfawn_layout() != FUNNELFAWN_LAYOUT) {
+        fprintf(stderr, "the archive has the layout %" PRIu64 ", the header %d\n", funnelfawn_layout(), FUNNELFAWN_LAYOUT);
+        return 3;
+    }
+    opened = open_office(&office);
     if (opened.number != FUNNELFAWN_OK) {
         /* of its refusals 13 and 14 carry their line, and 11 and 12 are about line 2 */
         fprintf(stderr, "the head is refused (%" PRIu64 "): line %" PRIu64 "\n", opened.number, opened.moment ? opened.moment : 2);

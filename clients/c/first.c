@@ -10,6 +10,7 @@ int main(void) {
         {FUNNELFAWN_ACT_CHECK, 9}, {FUNNELFAWN_ACT_CHECK, 10}, {FUNNELFAWN_ACT_CRIT, 12},
     };
     uint64_t table[FUNNELFAWN_TABLE_LENGTH];
+    if (funnelfawn_layout() != FUNNELFAWN_LAYOUT) return 3; /* header and archive are of different versions */
     if (funnelfawn_fresh(96, 5, 8, 12, table, FUNNELFAWN_TABLE_LENGTH).number != FUNNELFAWN_OK) return 1;
     for (size_t i = 0; i < sizeof turn / sizeof turn[0]; i++) {
         struct funnelfawn_answer answer = funnelfawn_step(table, FUNNELFAWN_TABLE_LENGTH, turn[i].act, 7, turn[i].moment);

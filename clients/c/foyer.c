@@ -1,5 +1,6 @@
 /* The foyer board of a short sale: how many windows were let in during the last 30 microseconds, and the longest wait among them.
- * A line comes out whenever a window is let in, and whenever the screen is drawn anew. */
+ * A line comes out whenever a window is let in, and whenever the screen is drawn anew. Exit status: 0; 1 where the box does not open; 3
+ * where the archive has another layout than the header. */
 #include "funnelfawn.h"
 
 #include <inttypes.h>
@@ -74,6 +75,8 @@ int main(void)
     };
     static struct box box;
 
+    if (funnelfawn_layout() != FUNNELFAWN_LAYOUT)
+        return 3;
     if (!open_box(&box))
         return 1;
     for (size_t i = 0; i < sizeof sale / sizeof sale[0]; i++) {

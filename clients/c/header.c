@@ -69,6 +69,13 @@ static void start(void)
     CHECK(funnelfawn_new_summary(summary, FUNNELFAWN_SUMMARY_LENGTH).number == FUNNELFAWN_OK);
 }
 
+/* The lists below are those of this layout: it is another one as soon as a length or a place of them changes. */
+static void layout(void)
+{
+    CHECK(funnelfawn_layout() == FUNNELFAWN_LAYOUT && FUNNELFAWN_LAYOUT == 1);
+    CHECK(FUNNELFAWN_TABLE_LENGTH == 198 && FUNNELFAWN_SUMMARY_LENGTH == 101 && FUNNELFAWN_BOARD_LENGTH == 3076);
+}
+
 /* Window 96 goes once round: the acts, the places and where each number stands. */
 static void round_of_96(void)
 {
@@ -269,6 +276,7 @@ static void recordings(void)
 
 int main(void)
 {
+    layout();
     round_of_96();
     withdrawal();
     refusals();

@@ -10,6 +10,8 @@ pub fn act(random: &mut Random, table: &Table) -> [u64; 3] {
     if random.chance(6) {
         let place = random.index(call.len());
         call[place] = any_number(random, call[place]);
+    } else if random.chance(2) {
+        call[1] = random.pick(&[0, table.values.n + 1, 96, 97, u64::MAX]);
     }
     call
 }

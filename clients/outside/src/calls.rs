@@ -1,5 +1,6 @@
 //! Calls of the library through `funnelfawn::raw`: each is made on lists as they are lent and held to what is expected of it.
 
+use crate::encoding::LAYOUT;
 use crate::lent::Lent;
 use funnelfawn::raw;
 use reference::answer::{Answer, ACCEPTED};
@@ -31,6 +32,16 @@ fn same_answer(got: raw::Answer, wanted: Answer) -> Verdict {
         return Err(format!("the answer is {got:?}, not {wanted:?}"));
     }
     Ok(())
+}
+
+/// Whether the lists that are made here are those that the archive takes; says so if not.
+pub fn same_layout() -> bool {
+    let layouts = [raw::layout(), raw::LAYOUT];
+    let same = layouts == [LAYOUT; 2];
+    if !same {
+        println!("the layouts of the archive and of the package are {layouts:?}, not {LAYOUT}");
+    }
+    same
 }
 
 pub fn fresh(values: Values, table: &[u64], wanted: (Answer, &[u64])) -> Verdict {

@@ -6,6 +6,9 @@ use reference::list::number_of;
 use reference::machine::{Place, Table, Values, WINDOWS};
 use reference::summary::Summary;
 
+/// The layout that is written out here, as one number [9.15].
+pub const LAYOUT: u64 = 1;
+
 /// The table that a list starts with, if it is long enough and its numbers tell one, sound or not.
 pub fn table_in(numbers: &[u64]) -> Option<Table> {
     let &[n, a, b, c, clock, word, ref entries @ ..] = numbers.get(..TABLE)? else { return None };

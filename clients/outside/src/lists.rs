@@ -8,6 +8,11 @@ use reference::generator::random::Random;
 use reference::machine::{Table, Values, CLOCK_END, LIMIT_END};
 use reference::summary::Summary;
 
+/// Where n, the clock and the word stand in a table.
+const N: usize = 0;
+const CLOCK: usize = 4;
+const WORD: usize = 5;
+
 /// A list of numbers to be lent, and whether they start with those that they were made from.
 pub struct Made {
     pub numbers: Vec<u64>,
@@ -27,7 +32,7 @@ pub fn lent_table(random: &mut Random, table: &Table, percent: u64) -> Made {
 
 fn damage_table(random: &mut Random, table: &Table, numbers: &mut Vec<u64>) {
     let within = random.between(1, table.values.n);
-    match random.below(8) {
+    match random.below(10) {
         0 => change(random, &mut numbers[..HEADER]),
         1 => change(random, &mut numbers[..TABLE]),
         2 => edge(random, table, &mut numbers[..HEADER]),
@@ -35,6 +40,8 @@ fn damage_table(random: &mut Random, table: &Table, numbers: &mut Vec<u64>) {
         4 => entry(numbers, within).copy_from_slice(&untimed(random, table)),
         5 => entry(numbers, within).copy_from_slice(&overdue(random, table)),
         6 => above(random, table, numbers),
+        7 => off_by_one(random, &mut numbers[..HEADER]),
+        8 => numbers[CLOCK] = clock_edge(random, table),
         _ => cut(random, numbers),
     }
 }
@@ -69,26 +76,48 @@ fn edge(random: &mut Random, table: &Table, numbers: &mut [u64]) {
     numbers[place] = number;
 }
 
+/// One number of the table's first six, more or less by 1.
+fn off_by_one(random: &mut Random, numbers: &mut [u64]) {
+    let place = random.index(numbers.len());
+    numbers[place] = numbers[place].wrapping_add(random.pick(&[1, u64::MAX]));
+}
+
+/// A clock at the first latest moment or at the last arrival, or past these: one that is sound for all windows but a few.
+fn clock_edge(random: &mut Random, table: &Table) -> u64 {
+    let latest = table.first_latest().map_or(CLOCK_END, |(latest, _)| latest);
+    let arrival = table.places.iter().filter_map(|place| place.arrival()).max().unwrap_or(0);
+    random.pick(&[latest, latest + 1, arrival, arrival.saturating_sub(1)])
+}
+
 /// An arrival beside a place that carries none.
 fn untimed(random: &mut Random, table: &Table) -> [u64; STRIDE] {
     [random.pick(&[0, 5]), random.pick(&[1, table.clock.max(1), u64::MAX])]
 }
 
-/// A timed place whose arrival is to come, or whose latest moment has passed.
+/// A timed place whose arrival is to come, also where the latest moment would be 2^64 or more and starts from 0 again; or whose latest
+/// moment has passed.
 fn overdue(random: &mut Random, table: &Table) -> [u64; STRIDE] {
     let place = random.pick(&[1, 2, 3, 4, 6, 7]);
     let limit = if place == 3 { table.values.c } else { table.values.a };
     let to_come = table.clock + 1;
     let passed = table.clock.checked_sub(limit + 1).unwrap_or(to_come);
-    [place, random.pick(&[passed, to_come, u64::MAX])]
+    let again_0 = limit.wrapping_neg();
+    let again_clock = again_0 + table.clock.min(limit - 1);
+    [place, random.pick(&[passed, to_come, again_0, again_clock, u64::MAX])]
 }
 
-/// An entry that would be sound, were it not above n. Of 96 windows the last one becomes one too many.
+/// An entry above n that would be sound at n, or that has a place alone or an arrival alone. Of 96 windows the last one becomes one too many.
 fn above(random: &mut Random, table: &Table, numbers: &mut [u64]) {
-    numbers[0] = table.values.n.min(95);
-    let window = random.between(numbers[0] + 1, 96);
+    let n = table.values.n.min(95);
+    numbers[N] = n;
+    numbers[WORD] = numbers[WORD].min(n);
     let place = random.between(1, 7);
-    entry(numbers, window).copy_from_slice(&[place, if place == 5 { 0 } else { table.clock }]);
+    let sound = [place, if place == 5 { 0 } else { table.clock }];
+    let place_alone = [random.pick(&[place, 8, u64::MAX]), 0];
+    let arrival_alone = [0, random.pick(&[1, table.clock.max(1), u64::MAX])];
+    let any = random.between(n + 1, 96);
+    let window = random.pick(&[n + 1, 96, any]);
+    entry(numbers, window).copy_from_slice(&random.pick(&[sound, place_alone, arrival_alone]));
 }
 
 /// Fewer numbers than the list should have.

@@ -3,13 +3,14 @@
 use reference::generator::random::Random;
 use reference::machine::*;
 
-/// A fresh table, or one with any places, two and more sellers among them, at any clock, its end too.
+/// A fresh table, or one with any places, two and more sellers among them, at any clock, its end too; or with nobody in remainder, and with
+/// the same latest moment for most windows.
 pub fn start(random: &mut Random) -> Table {
     let (_, table) = fresh(values(random));
-    if random.chance(50) {
-        table
-    } else {
-        busy(random, table)
+    match random.below(20) {
+        0..=9 => table,
+        10..=16 => busy(random, table),
+        _ => level(random, table),
     }
 }
 
@@ -44,6 +45,19 @@ fn busy(random: &mut Random, mut table: Table) -> Table {
     table
 }
 
+/// Every window in a timed place, with one latest moment or the next: where they are late, the lowest of many is to be told.
+fn level(random: &mut Random, mut table: Table) -> Table {
+    table.clock = random.pick(&[LIMIT_END, CLOCK_END / 2, CLOCK_END - LIMIT_END, CLOCK_END - 1, CLOCK_END]);
+    table.word = random.between(0, table.values.n);
+    let Values { n, a, c, .. } = table.values;
+    let first = random.between(table.clock, table.clock + a - 1);
+    for window in 0..n as usize {
+        let latest = first + u64::from(random.chance(20));
+        table.places[window] = timed_place(random, latest - a, latest - c);
+    }
+    table
+}
+
 /// A place with an arrival that is sound, at an edge now and then.
 fn place(random: &mut Random, table: &Table) -> Place {
     let mut arrival = |limit| {
@@ -55,12 +69,19 @@ fn place(random: &mut Random, table: &Table) -> Place {
         }
     };
     let (timed, checked) = (arrival(table.values.a), arrival(table.values.c));
+    if random.below(7) == 0 {
+        return Place::Selling;
+    }
+    timed_place(random, timed, checked)
+}
+
+/// One of the timed places, with an arrival of its own for checking.
+fn timed_place(random: &mut Random, timed: u64, checked: u64) -> Place {
     let places = [
         Place::Testing(timed),
         Place::Setting(timed),
         Place::Checking(checked),
         Place::Entering(timed),
-        Place::Selling,
         Place::Resetting(timed),
         Place::Leaving(timed),
     ];

@@ -52,6 +52,10 @@ pub struct Seen {
     pub withdraws: u64,
     /// tries that a withdraw took back
     pub taken_back: u64,
+    /// refusals as late at which the latest moment is that of several windows
+    pub level: u64,
+    /// accepted acts at a table of several windows with nobody in remainder
+    pub crowded: u64,
     /// calls from a fresh table on, after which the promises of lists were looked at
     pub promised: u64,
 }
@@ -80,17 +84,20 @@ impl Tally {
     pub fn add(&mut self, seen: &Seen) {
         self.walks.withdraws += seen.withdraws;
         self.walks.taken_back += seen.taken_back;
+        self.walks.level += seen.level;
+        self.walks.crowded += seen.crowded;
         self.walks.promised += seen.promised;
     }
 
     /// Says it all; true if nothing differs and nothing is missing.
     pub fn report(&self) -> bool {
         let Tally { calls, differ, others, boards, taken, refused, lists, listed, rounds, walks } = self;
-        let Seen { withdraws, taken_back, promised } = walks;
+        let Seen { withdraws, taken_back, level, crowded, promised } = walks;
         println!("answers: {}", others.said(OTHERS));
         println!("answers of boards: {}", boards.said(OF_BOARDS));
         println!("accepted crits that a board was told of: it took {taken}, refused {refused}");
         println!("accepted withdraws: {withdraws}, and {taken_back} that took back a try");
+        println!("late by the latest moment of several windows: {level}; accepted with nobody in remainder: {crowded}");
         println!("calls from a fresh table on, with promises: {promised}");
         println!(
             "lists of board calls: {lists}, of {listed} calls, which went around the places {rounds} times"
@@ -103,6 +110,8 @@ impl Tally {
             (*rounds == 0, "a list of board calls that went around the places"),
             (*withdraws == 0, "a withdraw that is accepted"),
             (*taken_back == 0, "a withdraw that took back a try"),
+            (*level == 0, "a latest moment of several windows that are late"),
+            (*crowded == 0, "an act that is accepted with nobody in remainder"),
             (*promised == 0, "a call from a fresh table on"),
         ];
         let missing = missing.into_iter().filter_map(|(is_missing, what)| is_missing.then_some(what));

@@ -2,6 +2,7 @@
 //! longest wait among them.
 
 use crate::answer::{Accepted, Figures, Refusal};
+use crate::layout;
 use crate::raw;
 
 /// A board, as the numbers that the library keeps of it. [`Table::record_and_tell`](crate::Table::record_and_tell) tells it of each entry;
@@ -28,7 +29,7 @@ impl Board {
     /// A board of the last w microseconds, from 1 to 1,000,000,000: without an entry, and told the moment 0. If w is refused there is no
     /// board.
     pub fn set_up(w: u64) -> Result<Board, Refusal> {
-        let mut board = Board { numbers: Box::new([0; raw::BOARD]) };
+        let mut board = Board::from_numbers([0; raw::BOARD]);
         raw::set_up_board(w, &mut board.numbers[..]).result()?;
         Ok(board)
     }
@@ -55,13 +56,14 @@ impl Board {
         self.numbers[1]
     }
 
-    /// The numbers in the order of include/funnelfawn.h, to be stored.
+    /// The numbers in the order of include/funnelfawn.h, to be stored, with [`raw::LAYOUT`](crate::raw::LAYOUT) beside them.
     pub fn numbers(&self) -> &[u64; raw::BOARD] {
         &self.numbers
     }
 
     /// A board of stored numbers. Any will do, as each call judges them anew and may answer [`NoSummary`](Refusal::NoSummary).
     pub fn from_numbers(numbers: [u64; raw::BOARD]) -> Board {
+        layout::assert_same();
         Board { numbers: Box::new(numbers) }
     }
 }

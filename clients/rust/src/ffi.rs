@@ -3,6 +3,8 @@
 use crate::raw::{Answer, Reading, Told};
 
 extern "C" {
+    pub fn funnelfawn_layout() -> u64;
+
     pub fn funnelfawn_fresh(n: u64, a: u64, b: u64, c: u64, table: *mut u64, table_length: usize) -> Answer;
 
     pub fn funnelfawn_step(

@@ -22,6 +22,9 @@
 //!
 //! For a screen in the foyer there is [`Board`], which [`Table::record_and_tell`] tells of each window that is let in.
 //!
+//! The package and the archive have to be of one layout, [`raw::LAYOUT`]. Where a table, a summary or a board is made, an archive of another
+//! one is found out, by a panic.
+//!
 //! The only unsafe code is in [`raw`], which lends slices to the library; all the rest stands on it.
 #![deny(unsafe_code)]
 
@@ -29,6 +32,7 @@ mod act;
 mod answer;
 mod board;
 mod ffi;
+mod layout;
 #[allow(unsafe_code)]
 pub mod raw;
 mod recording;

@@ -5,6 +5,9 @@
 
 use crate::ffi::*;
 
+/// The layout of the lists below, of tables, summaries and boards, as one number: whoever lends lists of his own to the functions here
+/// compares it with [`layout`] once. [`Table`](crate::Table), [`Summary`](crate::Summary) and [`Board`](crate::Board) do it themselves.
+pub const LAYOUT: u64 = 1;
 /// The entries of every table, whatever its n.
 pub const WINDOWS: usize = 96;
 /// The numbers of a table before its entries: n, a, b, c, the clock, the word.
@@ -58,6 +61,11 @@ pub struct Reading {
     pub a: u64,
     pub b: u64,
     pub c: u64,
+}
+
+/// The layout of the archive.
+pub fn layout() -> u64 {
+    unsafe { funnelfawn_layout() }
 }
 
 /// Look at the answer before stepping on the list: refused, it is as it was, and one that held an older table holds that table still,

@@ -1,5 +1,6 @@
 //! The running summary: section 5 of docs/SPECIFICATION.md.
 
+use crate::layout;
 use crate::raw;
 
 /// A summary, as the numbers that the library keeps of it. [`Table::record`](crate::Table::record) brings it up to date.
@@ -10,7 +11,7 @@ pub struct Summary {
 
 impl Summary {
     pub fn new() -> Summary {
-        let mut summary = Summary { numbers: [0; raw::SUMMARY] };
+        let mut summary = Summary::from_numbers([0; raw::SUMMARY]);
         raw::new_summary(&mut summary.numbers);
         summary
     }
@@ -41,7 +42,7 @@ impl Summary {
         self.numbers[raw::TRIES..].get(index).copied()
     }
 
-    /// The numbers in the order of include/funnelfawn.h, to be stored.
+    /// The numbers in the order of include/funnelfawn.h, to be stored, with [`raw::LAYOUT`](crate::raw::LAYOUT) beside them.
     pub fn numbers(&self) -> &[u64; raw::SUMMARY] {
         &self.numbers
     }
@@ -49,6 +50,7 @@ impl Summary {
     /// A summary of stored numbers. Any will do, as each call judges them anew and may answer
     /// [`NoSummary`](crate::Refusal::NoSummary).
     pub fn from_numbers(numbers: [u64; raw::SUMMARY]) -> Summary {
+        layout::assert_same();
         Summary { numbers }
     }
 }

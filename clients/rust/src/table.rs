@@ -2,6 +2,7 @@
 
 use crate::answer::{Accepted, Refusal};
 use crate::board::{Board, Told};
+use crate::layout;
 use crate::raw;
 use crate::summary::Summary;
 
@@ -61,7 +62,7 @@ pub struct Table {
 impl Table {
     /// A table of n windows with the limits a, b, c: all in remainder, at clock 0, with word 0. If they are refused there is no table.
     pub fn fresh(n: u64, a: u64, b: u64, c: u64) -> Result<Table, Refusal> {
-        let mut table = Table { numbers: [0; raw::TABLE] };
+        let mut table = Table::from_numbers([0; raw::TABLE]);
         raw::fresh(n, a, b, c, &mut table.numbers).result()?;
         Ok(table)
     }
@@ -142,13 +143,14 @@ impl Table {
         Some((place, place.timed().then_some(entry[1])))
     }
 
-    /// The numbers in the order of include/funnelfawn.h, to be stored.
+    /// The numbers in the order of include/funnelfawn.h, to be stored, with [`raw::LAYOUT`](crate::raw::LAYOUT) beside them.
     pub fn numbers(&self) -> &[u64; raw::TABLE] {
         &self.numbers
     }
 
     /// A table of stored numbers. Any will do, as each call judges them anew and may answer [`NoTable`](Refusal::NoTable).
     pub fn from_numbers(numbers: [u64; raw::TABLE]) -> Table {
+        layout::assert_same();
         Table { numbers }
     }
 }

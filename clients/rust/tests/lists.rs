@@ -15,6 +15,13 @@ fn table() -> Vec<u64> {
     Table::fresh(2, 5, 8, 12).unwrap().numbers().to_vec()
 }
 
+/// What is lent has these lengths as long as the layout is 1.
+#[test]
+fn the_layout() {
+    assert_eq!((layout(), LAYOUT), (1, 1));
+    assert_eq!((TABLE, SUMMARY, BOARD), (198, 101, 3_076));
+}
+
 #[test]
 fn short_tables_and_summaries() {
     for length in [0, 1, HEADER, HEADER + 1, TABLE - 2, TABLE - 1] {

@@ -1,7 +1,8 @@
 //! differential [COUNT [SEED]]: makes COUNT random calls of the library and compares all that comes of them with the reference.
-//! Exit status 0 only if none differs, each number of an answer came up, from boards too, boards took and refused the entries of accepted
-//! crits, lists of board calls went around the places, withdraws were accepted and took back tries, and every walk from a fresh table on kept
-//! the promises of lists.
+//! Exit status 0 only if the archive has the layout that is written out here, none differs, each number of an answer came up, from boards
+//! too, boards took and refused the entries of accepted crits, lists of board calls went around the places, withdraws were accepted and took
+//! back tries, several windows were late at one moment, acts were accepted with nobody in remainder, and every walk from a fresh table on
+//! kept the promises of lists.
 
 use funnelfawn::raw::BOARD;
 use outside::calls::{self, Verdict};
@@ -10,12 +11,12 @@ use outside::lists::{lent_summary, lent_table, Made};
 use outside::tables::start;
 use outside::tally::{of_board, of_other, Outcome, Seen, Tally};
 use outside::{acts, boards, expected, taken_back, texts};
-use reference::answer::{bare, Answer, ACCEPTED};
+use reference::answer::{bare, Answer, ACCEPTED, LATE};
 use reference::board::Told;
 use reference::board_list::{BoardCall, FullList};
 use reference::generator::boards::{list, Family};
 use reference::generator::random::Random;
-use reference::machine::{fresh, Table, Values, WITHDRAW};
+use reference::machine::{fresh, Place, Table, Values, WITHDRAW};
 use reference::promises::Promises;
 use reference::summary::Summary;
 use std::process::exit;
@@ -34,6 +35,9 @@ fn main() {
         eprintln!("usage: differential [COUNT [SEED]]");
         exit(2);
     };
+    if !calls::same_layout() {
+        exit(1);
+    }
     let mut tally = Tally::default();
     let mut index = 0;
     while tally.calls < count {
@@ -103,6 +107,17 @@ fn walk(seed: u64, index: u64, count: u64, tally: &mut Tally) {
         tally.count(walk.call(), || format!("seed {seed}, walk {index}, call {call}"));
     }
     tally.add(&walk.seen);
+}
+
+/// Several windows, and nobody in remainder.
+fn crowded(table: &Table) -> bool {
+    let n = table.values.n;
+    n > 1 && (1..=n).all(|window| table.place(window) != Place::Remainder)
+}
+
+/// Whether a latest moment is that of several windows.
+fn shared(table: &Table, latest: u64) -> bool {
+    (1..=table.values.n).filter(|&window| table.latest(window) == Some(latest)).count() > 1
 }
 
 impl Walk {
@@ -244,8 +259,11 @@ impl Walk {
         if !own {
             return Ok(());
         }
+        let accepted = answer.number == ACCEPTED;
+        self.seen.crowded += u64::from(accepted && crowded(&self.table));
+        self.seen.level += u64::from(answer.number == LATE && shared(&self.table, answer.moment));
+        self.seen.withdraws += u64::from(accepted && call[0] == WITHDRAW);
         self.table = table_in(after).expect("a table stays one");
-        self.seen.withdraws += u64::from(call[0] == WITHDRAW && answer.number == ACCEPTED);
         let Some(promises) = &mut self.promises else { return Ok(()) };
         self.seen.promised += 1;
         promises.after(call, answer, &self.table, |call| calls::accepts(after, call))

@@ -1,7 +1,7 @@
 //! vectors DIRECTORY: makes the stored calls of the five files in DIRECTORY (reference/vectors) and compares all that comes of them.
-//! Exit status 0 only if each file has its calls, all of them, and none differs.
+//! Exit status 0 only if the archive has the layout that is written out here, each file has its calls, all of them, and none differs.
 
-use outside::calls::Verdict;
+use outside::calls::{same_layout, Verdict};
 use outside::stored;
 use std::path::Path;
 use std::process::exit;
@@ -26,6 +26,9 @@ fn main() {
         eprintln!("usage: vectors DIRECTORY");
         exit(2);
     };
+    if !same_layout() {
+        exit(1);
+    }
     let counts = files().map(|(name, due, call)| (due, run(&Path::new(&directory).join(name), call)));
     let calls = counts.map(|(_, (calls, _))| calls.to_string()).join(" + ");
     let differ: usize = counts.iter().map(|(_, (_, differ))| differ).sum();

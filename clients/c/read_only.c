@@ -1,0 +1,365 @@
+/* What the steps write, tried on memory that can only be read: a refused one writes nothing but the count of refused acts, and an accepted
+ * one nothing but its own numbers. A fault is a check that fails. Each check names the line that fails; the last line counts them. */
+#define _DEFAULT_SOURCE
+
+#include "funnelfawn.h"
+
+#include <inttypes.h>
+#include <setjmp.h>
+#include <signal.h>
+#include <stdio.h>
+#include <stdlib.h>
+#include <string.h>
+#include <sys/mman.h>
+
+static unsigned checks, failures;
+
+static void check(int holds, int line, const char *what, uint64_t number)
+{
+    checks++;
+    if (!holds) {
+        failures++;
+        printf("line %d does not hold: %s, %" PRIu64 "\n", line, what, number);
+    }
+}
+
+/* The number tells the case, where there are several. */
+#define CHECK(holds, what, number) check((holds), __LINE__, what, number)
+
+/* Two stretches of memory side by side, of which each can be closed to writing. A list is laid across the seam: so many numbers before it,
+ * the rest behind it. */
+enum { STRETCH = 32768 };
+
+struct ground {
+    char *seam;
+    uint64_t *list;
+    size_t length;
+};
+
+static struct ground table, summary, board;
+
+static void need(int done)
+{
+    if (!done) {
+        perror("read_only");
+        exit(1);
+    }
+}
+
+static void reserve(struct ground *ground)
+{
+    char *start = mmap(NULL, 2 * STRETCH, PROT_READ | PROT_WRITE, MAP_PRIVATE | MAP_ANONYMOUS, -1, 0);
+
+    need(start != MAP_FAILED);
+    ground->seam = start + STRETCH;
+}
+
+static void protect(char *stretch, int protection)
+{
+    need(mprotect(stretch, STRETCH, protection) == 0);
+}
+
+/* Which numbers of a list may be written. */
+enum writable { ALL, NONE, BEFORE, BEHIND };
+
+/* Of a list that may not be written at all the end lies at the seam, and what is behind it may not be read either. */
+static void lay(struct ground *ground, const uint64_t *numbers, size_t length, enum writable writable, size_t before)
+{
+    if (writable == NONE)
+        before = length;
+    protect(ground->seam - STRETCH, PROT_READ | PROT_WRITE);
+    protect(ground->seam, PROT_READ | PROT_WRITE);
+    ground->list = (uint64_t *)ground->seam - before;
+    ground->length = length;
+    if (length != 0)
+        memcpy(ground->list, numbers, length * sizeof *numbers);
+    if (writable == NONE || writable == BEHIND)
+        protect(ground->seam - STRETCH, PROT_READ);
+    if (writable == NONE)
+        protect(ground->seam, PROT_NONE);
+    if (writable == BEFORE)
+        protect(ground->seam, PROT_READ);
+}
+
+static int holds(const struct ground *ground, const uint64_t *numbers)
+{
+    return memcmp(ground->list, numbers, ground->length * sizeof *numbers) == 0;
+}
+
+/* The calls on what is laid out. Where one faults the answer is one that no call gives. */
+enum { FAULTED = 99 };
+
+static sigjmp_buf before_the_call;
+
+static void leave_the_call(int signal)
+{
+    (void)signal;
+    siglongjmp(before_the_call, 1);
+}
+
+struct act {
+    uint64_t act, window, moment;
+};
+
+static uint64_t step(struct act act)
+{
+    if (sigsetjmp(before_the_call, 1) != 0)
+        return FAULTED;
+    return funnelfawn_step(table.list, table.length, act.act, act.window, act.moment).number;
+}
+
+static uint64_t record(struct act act)
+{
+    if (sigsetjmp(before_the_call, 1) != 0)
+        return FAULTED;
+    return funnelfawn_record(table.list, table.length, summary.list, summary.length, act.act, act.window, act.moment).number;
+}
+
+static uint64_t record_and_tell(struct act act)
+{
+    if (sigsetjmp(before_the_call, 1) != 0)
+        return FAULTED;
+    return funnelfawn_record_and_tell(table.list, table.length, summary.list, summary.length, board.list, board.length, act.act, act.window,
+                                      act.moment)
+        .step.number;
+}
+
+/* The two recorded steps, which have to write the same as long as no crit is accepted. */
+static uint64_t (*const recorded[])(struct act) = {record, record_and_tell};
+
+/* The table of the refusals: of two windows, 1 came to checking at 0 and 2 to testing at 6, and the clock is at 7. And a summary. */
+static uint64_t numbers[FUNNELFAWN_TABLE_LENGTH], counts[FUNNELFAWN_SUMMARY_LENGTH], entries[FUNNELFAWN_BOARD_LENGTH];
+
+static void start(void)
+{
+    static const struct act acts[] = {
+        {FUNNELFAWN_ACT_TRY, 1, 0}, {FUNNELFAWN_ACT_TEST, 1, 0}, {FUNNELFAWN_ACT_SET, 1, 0},
+        {FUNNELFAWN_ACT_TRY, 2, 6}, {FUNNELFAWN_ACT_WAIT, 0, 7},
+    };
+
+    CHECK(funnelfawn_fresh(2, 5, 8, 12, numbers, FUNNELFAWN_TABLE_LENGTH).number == FUNNELFAWN_OK, "fresh", 0);
+    CHECK(funnelfawn_new_summary(counts, FUNNELFAWN_SUMMARY_LENGTH).number == FUNNELFAWN_OK, "new summary", 0);
+    CHECK(funnelfawn_set_up_board(30, entries, FUNNELFAWN_BOARD_LENGTH).number == FUNNELFAWN_OK, "set up board", 0);
+    for (size_t i = 0; i < sizeof acts / sizeof acts[0]; i++)
+        CHECK(funnelfawn_record(numbers, FUNNELFAWN_TABLE_LENGTH, counts, FUNNELFAWN_SUMMARY_LENGTH, acts[i].act, acts[i].window,
+                                acts[i].moment)
+                      .number == FUNNELFAWN_OK,
+              "act", i);
+}
+
+/* A wait that would be accepted, were table and summary sound. */
+static const struct act a_wait = {FUNNELFAWN_ACT_WAIT, 0, 7};
+
+/* Nothing of this table and this summary can be written: the answer comes all the same. */
+static void refused_whole(const uint64_t *tabled, size_t tabled_length, const uint64_t *counted, size_t counted_length, uint64_t number,
+                          const char *what)
+{
+    for (size_t i = 0; i < sizeof recorded / sizeof recorded[0]; i++) {
+        lay(&table, tabled, tabled_length, NONE, 0);
+        lay(&summary, counted, counted_length, NONE, 0);
+        lay(&board, entries, FUNNELFAWN_BOARD_LENGTH, NONE, 0);
+        CHECK(recorded[i](a_wait) == number, what, number);
+    }
+}
+
+/* [4.1] Tables that are not sound, in one number each, and too short ones. */
+static void no_table(void)
+{
+    static const struct { size_t place; uint64_t number; } damage[] = {
+        {FUNNELFAWN_AT_N, 0},
+        {FUNNELFAWN_AT_N, 97},
+        {FUNNELFAWN_AT_A, 8},
+        {FUNNELFAWN_AT_CLOCK, UINT64_C(1000000000001)},
+        {FUNNELFAWN_AT_WORD, 3},
+        {FUNNELFAWN_HEADER_LENGTH, 8},
+        {FUNNELFAWN_HEADER_LENGTH + 1, 8},
+        {FUNNELFAWN_HEADER_LENGTH + 2 * FUNNELFAWN_STRIDE, 5},
+        {FUNNELFAWN_TABLE_LENGTH - 1, 1},
+    };
+    static const size_t lengths[] = {0, 1, FUNNELFAWN_HEADER_LENGTH, FUNNELFAWN_TABLE_LENGTH - 1};
+
+    for (size_t i = 0; i < sizeof damage / sizeof damage[0]; i++) {
+        uint64_t damaged[FUNNELFAWN_TABLE_LENGTH];
+
+        memcpy(damaged, numbers, sizeof damaged);
+        damaged[damage[i].place] = damage[i].number;
+        lay(&table, damaged, FUNNELFAWN_TABLE_LENGTH, NONE, 0);
+        CHECK(step(a_wait) == FUNNELFAWN_REFUSED_NO_TABLE, "a step on a damaged table", i);
+        refused_whole(damaged, FUNNELFAWN_TABLE_LENGTH, counts, FUNNELFAWN_SUMMARY_LENGTH, FUNNELFAWN_REFUSED_NO_TABLE, "a damaged table");
+    }
+    for (size_t i = 0; i < sizeof lengths / sizeof lengths[0]; i++) {
+        lay(&table, numbers, lengths[i], NONE, 0);
+        CHECK(step(a_wait) == FUNNELFAWN_REFUSED_NO_TABLE, "a step on a short table", i);
+        refused_whole(numbers, lengths[i], counts, FUNNELFAWN_SUMMARY_LENGTH, FUNNELFAWN_REFUSED_NO_TABLE, "a short table");
+    }
+}
+
+/* [4.2] [4.3] Summaries that are not sound, in one number each, too short ones, and full ones. */
+static void no_summary(void)
+{
+    static const struct { size_t place; uint64_t number, answer; } damage[] = {
+        {FUNNELFAWN_AT_ACCEPTED, UINT64_C(1000000000001), FUNNELFAWN_REFUSED_NO_SUMMARY},
+        {FUNNELFAWN_AT_REFUSED, UINT64_MAX, FUNNELFAWN_REFUSED_NO_SUMMARY},
+        {FUNNELFAWN_AT_ENTRIES, 6, FUNNELFAWN_REFUSED_NO_SUMMARY},
+        {FUNNELFAWN_AT_LONGEST_WAIT, UINT64_C(1000000000001), FUNNELFAWN_REFUSED_NO_SUMMARY},
+        {FUNNELFAWN_AT_TRIES, 8, FUNNELFAWN_REFUSED_NO_SUMMARY},
+        {FUNNELFAWN_SUMMARY_LENGTH - 1, 8, FUNNELFAWN_REFUSED_NO_SUMMARY},
+        {FUNNELFAWN_AT_ACCEPTED, UINT64_C(1000000000000), FUNNELFAWN_REFUSED_SUMMARY_FULL},
+        {FUNNELFAWN_AT_REFUSED, UINT64_C(999999999995), FUNNELFAWN_REFUSED_SUMMARY_FULL},
+    };
+    static const size_t lengths[] = {0, FUNNELFAWN_AT_TRIES, FUNNELFAWN_SUMMARY_LENGTH - 1};
+
+    for (size_t i = 0; i < sizeof damage / sizeof damage[0]; i++) {
+        uint64_t damaged[FUNNELFAWN_SUMMARY_LENGTH];
+
+        memcpy(damaged, counts, sizeof damaged);
+        damaged[damage[i].place] = damage[i].number;
+        refused_whole(numbers, FUNNELFAWN_TABLE_LENGTH, damaged, FUNNELFAWN_SUMMARY_LENGTH, damage[i].answer, "a damaged summary");
+    }
+    for (size_t i = 0; i < sizeof lengths / sizeof lengths[0]; i++)
+        refused_whole(numbers, FUNNELFAWN_TABLE_LENGTH, counts, lengths[i], FUNNELFAWN_REFUSED_NO_SUMMARY, "a short summary");
+}
+
+/* [4.4] to [4.10] The table cannot be written; of the summary only what lies up to the count of refused acts, and then only what lies from
+ * it on. The two have that number alone in common. */
+static void refused_acts(void)
+{
+    static const struct { struct act act; uint64_t number; } refused[] = {
+        {{FUNNELFAWN_ACT_WAIT, 0, 6}, FUNNELFAWN_REFUSED_BACKWARD},
+        {{FUNNELFAWN_ACT_WAIT, 0, UINT64_C(1000000000001)}, FUNNELFAWN_REFUSED_END_OF_CLOCK},
+        {{FUNNELFAWN_ACT_WITHDRAW + 1, 1, 7}, FUNNELFAWN_REFUSED_NO_ACT},
+        {{FUNNELFAWN_ACT_TRY, 3, 7}, FUNNELFAWN_REFUSED_NO_WINDOW},
+        {{FUNNELFAWN_ACT_CRIT, UINT64_MAX, 7}, FUNNELFAWN_REFUSED_NO_WINDOW},
+        {{FUNNELFAWN_ACT_WAIT, 1, 7}, FUNNELFAWN_REFUSED_NO_WINDOW},
+        {{FUNNELFAWN_ACT_TEST, 2, 12}, FUNNELFAWN_REFUSED_LATE},
+        {{FUNNELFAWN_ACT_CRIT, 1, 7}, FUNNELFAWN_REFUSED_OUT_OF_PLACE},
+        {{FUNNELFAWN_ACT_CHECK, 1, 7}, FUNNELFAWN_REFUSED_EARLY},
+    };
+    uint64_t counted[FUNNELFAWN_SUMMARY_LENGTH];
+
+    memcpy(counted, counts, sizeof counted);
+    counted[FUNNELFAWN_AT_REFUSED]++;
+    lay(&table, numbers, FUNNELFAWN_TABLE_LENGTH, NONE, 0);
+    lay(&board, entries, FUNNELFAWN_BOARD_LENGTH, NONE, 0);
+    for (size_t i = 0; i < sizeof refused / sizeof refused[0]; i++) {
+        CHECK(step(refused[i].act) == refused[i].number, "a refused step", refused[i].number);
+        for (size_t k = 0; k < sizeof recorded / sizeof recorded[0]; k++) {
+            lay(&summary, counts, FUNNELFAWN_SUMMARY_LENGTH, BEFORE, FUNNELFAWN_AT_REFUSED + 1);
+            CHECK(recorded[k](refused[i].act) == refused[i].number, "the numbers behind the count", refused[i].number);
+            CHECK(holds(&summary, counted), "the count is raised", refused[i].number);
+            lay(&summary, counts, FUNNELFAWN_SUMMARY_LENGTH, BEHIND, FUNNELFAWN_AT_REFUSED);
+            CHECK(recorded[k](refused[i].act) == refused[i].number, "the numbers before the count", refused[i].number);
+            CHECK(holds(&summary, counted), "the count is raised", refused[i].number);
+        }
+    }
+}
+
+/* The places of an accepted act: up to where it may write, in a table and in a summary. Before its own entry a window has those of the
+ * windows below it, which only the comparison of numbers speaks of. */
+static size_t table_end(struct act act)
+{
+    return FUNNELFAWN_HEADER_LENGTH + FUNNELFAWN_STRIDE * (size_t)act.window;
+}
+
+static size_t summary_end(struct act act)
+{
+    return FUNNELFAWN_AT_TRIES + (size_t)act.window;
+}
+
+/* Nothing but the clock, the word and the entry differs; nothing but the counts and the try moment. */
+static int own_places(struct act act)
+{
+    size_t window = (size_t)act.window;
+
+    for (size_t i = 0; i < FUNNELFAWN_TABLE_LENGTH; i++)
+        if (table.list[i] != numbers[i] && i != FUNNELFAWN_AT_CLOCK && i != FUNNELFAWN_AT_WORD &&
+            (window == 0 || i < table_end(act) - FUNNELFAWN_STRIDE || i >= table_end(act)))
+            return 0;
+    for (size_t i = FUNNELFAWN_AT_TRIES; i < FUNNELFAWN_SUMMARY_LENGTH; i++)
+        if (summary.list[i] != counts[i] && (window == 0 || i + 1 != summary_end(act)))
+            return 0;
+    return summary.list[FUNNELFAWN_AT_ACCEPTED] == counts[FUNNELFAWN_AT_ACCEPTED] + 1 && table.list[FUNNELFAWN_AT_CLOCK] == act.moment;
+}
+
+/* [9.130] Accepted acts: what a window has behind its own numbers cannot be written; then n, a, b and c cannot. */
+static void accepted_act(struct act act)
+{
+    lay(&table, numbers, FUNNELFAWN_TABLE_LENGTH, BEFORE, table_end(act));
+    CHECK(step(act) == FUNNELFAWN_OK, "the entries behind, by a step", act.act);
+    lay(&board, entries, FUNNELFAWN_BOARD_LENGTH, act.act == FUNNELFAWN_ACT_CRIT ? ALL : NONE, 0);
+    for (size_t k = 0; k < sizeof recorded / sizeof recorded[0]; k++) {
+        lay(&table, numbers, FUNNELFAWN_TABLE_LENGTH, BEFORE, table_end(act));
+        lay(&summary, counts, FUNNELFAWN_SUMMARY_LENGTH, BEFORE, summary_end(act));
+        CHECK(recorded[k](act) == FUNNELFAWN_OK, "the numbers behind", act.act);
+        CHECK(own_places(act), "the own numbers", act.act);
+        lay(&table, numbers, FUNNELFAWN_TABLE_LENGTH, BEHIND, FUNNELFAWN_AT_CLOCK);
+        lay(&summary, counts, FUNNELFAWN_SUMMARY_LENGTH, ALL, 0);
+        CHECK(recorded[k](act) == FUNNELFAWN_OK, "n, a, b, c", act.act);
+        CHECK(own_places(act), "the own numbers", act.act);
+    }
+    memcpy(numbers, table.list, sizeof numbers);
+    memcpy(counts, summary.list, sizeof counts);
+}
+
+/* A window goes once round, with a test that finds the word taken, a check that finds another's, a withdraw and waits. */
+static void accepted(uint64_t window, uint64_t other)
+{
+    const struct act acts[] = {
+        {FUNNELFAWN_ACT_WAIT, 0, 1},          {FUNNELFAWN_ACT_TRY, window, 2},      {FUNNELFAWN_ACT_TRY, other, 2},
+        {FUNNELFAWN_ACT_TEST, window, 3},     {FUNNELFAWN_ACT_TEST, other, 3},      {FUNNELFAWN_ACT_SET, other, 4},
+        {FUNNELFAWN_ACT_SET, window, 5},      {FUNNELFAWN_ACT_CHECK, other, 12},    {FUNNELFAWN_ACT_CHECK, window, 13},
+        {FUNNELFAWN_ACT_TEST, other, 14},     {FUNNELFAWN_ACT_WITHDRAW, other, 15}, {FUNNELFAWN_ACT_CRIT, window, 16},
+        {FUNNELFAWN_ACT_WAIT, 0, 17},         {FUNNELFAWN_ACT_EXIT, window, 18},    {FUNNELFAWN_ACT_RESET, window, 19},
+        {FUNNELFAWN_ACT_REM, window, 20},
+    };
+
+    CHECK(funnelfawn_fresh(96, 5, 8, 12, numbers, FUNNELFAWN_TABLE_LENGTH).number == FUNNELFAWN_OK, "fresh", 0);
+    CHECK(funnelfawn_new_summary(counts, FUNNELFAWN_SUMMARY_LENGTH).number == FUNNELFAWN_OK, "new summary", 0);
+    for (size_t i = 0; i < sizeof acts / sizeof acts[0]; i++)
+        accepted_act(acts[i]);
+    CHECK(counts[FUNNELFAWN_AT_ACCEPTED] == sizeof acts / sizeof acts[0] && counts[FUNNELFAWN_AT_LONGEST_WAIT] == 14, "the summary", window);
+}
+
+/* Whether it faults to write a number that is there already. */
+static int faults(uint64_t *place)
+{
+    volatile uint64_t *written = place;
+
+    if (sigsetjmp(before_the_call, 1) != 0)
+        return 1;
+    *written = *written;
+    return 0;
+}
+
+/* A write that is not allowed is found, on either side of the seam: or nothing here would show anything. */
+static void faults_are_found(void)
+{
+    lay(&table, numbers, FUNNELFAWN_TABLE_LENGTH, NONE, 0);
+    CHECK(faults(table.list) && faults(table.list + FUNNELFAWN_TABLE_LENGTH - 1), "a list that is closed", 0);
+    lay(&table, numbers, FUNNELFAWN_TABLE_LENGTH, BEFORE, 1);
+    CHECK(!faults(table.list) && faults(table.list + 1), "behind the seam", 1);
+    lay(&table, numbers, FUNNELFAWN_TABLE_LENGTH, BEHIND, 1);
+    CHECK(faults(table.list) && !faults(table.list + 1), "before the seam", 1);
+    lay(&table, numbers, FUNNELFAWN_TABLE_LENGTH, ALL, 1);
+    CHECK(!faults(table.list) && !faults(table.list + 1), "a list that is open", 1);
+}
+
+int main(void)
+{
+    struct sigaction action = {0};
+
+    action.sa_handler = leave_the_call;
+    need(sigaction(SIGSEGV, &action, NULL) == 0);
+    need(funnelfawn_layout() == FUNNELFAWN_LAYOUT);
+    reserve(&table), reserve(&summary), reserve(&board);
+    start();
+    faults_are_found();
+    no_table();
+    no_summary();
+    refused_acts();
+    accepted(1, 96);
+    accepted(96, 1);
+    accepted(40, 41);
+    printf("%u checks of what is written, %u failed\n", checks, failures);
+    return failures != 0;
+}
