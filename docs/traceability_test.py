@@ -67,10 +67,10 @@ EDITS = [
     (
         "so does a file that a customer reads",
         [
-            ("crates/trace/specs/Passes.antt", "use Prim", "use Rattle.funnelfawn.specs.Loading.{Loads}\nuse Prim"),
+            ("crates/trace/specs/Passes.antt", "use Prim", "use Rattle.layout.specs.Steps.{surveyIn}\nuse Prim"),
             ("crates/trace/specs/Passes.antt", "For the proofs only.", ""),
         ],
-        "Loads is for the proofs only",
+        "surveyIn is for the proofs only",
     ),
     (
         "a public function asks for something",
