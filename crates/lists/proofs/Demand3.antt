@@ -41,7 +41,7 @@ owed-room s w ds g span = omega (arith, parameters-stand (g .reached) .limits, v
 
 -- One critical process
 
-one-critical : {k : Parameters} {s : State} → Guarded k s → OneCritical s
+pub one-critical : {k : Parameters} {s : State} → Guarded k s → OneCritical s
 one-critical g i j h l = one-owner (g .inv) i j (critical-owns h) (critical-owns l)
 
 names-the-only : {s : State} {d : Call} {o : Outcome} → Called s d o → OneCritical (o .state) → Accepted o → NamesTheOnly o

@@ -33,6 +33,13 @@ pub record IsTrying (s : State) (i : ℕ) : Type 0 where
   pub from : 1 ≤ i
   pub at : trying (entryOf s i .location) ≡ true
 
+-- [2.110] the locations of a process that is trying
+pub data Tries : Location → Type 0 where
+  testing : {t : ℕ} → Tries (Testing t)
+  setting : {t : ℕ} → Tries (Setting t)
+  checking : {t : ℕ} → Tries (Checking t)
+  entering : {t : ℕ} → Tries (Entering t)
+
 -- [8.120] an act by which its process does not leave the line
 abbrev pub LeadsOn : ℕ → Type 0
 LeadsOn act = act ≢ withdrawAct

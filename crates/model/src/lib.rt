@@ -105,14 +105,14 @@ pub struct Counts {
     // accepted crits and exits
     pub entries: u64,
     pub exits: u64,
-    // from a try to its crit
+    // from a try to its crit, unused time alone
     pub longest: u64,
 }
 
-// [5.10] The try time of process p, from 1, has the place p - 1.
+// [5.10] What process p, from 1, has waited so far has the place p - 1.
 pub struct Statistics {
     pub counts: Counts,
-    pub tries: [u64; 96],
+    pub waited: [u64; 96],
 }
 
 // [5.30] What a recorded step gives back: the outcome, and the summary brought up to date.

@@ -1,24 +1,29 @@
--- Laws of counts over lists: how many entries are critical, that no try time is after the clock, and what an attempt adds to
--- the tally of a log. Assumes nothing.
-use Prim.Native.Nat.{ℕ, zero, suc, _+_, _≤_, _<_}
+-- Laws of how many entries are critical. Assumes nothing.
+use Prim.Native.Nat.{ℕ, zero, suc, _+_, _<_}
 use mathlib.Core.Path.{_≡_, refl}
-use mathlib.Core.Bool.{false, cond}
+use mathlib.Core.Bool.{cond}
 use mathlib.Core.List.{List, [], _∷_}
 use native.Mathlib.Omega.{arith}
 use lib.Dec.{eqb}
 use lib.ListN.{length, getD, set}
+use borrow.Author.Tests.{eqb-true}
 use Rattle.model.specs.declared.Location.{Location}
-use Rattle.model.specs.declared.Location.the-variants.{Remainder}
+use Rattle.model.specs.declared.Location.the-variants.{Remainder, Critical}
 use Rattle.model.specs.declared.Process.{Process}
 use Rattle.model.specs.Stages.{critical}
 use Rattle.model.specs.States.{idle, stageOf}
-use Rattle.model.specs.Tallies.{Attempt, isTry, isEntry, isExit, countOf, lastTry, longestWait, criticalCount}
-
--- Critical entries
+use Rattle.model.specs.Tallies.{criticalCount}
+use Rattle.model.proofs.Tests.{by-test}
+use Rattle.model.proofs.Locations.{stage-location}
 
 -- what an entry in a location adds to their count
 abbrev pub weight : Location → ℕ
 weight l = cond (eqb (stageOf l) critical) 1 0
+
+pub weight-critical : (l : Location) → weight l ≡ 1 → l ≡ Critical
+weight-critical l h = by-test (eqb (stageOf l) critical)
+    (λ e. stage-location l (eqb-true _ _ e))
+    (λ e. absurd (omega (arith, rw e at h)))
 
 -- an entry takes the place of another
 pub count-set : (qs : List Process) (k : ℕ) (q : Process) → k < length qs
@@ -32,37 +37,3 @@ pub count-idle : (qs : List Process) → ((k : ℕ) → getD qs k idle .location
 unfolding criticalCount
 count-idle [] h = refl
 count-idle (q ∷ qs) h = rw (h 0) (omega (arith, count-idle qs (λ k. h (suc k))))
-
--- Try times
-
-pub past-set : {clock : ℕ} (ts : List ℕ) (i v : ℕ) → v ≤ clock → ((k : ℕ) → getD ts k 0 ≤ clock)
-    → (k : ℕ) → getD (set ts i v) k 0 ≤ clock
-past-set [] i v f h k = h k
-past-set (t ∷ ts) zero v f h zero = f
-past-set (t ∷ ts) zero v f h (suc k) = h (suc k)
-past-set (t ∷ ts) (suc i) v f h zero = h 0
-past-set (t ∷ ts) (suc i) v f h (suc k) = past-set ts i v f (λ j. h (suc j)) k
-
--- Logs
-
--- an attempt that is no accepted try, crit or exit
-pub record Unmarked (e : Attempt) : Type 0 where
-  pub no-try : (i : ℕ) → isTry i e ≡ false
-  pub no-entry : isEntry e ≡ false
-  pub no-exit : isExit e ≡ false
-
--- what it leaves as it was
-pub record Skipped (e : Attempt) (log : List Attempt) : Type 0 where
-  pub tries : (i : ℕ) → lastTry i (e ∷ log) ≡ lastTry i log
-  pub entries : countOf isEntry (e ∷ log) ≡ countOf isEntry log
-  pub exits : countOf isExit (e ∷ log) ≡ countOf isExit log
-  pub longest : longestWait (e ∷ log) ≡ longestWait log
-
-pub skipped : {e : Attempt} (log : List Attempt) → Unmarked e → Skipped e log
-unfolding countOf longestWait lastTry
-skipped log u = record {
-  tries = λ i. rw (u .no-try i);
-  entries = rw (u .no-entry) (omega arith);
-  exits = rw (u .no-exit) (omega arith);
-  longest = rw (u .no-entry);
-}

@@ -1,4 +1,9 @@
 pub mod CountLaws
 pub mod ActKinds
+pub mod Logs
+pub mod Critical
+pub mod States
+pub mod Waits
 pub mod Countings
 pub mod Tallies
+pub mod Cases

@@ -105,11 +105,7 @@ module _ (s : State) (act p m : ℕ) where
         from = placed-from s p (placed-told s act p (h .known) .0 (h .placed) n) (λ c. omega (arith, (simp tests at (h .released)) c));
       }))
 
--- an act whose turn it is is of a process that there is, or of process 0, which can only wait
+-- an act whose turn it is is of a process that there is, or of process 0
 pub turn-named : {s : State} {act p m : ℕ} → Waits act p ⊎ Acts s act p m → p ≤ s .parameters .n
 turn-named (inl w) = omega (arith, w .nobody)
 turn-named (inr a) = a .most
-
-pub turn-waits : {s : State} {act p m : ℕ} → Waits act p ⊎ Acts s act p m → p ≡ 0 → act ≡ waitAct
-turn-waits (inl w) e = w .wait
-turn-waits (inr a) e = absurd (omega (arith, a .some))

@@ -13,5 +13,7 @@ pub mod StaysSound
 pub mod TakenBack
 -- A recorded step
 pub mod RecordedSteps
+pub mod Waits
 pub mod Countings
 pub mod Summaries
+pub mod SoundSummaries

@@ -1,4 +1,4 @@
--- What a location tells, its arrival and its deadline: the relations of `Facts` against the functions of `States`.
+-- What a location tells, its arrival, its deadline and whether its process is trying: the relations of `Facts` against the functions of `States`.
 -- These laws look at each location, so that other proofs need not. Assumes nothing.
 use Prim.Native.Nat.{ℕ, _+_, _≤_}
 use mathlib.Core.Path.{_≡_, refl, sym, _∙_}
@@ -10,8 +10,9 @@ use Rattle.model.specs.declared.Location.the-variants.{Remainder, Testing, Sett
 use Rattle.model.specs.declared.Process.{Process}
 use Rattle.model.specs.declared.State.{State}
 use Rattle.model.specs.Stages.{remainder, checking, critical}
-use Rattle.model.specs.States.{stageOf, timed, sinceOf, limitIn, bounded, deadline, late, stay}
-use Rattle.model.specs.Facts.{Arrival, Deadline}
+use Rattle.model.specs.States.{stageOf, timed, sinceOf, limitIn, bounded, deadline, late, stay, trying}
+use Rattle.model.specs.Facts.{Tries, Arrival, Deadline}
+use Rattle.theory.specs.Summaries.{TryingIffPlain}
 use Rattle.model.proofs.Tests.{tests}
 
 -- Arrivals
@@ -37,6 +38,27 @@ since-past k (Leaving t) h = h t Arrival.leaving
 -- what has no arrival, `sinceOf` puts at 0, which is past
 pub past-iff : (k : ℕ) (l : Location) → (sinceOf l ≤ k) ↔ ((t : ℕ) → Arrival l t → t ≤ k)
 past-iff k l = (λ h t a. omega (arith, arrival-since a), since-past k l)
+
+-- Who is trying
+
+tries-test : {l : Location} → Tries l → trying l ≡ true
+tries-test Tries.testing = refl
+tries-test Tries.setting = refl
+tries-test Tries.checking = refl
+tries-test Tries.entering = refl
+
+test-tries : (l : Location) → trying l ≡ true → Tries l
+test-tries Remainder e = absurd (false≢true e)
+test-tries (Testing t) e = Tries.testing
+test-tries (Setting t) e = Tries.setting
+test-tries (Checking t) e = Tries.checking
+test-tries (Entering t) e = Tries.entering
+test-tries Critical e = absurd (false≢true e)
+test-tries (Resetting t) e = absurd (false≢true e)
+test-tries (Leaving t) e = absurd (false≢true e)
+
+pub trying-iff-plain : TryingIffPlain
+trying-iff-plain l = (test-tries l, tries-test)
 
 -- Deadlines
 

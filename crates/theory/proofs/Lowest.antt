@@ -85,8 +85,14 @@ module _ (s : State) where
   some-lowest (none k) n = absurd (n refl)
   some-lowest (found f) n = lowest-critical f
 
+  pub nobody-critical : (criticalOf s ≡ 0) ↔ ((i : ℕ) → IsCritical s i → ⊥)
+  nobody-critical = none-iff critical-searched
+
+  pub somebody-critical : criticalOf s ≢ 0 → LowestCritical s (criticalOf s)
+  somebody-critical = some-lowest critical-searched
+
   accepts-tells : Tells (accepts s)
-  accepts-tells = record { none = none-iff critical-searched; some = some-lowest critical-searched; clock = refl }
+  accepts-tells = record { none = nobody-critical; some = somebody-critical; clock = refl }
 
 -- The answer of a step
 

@@ -27,7 +27,7 @@ module _ (s : State) (x : Statistics) (act p m : ℕ) where
     no-summary : soundOf s ≡ true → statisticsSound (s .clock) x ≡ false → Judged (beside x (answers 2 0 0 s))
     filled : soundOf s ≡ true → statisticsSound (s .clock) x ≡ true → x .counts .accepted + x .counts .refused ≡ mostActs
         → Judged (beside x (answers 3 0 0 s))
-    counted : Open → Judged (counting x act p m (stepOf s act p m))
+    counted : Open → Judged (counting s x act p m (stepOf s act p m))
 
   pub judged : Judged (recordedOf s x act p m)
   unfolding recordedOf
@@ -48,17 +48,17 @@ module _ (s : State) (x : Statistics) (act p m : ℕ) where
 
   -- What is counted, by the number of the answer
 
-  pub answer-accepted : {code : ℕ} → code ≡ 0 → answerCounted x code act p m ≡ acceptedCounted x act p m
+  pub answer-accepted : {code : ℕ} → code ≡ 0 → answerCounted s x code act p m ≡ acceptedCounted s x act p m
   unfolding answerCounted
   answer-accepted e = rw e
 
-  pub answer-refused : {code : ℕ} → code ≢ 0 → answerCounted x code act p m ≡ refusedCounted x
+  pub answer-refused : {code : ℕ} → code ≢ 0 → answerCounted s x code act p m ≡ refusedCounted x
   unfolding answerCounted
   answer-refused {code} n = rw (ne-eqb code 0 n)
 
   -- 0 and the codes from 4 on are those of a step, so it was counted
 
-  pub accepted-counted : {r : Recorded} → Judged r → r .outcome .answer .code ≡ 0 → r .statistics ≡ acceptedCounted x act p m
+  pub accepted-counted : {r : Recorded} → Judged r → r .outcome .answer .code ≡ 0 → r .statistics ≡ acceptedCounted s x act p m
   accepted-counted (no-table _) e = absurd (omega arith)
   accepted-counted (no-summary _ _) e = absurd (omega arith)
   accepted-counted (filled _ _ _) e = absurd (omega arith)

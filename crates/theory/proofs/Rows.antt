@@ -3,7 +3,7 @@
 use Prim.Native.Nat.{ℕ, _+_, _≤_}
 use mathlib.Core.Path.{_≡_, refl, sym, ap, _∙_, subst}
 use mathlib.Core.Logic.{_≢_}
-use mathlib.Core.Bool.{cond}
+use mathlib.Core.Bool.{false, cond, true≢false}
 use native.Mathlib.Omega.{arith}
 use lib.Dec.{eqb}
 use borrow.Author.Tests.{eqb-true, eqb-false}
@@ -12,8 +12,9 @@ use Rattle.model.specs.declared.Location.the-variants.{Remainder, Testing, Sett
 use Rattle.model.specs.declared.State.{State}
 use Rattle.model.specs.Stages.{remainder, testing, setting, checking, entering, critical, resetting, leaving}
 use Rattle.model.specs.Acts.{waitAct, tryAct, testAct, setAct, checkAct, critAct, exitAct, resetAct, remAct, withdrawAct, lastAct, leaves}
-use Rattle.model.specs.States.{stageOf, sinceOf, release, entryOf}
+use Rattle.model.specs.States.{stageOf, sinceOf, release, trying, entryOf}
 use Rattle.model.specs.Actions.{transitionOf}
+use Rattle.model.specs.Summaries.{clears}
 use Rattle.theory.specs.Acceptance.{From, Effect}
 use Rattle.theory.specs.Refusals.{InPlace}
 use Rattle.model.proofs.Tests.{by-cond}
@@ -133,3 +134,19 @@ row-effect s p From.exit = Effect.exit
 row-effect s p From.reset = Effect.reset
 row-effect s p From.rem = Effect.rem
 row-effect s p From.withdraw = Effect.withdraw
+
+-- Who is trying after it: who was before, unless a wait starts or ends
+
+pub trying-kept : {b p m act w w′ : ℕ} {l l′ : Location} → From b m act l → Effect p m act w l′ w′ → clears act ≡ false
+    → trying l′ ≡ trying l
+trying-kept From.try Effect.try e = absurd (true≢false e)
+trying-kept From.test Effect.test-free e = refl
+trying-kept From.test (Effect.test-taken _) e = refl
+trying-kept From.set Effect.set e = refl
+trying-kept (From.check _) Effect.check-own e = refl
+trying-kept (From.check _) (Effect.check-other _) e = refl
+trying-kept From.crit Effect.crit e = absurd (true≢false e)
+trying-kept From.exit Effect.exit e = refl
+trying-kept From.reset Effect.reset e = refl
+trying-kept From.rem Effect.rem e = refl
+trying-kept From.withdraw Effect.withdraw e = absurd (true≢false e)

@@ -13,11 +13,10 @@ use Rattle.model.specs.declared.Statistics.{Statistics}
 use Rattle.model.specs.declared.Recorded.{Recorded}
 use Rattle.model.specs.States.{soundOf}
 use Rattle.model.specs.Answers.{stepOf}
-use Rattle.model.specs.Summaries.{triesSound, countsSound, statisticsSound, counting}
+use Rattle.model.specs.Summaries.{waitedSound, countsSound, statisticsSound, counting}
 use Rattle.theory.specs.Summaries.{SummarySound, SummarySoundIffPlain, HasRoom, RecordedTells, RecordedIsPlain, EveryActCounted}
 use Rattle.model.proofs.Tests.{if-eq, and-true-iff, clash, tests}
 use Rattle.theory.proofs.Soundness.{sound-iff-plain}
-use Rattle.theory.proofs.Conditions.{turn-named, turn-waits}
 use Rattle.theory.proofs.Acceptance.{accepted-iff-allowed, refused-stays}
 use Rattle.theory.proofs.Steps.{unsound-iff-one, unsound-is, step-refuses}
 use Rattle.theory.proofs.RecordedSteps.{Open, Judged, judged, accepted-counted, refused-counted}
@@ -25,23 +24,23 @@ use Rattle.theory.proofs.Countings.{refused-added, accepted-added}
 
 -- Soundness
 
-tries-past : (clock : ℕ) (l : List ℕ) → triesSound clock l ≡ true → (k : ℕ) → getD l k 0 ≤ clock
-unfolding triesSound
-tries-past clock [] e k = omega arith
-tries-past clock (t ∷ ts) e zero = omega (arith, (simp tests at e) .0)
-tries-past clock (t ∷ ts) e (suc k) = tries-past clock ts (and-true-iff (leb t clock) _ .0 e .1) k
+sound-fits : (clock : ℕ) (l : List ℕ) → waitedSound clock l ≡ true → (k : ℕ) → getD l k 0 ≤ clock
+unfolding waitedSound
+sound-fits clock [] e k = omega arith
+sound-fits clock (w ∷ ws) e zero = omega (arith, (simp tests at e) .0)
+sound-fits clock (w ∷ ws) e (suc k) = sound-fits clock ws (and-true-iff (leb w clock) _ .0 e .1) k
 
-past-sound : (clock : ℕ) (ts : List ℕ) → ((k : ℕ) → getD ts k 0 ≤ clock) → triesSound clock ts ≡ true
-unfolding triesSound
-past-sound clock [] h = refl
-past-sound clock (t ∷ ts) h = and-true-iff _ _ .1 (le-leb t clock (h 0), past-sound clock ts (λ k. h (suc k)))
+fits-sound : (clock : ℕ) (ws : List ℕ) → ((k : ℕ) → getD ws k 0 ≤ clock) → waitedSound clock ws ≡ true
+unfolding waitedSound
+fits-sound clock [] h = refl
+fits-sound clock (w ∷ ws) h = and-true-iff _ _ .1 (le-leb w clock (h 0), fits-sound clock ws (λ k. h (suc k)))
 
 pub summary-sound-iff-plain : SummarySoundIffPlain
 unfolding statisticsSound
 summary-sound-iff-plain clock x = (
   λ e. let h = and-true-iff (countsSound (x .counts)) _ .0 e in
-      record { counts = omega (arith, simp tests at (h .0)); tries = tries-past clock (x .tries) (h .1) },
-  λ h. simp tests (omega (arith, h .counts), past-sound clock (x .tries) (h .tries)),
+      record { counts = omega (arith, simp tests at (h .0)); waited = sound-fits clock (x .waited) (h .1) },
+  λ h. simp tests (omega (arith, h .counts), fits-sound clock (x .waited) (h .waited)),
 )
 
 unsound-summary : {clock : ℕ} {x : Statistics} → statisticsSound clock x ≡ false → SummarySound clock x → ⊥
@@ -61,7 +60,7 @@ module _ (s : State) (x : Statistics) (act p m : ℕ) where
   open-room : Open s x act p m → HasRoom (s .clock) x
   open-room o = record { sound = summary-sound-iff-plain (s .clock) x .0 (o .summary); not-full = o .not-full }
 
-  counted-tells : soundOf s ≡ true → HasRoom (s .clock) x → Tells (counting x act p m (stepOf s act p m))
+  counted-tells : soundOf s ≡ true → HasRoom (s .clock) x → Tells (counting s x act p m (stepOf s act p m))
   counted-tells sound room =
       let none = step-none sound in
       record {
@@ -116,7 +115,5 @@ every-act-counted s x plain room size act p m =
       );
       accepted = λ e.
           let allowed = accepted-iff-allowed s sound act p m .0 (rw step at e) in
-          let count = plain .parameters .count in
-          rw (accepted-counted s x act p m why e) (accepted-added x act p m size (omega (arith, turn-named (allowed .turn)))
-          (turn-waits (allowed .turn)) (omega (arith, room .sound .tries (p - 1), allowed .forward)));
+          rw (accepted-counted s x act p m why e) (accepted-added plain allowed x size);
     }

@@ -5,13 +5,15 @@ use mathlib.Core.Path.{_≡_}
 use mathlib.Core.Logic.{_≢_, _↔_}
 use mathlib.Core.Bool.{true, false}
 use lib.ListN.{length, getD}
+use Rattle.model.specs.declared.Location.{Location}
 use Rattle.model.specs.declared.State.{State}
 use Rattle.model.specs.declared.Counts.{Counts}
 use Rattle.model.specs.declared.Statistics.{Statistics}
 use Rattle.model.specs.declared.Recorded.{Recorded}
 use Rattle.model.specs.Acts.{tryAct, critAct, exitAct, withdrawAct}
-use Rattle.model.specs.States.{lastTime, soundOf}
+use Rattle.model.specs.States.{lastTime, trying, soundOf}
 use Rattle.model.specs.Answers.{answerOf, stepOf}
+use Rattle.model.specs.Facts.{IsCritical, IsTrying, Tries}
 use Rattle.theory.specs.Soundness.{Sound}
 use Rattle.model.specs.Summaries.{mostActs, statisticsSound, recordedOf}
 
@@ -24,8 +26,8 @@ pub record CountsSound (k : Counts) : Type 0 where
 -- [5.40] beside a table with this clock
 pub record SummarySound (clock : ℕ) (x : Statistics) : Type 0 where
   pub counts : CountsSound (x .counts)
-  -- past the list's end 0 is looked at, which is after no clock
-  pub tries : (k : ℕ) → getD (x .tries) k 0 ≤ clock
+  -- past the list's end 0 is looked at, which no clock is below
+  pub waited : (k : ℕ) → getD (x .waited) k 0 ≤ clock
 
 -- [5.40]
 abbrev pub SummarySoundIffPlain : Type 0
@@ -69,37 +71,53 @@ pub record RefusedAdded (x y : Statistics) : Type 0 where
   pub entries-stay : y .counts .entries ≡ x .counts .entries
   pub exits-stay : y .counts .exits ≡ x .counts .exits
   pub longest-stays : y .counts .longest ≡ x .counts .longest
-  pub tries-stay : y .tries ≡ x .tries
+  pub waited-stays : y .waited ≡ x .waited
 
--- [5.10] the try time of process p, from 1
-abbrev pub tryTime : Statistics → ℕ → ℕ
-tryTime x p = getD (x .tries) (p - 1) 0
+-- [2.110] that a process is trying, which the facts below ask, is a matter of its location alone
+abbrev pub TryingIffPlain : Type 0
+TryingIffPlain = (l : Location) → (trying l ≡ true) ↔ Tries l
 
--- [5.70] [5.80] [5.90] what an accepted act at the time m makes of the entries, the exits, the longest wait and the try time of its process
-pub data Counting (m : ℕ) : (act entries exits longest tried : ℕ) → (entries′ exits′ longest′ tried′ : ℕ) → Type 0 where
-  -- [5.80]
-  try : {e x l t : ℕ} → Counting m tryAct e x l t e x l m
-  -- [5.70] [5.80] [5.90] a crit that ends a longer wait w than any before
-  crit-longer : {e x l t w : ℕ} → t + w ≡ m → l < w → Counting m critAct e x l t (e + 1) x w 0
-  -- [5.70] [5.80] [5.90] a crit that ends no longer one
-  crit : {e x l t w : ℕ} → t + w ≡ m → w ≤ l → Counting m critAct e x l t (e + 1) x l 0
-  -- [5.70]
-  exit : {e x l t : ℕ} → Counting m exitAct e x l t e (x + 1) l t
-  -- [5.70] [5.80]
-  withdraw : {e x l t : ℕ} → Counting m withdrawAct e x l t e x l 0
-  -- [5.70] [5.80] any other act
-  other : {act e x l t : ℕ} → act ≢ tryAct → act ≢ critAct → act ≢ exitAct → act ≢ withdrawAct
-      → Counting m act e x l t e x l t
+-- [5.75] d is the unused time of an act at the time m: the clock moves on by d and nobody is critical, or somebody is and d is 0
+pub data Unused (s : State) (m : ℕ) : ℕ → Type 0 where
+  free : {d : ℕ} → ((i : ℕ) → IsCritical s i → ⊥) → s .clock + d ≡ m → Unused s m d
+  used : (i : ℕ) → IsCritical s i → Unused s m 0
 
--- [5.70] [5.80] [5.90] y is the summary x with the accepted act of process p at the time m counted
-pub record AcceptedAdded (act p m : ℕ) (x y : Statistics) : Type 0 where
+-- [5.70] [5.90] what an accepted act makes of the entries, the exits and the longest wait; a crit ends the wait w
+pub data Counting (w : ℕ) : (act entries exits longest entries′ exits′ longest′ : ℕ) → Type 0 where
+  -- a crit that ends a longer wait than any before
+  crit-longer : {e x l : ℕ} → l < w → Counting w critAct e x l (e + 1) x w
+  -- a crit that ends no longer one
+  crit : {e x l : ℕ} → w ≤ l → Counting w critAct e x l (e + 1) x l
+  exit : {e x l : ℕ} → Counting w exitAct e x l e (x + 1) l
+  other : {act e x l : ℕ} → act ≢ critAct → act ≢ exitAct → Counting w act e x l e x l
+
+-- [5.80] an act that starts or ends a wait of its process
+pub data Clears : ℕ → Type 0 where
+  try : Clears tryAct
+  crit : Clears critAct
+  withdraw : Clears withdrawAct
+
+-- [5.10] what process p, from 1, has waited so far
+abbrev pub waitedSoFar : Statistics → ℕ → ℕ
+waitedSoFar x p = getD (x .waited) (p - 1) 0
+
+-- [5.75] [5.80] what the processes have waited so far after the act, in y, from what they had before it, in x; d is its unused time
+pub record Waiting (s : State) (act p d : ℕ) (x y : Statistics) : Type 0 where
+  pub cleared : Clears act → waitedSoFar y p ≡ 0
+  pub trying : (i : ℕ) → IsTrying s i → (Clears act → i ≢ p) → waitedSoFar y i ≡ waitedSoFar x i + d
+  pub others : (i : ℕ) → 1 ≤ i → (IsTrying s i → ⊥) → (Clears act → i ≢ p) → waitedSoFar y i ≡ waitedSoFar x i
+  pub size-stays : length (y .waited) ≡ length (x .waited)
+
+-- [5.70] [5.75] [5.80] [5.90] y is the summary x with the accepted act of process p at the time m in the state s counted
+pub record AcceptedAdded (s : State) (act p m : ℕ) (x y : Statistics) : Type 0 where
   pub accepted-rises : y .counts .accepted ≡ x .counts .accepted + 1
   pub refused-stays : y .counts .refused ≡ x .counts .refused
-  pub counting : Counting m act (x .counts .entries) (x .counts .exits) (x .counts .longest) (tryTime x p)
-      (y .counts .entries) (y .counts .exits) (y .counts .longest) (tryTime y p)
-  -- a wait is of process 0, so that it keeps all
-  pub others-stay : (i : ℕ) → 1 ≤ i → i ≢ p → tryTime y i ≡ tryTime x i
-  pub size-stays : length (y .tries) ≡ length (x .tries)
+  pub unused : ℕ
+  pub is-unused : Unused s m unused
+  -- the wait that a crit ends: what its process has waited so far, and the unused time of the crit itself
+  pub counting : Counting (waitedSoFar x p + unused) act (x .counts .entries) (x .counts .exits) (x .counts .longest)
+      (y .counts .entries) (y .counts .exits) (y .counts .longest)
+  pub waiting : Waiting s act p unused x y
 
 -- [5.30] the recorded step r of the state s and the summary x counts its act, and is the step but for that
 pub record ActCounted (s : State) (x : Statistics) (act p m : ℕ) (r : Recorded) : Type 0 where
@@ -107,11 +125,16 @@ pub record ActCounted (s : State) (x : Statistics) (act p m : ℕ) (r : Recorded
   pub step : r .outcome ≡ stepOf s act p m
   -- [5.100] [4.110]
   pub refused : r .outcome .answer .code ≢ 0 → (r .outcome .state ≡ s) × RefusedAdded x (r .statistics)
-  -- [5.70] [5.80] [5.90]
-  pub accepted : r .outcome .answer .code ≡ 0 → AcceptedAdded act p m x (r .statistics)
+  -- [5.70] [5.75] [5.80] [5.90]
+  pub accepted : r .outcome .answer .code ≡ 0 → AcceptedAdded s act p m x (r .statistics)
 
--- [5.70] [5.80] [5.90] [5.100] [5.110] beside a sound state any summary that is sound and not full, whoever made it, counts every act; it
--- has 96 try times, as each of the code does
+-- [5.70] [5.75] [5.80] [5.90] [5.100] [5.110] beside a sound state any summary that is sound and not full, whoever made it, counts every act;
+-- it has 96 waits so far, as each of the code does
 abbrev pub EveryActCounted : Type 0
-EveryActCounted = (s : State) (x : Statistics) → Sound s → HasRoom (s .clock) x → length (x .tries) ≡ 96
+EveryActCounted = (s : State) (x : Statistics) → Sound s → HasRoom (s .clock) x → length (x .waited) ≡ 96
     → (act p m : ℕ) → ActCounted s x act p m (recordedOf s x act p m)
+
+-- [5.112] a summary that is sound beside the state is sound beside the one that a recorded step gives back
+abbrev pub SummaryStaysSound : Type 0
+SummaryStaysSound = (s : State) (x : Statistics) → SummarySound (s .clock) x → (act p m : ℕ)
+    → SummarySound (recordedOf s x act p m .outcome .state .clock) (recordedOf s x act p m .statistics)
