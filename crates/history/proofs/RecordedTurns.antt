@@ -79,7 +79,7 @@ log-onto log r (e ∷ es) (b ∷ bs) = log-onto _ (recordNext r (eventInRow e)) 
 
 -- a tally does not look at the answer that is given back
 tallied-started : {log : List Attempt} {r : Recorded} (p : Recorded) → Tallied log r → Tallied log (started p r)
-tallied-started p t = record { counts = t .counts; balance = t .balance }
+tallied-started p t = record { counts = t .counts; state = t .state; waits = t .waits; sound = t .sound; balance = t .balance }
 
 -- an accepted fresh table beside a new summary is where a tally starts
 pub fresh-starts : (k : Parameters) → Accepted (freshOf k) → beside newStatistics (freshOf k) ≡ startOf (freshOf k .state)

@@ -18,7 +18,7 @@ use Rattle.model.proofs.Folds.{Going, count-going, long-going, moves-on, end-re
 use Rattle.theory.proofs.Soundness.{fresh-is}
 use Rattle.lists.proofs.Demand3.{every-list}
 use Rattle.history.specs.Lists.{Tuple, summaryOf, callInRow, Rows, rows, callsIn, callsOf}
-use Rattle.history.specs.Lists.{countsRow, triesRow, answerRow, overwritten, Run, runGave, ending, ranFrom, ranOf, MeetsDemand3}
+use Rattle.history.specs.Lists.{countsRow, waitedRow, answerRow, overwritten, Run, runGave, ending, ranFrom, ranOf, MeetsDemand3}
 use Rattle.history.specs.Lists.{callAt, resultAt, storedAt, Turn, turnGave, turnOf}
 
 -- The calls that rows stand for
@@ -27,7 +27,7 @@ use Rattle.history.specs.Lists.{callAt, resultAt, storedAt, Turn, turnGa
 pub record Inside (i : ℕ) (calls : List Tuple) (l : Rows) : Type 0 where
   pub in-calls : i < length calls
   pub in-counts : i < length (l .counts)
-  pub in-tries : i < length (l .tries)
+  pub in-waited : i < length (l .waited)
   pub in-answers : i < length (l .answers)
 
 length-calls-in : (rs cs ts : List Tuple) → length (callsIn rs cs ts) ≡ min (length rs) (min (length cs) (length ts))
@@ -38,7 +38,7 @@ length-calls-in (r ∷ rs) (c ∷ cs) [] = omega arith
 length-calls-in (r ∷ rs) (c ∷ cs) (t ∷ ts) = omega (arith, length-calls-in rs cs ts)
 
 pub length-calls : (calls : List Tuple) (l : Rows)
-    → length (callsOf calls l) ≡ min (min (length calls) (length (l .counts))) (min (length (l .tries)) (length (l .answers)))
+    → length (callsOf calls l) ≡ min (min (length calls) (length (l .counts))) (min (length (l .waited)) (length (l .answers)))
 length-calls calls l = simp (length-take, length-calls-in) (omega arith)
 
 call-in-at : (rs cs ts : List Tuple) (i : ℕ) (d : Call) → i < length rs → i < length cs → i < length ts
@@ -52,17 +52,17 @@ call-in-at (a ∷ rs) (b ∷ cs) (c ∷ ts) (suc i) d p q r = call-in-at rs cs t
 
 call-at : (calls : List Tuple) (l : Rows) (i : ℕ) (d : Call) → Inside i calls l → getD (callsOf calls l) i d ≡ callAt calls l i
 call-at calls l i d h =
-    getD-take (length (l .answers)) (callsIn calls (l .counts) (l .tries)) i d (h .in-answers)
-    ∙ call-in-at calls (l .counts) (l .tries) i d (h .in-calls) (h .in-counts) (h .in-tries)
+    getD-take (length (l .answers)) (callsIn calls (l .counts) (l .waited)) i d (h .in-answers)
+    ∙ call-in-at calls (l .counts) (l .waited) i d (h .in-calls) (h .in-counts) (h .in-waited)
 
 -- One turn
 
 pub result-at : (s : State) (calls : List Tuple) (l : Rows) (i : ℕ) (x y z : Tuple) → Inside i calls l → {lent : Statistics} {r : Recorded}
-    → lent ≡ summaryOf (getD (l .counts) i y) (getD (l .tries) i z) → r ≡ callOf s (callInRow (getD calls i x) lent)
+    → lent ≡ summaryOf (getD (l .counts) i y) (getD (l .waited) i z) → r ≡ callOf s (callInRow (getD calls i x) lent)
     → r ≡ resultAt s calls l i
 result-at s calls l i x y z h e made = made ∙ rw e
     (λ j. callOf s (callInRow (row-at calls i x [] (h .in-calls) j)
-    (summaryOf (row-at (l .counts) i y [] (h .in-counts) j) (row-at (l .tries) i z [] (h .in-tries) j))))
+    (summaryOf (row-at (l .counts) i y [] (h .in-counts) j) (row-at (l .waited) i z [] (h .in-waited) j))))
 
 -- the results of the calls before row i have been written
 module _ (rs : List Recorded) (calls : List Tuple) (l : Rows) (i : ℕ) (made : length rs ≡ i) (inside : Inside i calls l) where
@@ -70,12 +70,12 @@ module _ (rs : List Recorded) (calls : List Tuple) (l : Rows) (i : ℕ) (made : 
   call-next : callAt calls (overwritten rs l) i ≡ callAt calls l i
   call-next = λ j. callInRow (getD calls i []) (summaryOf
       (rows-next countsRow rs (l .counts) i made (inside .in-counts) [] j)
-      (rows-next triesRow rs (l .tries) i made (inside .in-tries) [] j))
+      (rows-next waitedRow rs (l .waited) i made (inside .in-waited) [] j))
 
   rows-stored : (r : Recorded) → storedAt (overwritten rs l) i r ≡ overwritten (rs ++ (r ∷ [])) l
   rows-stored r = λ j. rows
       (rows-snoc countsRow rs (l .counts) i made (inside .in-counts) r j)
-      (rows-snoc triesRow rs (l .tries) i made (inside .in-tries) r j)
+      (rows-snoc waitedRow rs (l .waited) i made (inside .in-waited) r j)
       (rows-snoc answerRow rs (l .answers) i made (inside .in-answers) r j)
 
   after-turn : (t : State) → let r = resultAt t calls l i in
@@ -103,8 +103,8 @@ module _ {s : State} {calls : List Tuple} {l : Rows} {n i : ℕ} {t : State} {m 
   pub counts-long : length (m .counts) ≡ length (l .counts)
   counts-long = rw (g .written) (long-going g countsRow (l .counts) (omega (arith, g .all, length-calls calls l)))
 
-  pub tries-long : length (m .tries) ≡ length (l .tries)
-  tries-long = rw (g .written) (long-going g triesRow (l .tries) (omega (arith, g .all, length-calls calls l)))
+  pub waited-long : length (m .waited) ≡ length (l .waited)
+  waited-long = rw (g .written) (long-going g waitedRow (l .waited) (omega (arith, g .all, length-calls calls l)))
 
   pub answers-long : length (m .answers) ≡ length (l .answers)
   answers-long = rw (g .written) (long-going g answerRow (l .answers) (omega (arith, g .all, length-calls calls l)))

@@ -1,5 +1,5 @@
 -- Section 8 of the specification: calls as rows of numbers, as `run` is lent them, and all that it gives back. A call is a row of
--- `calls` with a row of `counts` and one of `tries`, the summary that it is lent; its answer goes to a row of `answers`. Assumes nothing.
+-- `calls` with a row of `counts` and one of `waited`, the summary that it is lent; its answer goes to a row of `answers`. Assumes nothing.
 use Prim.Native.Nat.{ℕ}
 use mathlib.Core.Path.{_≡_}
 use mathlib.Core.Bool.{not}
@@ -26,9 +26,9 @@ use Rattle.lists.specs.Demand3.{Demand3}
 abbrev pub Tuple : Type 0
 Tuple = List ℕ
 
--- [8.152] a summary is a row of counts, and one of try moments
+-- [8.152] a summary is a row of counts, and one of waits so far
 abbrev pub summaryOf : Tuple → Tuple → Statistics
-summaryOf row tries = statisticsOf (countsIn row) tries
+summaryOf row waited = statisticsOf (countsIn row) waited
 
 -- [8.150] kind, action, process, time: kind 0 is a step without a summary
 abbrev pub callInRow : Tuple → Statistics → Call
@@ -45,16 +45,16 @@ callInRow row x = record {
 -- [8.152] [8.154] the lists of rows that `run` may change
 pub record Rows : Type 0 where
   pub counts : List Tuple
-  pub tries : List Tuple
+  pub waited : List Tuple
   pub answers : List Tuple
 
 -- helper: from its parts
 abbrev pub rows : List Tuple → List Tuple → List Tuple → Rows
-rows counts tries answers = record { counts = counts; tries = tries; answers = answers }
+rows counts waited answers = record { counts = counts; waited = waited; answers = answers }
 
 -- helper: three lists of rows as they are lent
 abbrev pub lentRows : RefT (List Tuple) → RefT (List Tuple) → RefT (List Tuple) → Rows
-lentRows counts tries answers = rows (now counts) (now tries) (now answers)
+lentRows counts waited answers = rows (now counts) (now waited) (now answers)
 
 -- [8.156] as many calls as the shortest of the first three lists has rows
 unfoldable pub callsIn : List Tuple → List Tuple → List Tuple → List Call
@@ -65,15 +65,15 @@ callsIn (r ∷ rs) (c ∷ cs) (t ∷ ts) = callInRow r (summaryOf c t) ∷ calls
 
 -- [8.156] the list of answers may be the shortest too
 abbrev pub callsOf : List Tuple → Rows → List Call
-callsOf calls l = take (length (l .answers)) (callsIn calls (l .counts) (l .tries))
+callsOf calls l = take (length (l .answers)) (callsIn calls (l .counts) (l .waited))
 
 -- [8.152] the counts of a call's summary after it
 abbrev pub countsRow : Recorded → Tuple
 countsRow r = countsNumbers (r .statistics .counts)
 
--- [8.152] the try moments of a call's summary after it
-abbrev pub triesRow : Recorded → Tuple
-triesRow r = r .statistics .tries
+-- [8.152] the waits so far of a call's summary after it
+abbrev pub waitedRow : Recorded → Tuple
+waitedRow r = r .statistics .waited
 
 -- [8.154] the answer to a call
 abbrev pub answerRow : Recorded → Tuple
@@ -82,7 +82,7 @@ answerRow r = answerNumbers (r .outcome .answer)
 -- [8.152] [8.154] [8.156] each result in the rows of its call
 abbrev pub overwritten : List Recorded → Rows → Rows
 overwritten rs l =
-    rows (over (map countsRow rs) (l .counts)) (over (map triesRow rs) (l .tries)) (over (map answerRow rs) (l .answers))
+    rows (over (map countsRow rs) (l .counts)) (over (map waitedRow rs) (l .waited)) (over (map answerRow rs) (l .answers))
 
 -- All that `run` gives back: the answer to the fresh table, the table after the last call, and the rows
 
@@ -125,7 +125,7 @@ MeetsDemand3 k calls l l′ t =
 
 -- helper: the call as the rows have it
 abbrev pub callAt : List Tuple → Rows → ℕ → Call
-callAt calls l i = callInRow (getD calls i []) (summaryOf (getD (l .counts) i []) (getD (l .tries) i []))
+callAt calls l i = callInRow (getD calls i []) (summaryOf (getD (l .counts) i []) (getD (l .waited) i []))
 
 -- helper: what it gives back at the table s
 abbrev pub resultAt : State → List Tuple → Rows → ℕ → Recorded
@@ -133,7 +133,7 @@ resultAt s calls l i = callOf s (callAt calls l i)
 
 -- helper: the rows with its result in their places
 abbrev pub storedAt : Rows → ℕ → Recorded → Rows
-storedAt l i r = rows (set (l .counts) i (countsRow r)) (set (l .tries) i (triesRow r)) (set (l .answers) i (answerRow r))
+storedAt l i r = rows (set (l .counts) i (countsRow r)) (set (l .waited) i (waitedRow r)) (set (l .answers) i (answerRow r))
 
 -- helper: the table after it, and the rows
 pub record Turn : Type 0 where

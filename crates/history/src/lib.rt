@@ -46,22 +46,22 @@ fn make_turn(
     state: State,
     calls: &[[u64; 4]],
     counts: &mut [[u64; 5]],
-    tries: &mut [[u64; 96]],
+    waited: &mut [[u64; 96]],
     answers: &mut [[u64; 3]],
     i: usize,
 ) -> State
-    requires { ⌜ (i < length (now calls)) × (i < length (now counts)) × (i < length (now tries)) × (i < length (now answers)) ⌝ }
-    ensures { λ r. ⌜ turnGave r (lentRows (counts .exit) (tries .exit) (answers .exit))
-        ≡ turnOf state (now (calls .entry)) (lentRows (counts .entry) (tries .entry) (answers .entry)) i ⌝ }
+    requires { ⌜ (i < length (now calls)) × (i < length (now counts)) × (i < length (now waited)) × (i < length (now answers)) ⌝ }
+    ensures { λ r. ⌜ turnGave r (lentRows (counts .exit) (waited .exit) (answers .exit))
+        ≡ turnOf state (now (calls .entry)) (lentRows (counts .entry) (waited .entry) (answers .entry)) i ⌝ }
 {
-    let made = make_call(state, calls[i], summary_in(counts[i], tries[i]));
+    let made = make_call(state, calls[i], summary_in(counts[i], waited[i]));
     let outcome = made.outcome;
     let answer = outcome.answer;
     let left = made.statistics;
-    let left_tries = left.tries;
+    let left_waited = left.waited;
     let left_counts = tuple_of(left.counts);
     counts[i] = left_counts;
-    tries[i] = left_tries;
+    waited[i] = left_waited;
     let row = answer_row(answer);
     answers[i] = row;
     let next = outcome.state;
@@ -75,24 +75,24 @@ pub fn run(
     parameters: Parameters,
     calls: &[[u64; 4]],
     counts: &mut [[u64; 5]],
-    tries: &mut [[u64; 96]],
+    waited: &mut [[u64; 96]],
     answers: &mut [[u64; 3]],
 ) -> Outcome
-    ensures equals { λ r. ⌜ runGave r (lentRows (counts .exit) (tries .exit) (answers .exit))
-        ≡ ranOf parameters (now (calls .entry)) (lentRows (counts .entry) (tries .entry) (answers .entry)) ⌝ }
-    ensures demand3 { λ r. ⌜ MeetsDemand3 parameters (now (calls .entry)) (lentRows (counts .entry) (tries .entry) (answers .entry))
-        (lentRows (counts .exit) (tries .exit) (answers .exit)) (r .state) ⌝ }
+    ensures equals { λ r. ⌜ runGave r (lentRows (counts .exit) (waited .exit) (answers .exit))
+        ≡ ranOf parameters (now (calls .entry)) (lentRows (counts .entry) (waited .entry) (answers .entry)) ⌝ }
+    ensures demand3 { λ r. ⌜ MeetsDemand3 parameters (now (calls .entry)) (lentRows (counts .entry) (waited .entry) (answers .entry))
+        (lentRows (counts .exit) (waited .exit) (answers .exit)) (r .state) ⌝ }
 {
     let start = fresh(parameters);
     let answer = start.answer;
     let mut state = start.state;
     let count = least(
         least(calls.len(), counts.len()),
-        least(tries.len(), answers.len()),
+        least(waited.len(), answers.len()),
     );
     let mut i: usize = 0;
     while i < count {
-        state = make_turn(state, calls, counts, tries, answers, i);
+        state = make_turn(state, calls, counts, waited, answers, i);
         i += 1;
     }
     Outcome {

@@ -7,8 +7,8 @@ ghost use Rattle.model.specs.Summaries.{countsNumbers};
 ghost use Rattle.history.specs.Lists.{summaryOf};
 
 // [8.152]
-pub fn summary_in(counts: [u64; 5], tries: [u64; 96]) -> Statistics
-    ensures { λ r. ⌜ r ≡ summaryOf counts tries ⌝ }
+pub fn summary_in(counts: [u64; 5], waited: [u64; 96]) -> Statistics
+    ensures { λ r. ⌜ r ≡ summaryOf counts waited ⌝ }
 {
     Statistics {
         counts: Counts {
@@ -18,7 +18,7 @@ pub fn summary_in(counts: [u64; 5], tries: [u64; 96]) -> Statistics
             exits: counts[3],
             longest: counts[4],
         },
-        tries: tries,
+        waited: waited,
     }
 }
 

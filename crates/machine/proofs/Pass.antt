@@ -17,7 +17,7 @@ use Rattle.rules.specs.declared.survey.Survey.{Survey}
 use Rattle.rules.specs.Survey.{sceneOf, numbersStand, nothing, noted}
 use Rattle.model.proofs.Tests.{by-test, tests}
 use Rattle.model.proofs.Lists.{drop-at, drop-end}
-use Rattle.rules.proofs.Critical.{otherCritical, othersFrom}
+use Rattle.rules.specs.Judging.{otherCritical, othersFrom}
 use Rattle.rules.proofs.Notes.{Finds, none, Ends, first, Noted, fault, fine, note-at}
 
 -- The numbers of a state

@@ -18,7 +18,7 @@ use Rattle.model.specs.Answers.{Due, due, noneDue, sooner}
 use Rattle.rules.specs.declared.survey.Survey.{Survey}
 use Rattle.rules.specs.Survey.{sceneOf, endless, faulted, criticalAt, firstAt, dueFrom, timedNoted, criticalNoted, noted}
 use Rattle.model.proofs.Tests.{by-cond}
-use Rattle.rules.proofs.Critical.{otherCritical}
+use Rattle.rules.specs.Judging.{otherCritical}
 use Rattle.rules.proofs.Entries.{stayOf, idle-sound, past-unsound, critical-sound, timed-sound}
 
 -- what a survey's process and deadline tell of the first deadline so far: there is none, or they are it

@@ -1,11 +1,12 @@
 -- The answer to an action on numbers, from what the looks at the entries found. The acting process has the stage `place` and may check
 -- from `release` on, and its act has the row t. `proofs/Rows` relates the row to the model, and `proofs/` of the machine the rest. Assumes nothing.
 use Prim.Native.Nat.{ℕ, _+_, _-_, _%_, _^_}
-use mathlib.Core.Bool.{cond, not, _&&_, _||_}
-use mathlib.Core.List.{[]}
+use mathlib.Core.Bool.{Bool, cond, not, _&&_, _||_}
+use mathlib.Core.List.{List, [], _∷_}
 use lib.Dec.{ltb, eqb}
 use Rattle.model.specs.declared.Location.{Location}
 use Rattle.model.specs.declared.Location.the-variants.{Remainder}
+use Rattle.model.specs.declared.Process.{Process}
 use Rattle.model.specs.declared.State.{State}
 use Rattle.model.specs.declared.Transition.{Transition}
 use Rattle.model.specs.declared.Answer.{Answer}
@@ -30,6 +31,17 @@ worded word = record { parameters = noParameters; clock = 0; word = word; proces
 -- [3.40] of any action
 unfoldable pub rowOf : ℕ → ℕ → ℕ → ℕ → Transition
 rowOf act p m word = cond (eqb act waitAct || unknown act) (noRow word) (transitionOf (worded word) act p m)
+
+-- Who is critical besides the acting process
+
+-- helper: the entry q of process k is critical, and k is not the acting process
+abbrev pub otherCritical : ℕ → ℕ → Process → Bool
+otherCritical acting k q = eqb (stageOf (q .location)) critical && not (eqb k acting)
+
+-- helper: the lowest such process from k on
+unfoldable pub othersFrom : ℕ → ℕ → List Process → ℕ
+othersFrom acting k [] = 0
+othersFrom acting k (q ∷ qs) = cond (otherCritical acting k q) k (othersFrom acting (k + 1) qs)
 
 -- The answer
 

@@ -24,9 +24,9 @@ fn run_first(parameters: Parameters, text: &[u8], wanted: usize) -> bool
 {
     let mut calls = [[0; 4]; 64];
     let mut counts = [[0; 5]; 64];
-    let mut tries = [[0; 96]; 64];
+    let mut waited = [[0; 96]; 64];
     let mut answers = [[0; 3]; 64];
-    let count = read_calls(text, wanted, &mut calls, &mut counts, &mut tries);
+    let count = read_calls(text, wanted, &mut calls, &mut counts, &mut waited);
     if count < wanted {
         return false;
     }
@@ -34,10 +34,10 @@ fn run_first(parameters: Parameters, text: &[u8], wanted: usize) -> bool
         parameters,
         &calls[..count],
         &mut counts,
-        &mut tries,
+        &mut waited,
         &mut answers,
     );
-    print_call(parameters.n, outcome, &answers, &counts, &tries, count);
+    print_call(parameters.n, outcome, &answers, &counts, &waited, count);
     true
 }
 

@@ -51,18 +51,18 @@ fn print_last(name: &[u8], fresh: Answer, answers: &[[u64; 3]], count: usize) {
     }
 }
 
-// The counts and the longest wait, and the try moments of processes 1 to n.
+// The counts and the longest wait, and the waits so far of processes 1 to n.
 fn print_summary(n: u64, summary: Statistics) {
     let counts = tuple_of(summary.counts);
-    let tries = summary.tries;
+    let waited = summary.waited;
     io::write_all(STDOUT_FILENO, b"summary");
     print_numbers(&counts, 5);
-    print_numbers(&tries, n);
+    print_numbers(&waited, n);
     io::write_all(STDOUT_FILENO, b"\n");
 }
 
 // The summary that the last of so many calls left, if there is one.
-fn print_left(n: u64, counts: &[[u64; 5]], tries: &[[u64; 96]], count: usize) {
+fn print_left(n: u64, counts: &[[u64; 5]], waited: &[[u64; 96]], count: usize) {
     if count == 0 {
         return;
     }
@@ -70,10 +70,10 @@ fn print_left(n: u64, counts: &[[u64; 5]], tries: &[[u64; 96]], count: usize) {
     if counts.len() <= last {
         return;
     }
-    if tries.len() <= last {
+    if waited.len() <= last {
         return;
     }
-    print_summary(n, summary_in(counts[last], tries[last]));
+    print_summary(n, summary_in(counts[last], waited[last]));
 }
 
 fn print_process(process: Process) {
@@ -111,11 +111,11 @@ pub(crate) fn print_call(
     outcome: Outcome,
     answers: &[[u64; 3]],
     counts: &[[u64; 5]],
-    tries: &[[u64; 96]],
+    waited: &[[u64; 96]],
     count: usize,
 ) {
     print_last(b"call", outcome.answer, answers, count);
-    print_left(n, counts, tries, count);
+    print_left(n, counts, waited, count);
     print_state(n, outcome.state);
 }
 

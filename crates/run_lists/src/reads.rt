@@ -1,5 +1,5 @@
 // The calls of a list, read into rows. A line has the kind of a call, its action, process and time, the five counts of the summary that
-// it is lent, and the try moments.
+// it is lent, and the waits so far.
 use crate::lines::read_fields;
 use model::Parameters;
 ghost use mathlib.Core.Path.{_≡_};
@@ -34,21 +34,21 @@ fn read_call(
     text: &[u8],
     calls: &mut [[u64; 4]],
     counts: &mut [[u64; 5]],
-    tries: &mut [[u64; 96]],
+    waited: &mut [[u64; 96]],
     i: usize,
 ) -> usize
-    requires { ⌜ (i < length (now calls)) × (i < length (now counts)) × (i < length (now tries)) ⌝ }
+    requires { ⌜ (i < length (now calls)) × (i < length (now counts)) × (i < length (now waited)) ⌝ }
     ensures { λ r. ⌜ r ≤ length (now (text .entry)) ⌝ }
 {
     let mut call = [0; 4];
     let mut counted = [0; 5];
-    let mut moments = [0; 96];
+    let mut sums = [0; 96];
     read_fields(text, 0, &mut call);
     read_fields(text, 4, &mut counted);
-    let size = read_fields(text, 9, &mut moments);
+    let size = read_fields(text, 9, &mut sums);
     calls[i] = call;
     counts[i] = counted;
-    tries[i] = moments;
+    waited[i] = sums;
     size
 }
 
@@ -58,9 +58,9 @@ pub(crate) fn read_calls(
     wanted: usize,
     calls: &mut [[u64; 4]],
     counts: &mut [[u64; 5]],
-    tries: &mut [[u64; 96]],
+    waited: &mut [[u64; 96]],
 ) -> usize
-    requires { ⌜ (wanted ≤ length (now calls)) × (wanted ≤ length (now counts)) × (wanted ≤ length (now tries)) ⌝ }
+    requires { ⌜ (wanted ≤ length (now calls)) × (wanted ≤ length (now counts)) × (wanted ≤ length (now waited)) ⌝ }
     ensures within { λ r. ⌜ r ≤ wanted ⌝ }
     ensures counts { λ r. ⌜ r ≡ length (take r (now (calls .exit))) ⌝ }
 {
@@ -70,7 +70,7 @@ pub(crate) fn read_calls(
         if at == text.len() {
             break;
         }
-        at += read_call(&text[at..], calls, counts, tries, count);
+        at += read_call(&text[at..], calls, counts, waited, count);
         count += 1;
     }
     count

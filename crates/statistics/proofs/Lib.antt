@@ -1,2 +1,4 @@
+pub mod Counted
 pub mod Laws
+pub mod Waits
 pub mod Walks

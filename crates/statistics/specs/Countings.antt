@@ -5,12 +5,12 @@ use mathlib.Core.Bool.{Bool, cond, not, _&&_}
 use lib.Dec.{eqb}
 use Rattle.model.specs.declared.Counts.{Counts}
 use Rattle.model.specs.Acts.{critAct, exitAct}
-use Rattle.model.specs.Summaries.{mostActs, countsOf, countsSound, full, waitFrom}
+use Rattle.model.specs.Summaries.{mostActs, countsOf, countsSound, full}
 
--- [4.2] [4.3] [5.60] the number of the refusal, 2 or 3, by the counts and by whether no try time is after the clock; 0 where an
+-- [4.2] [4.3] [5.60] the number of the refusal, 2 or 3, by the counts and by whether the waits so far stand; 0 where an
 -- action can be counted
 abbrev pub faultBy : Counts → Bool → ℕ
-faultBy k past = cond (not (countsSound k && past)) 2 (cond (full k) 3 0)
+faultBy k stand = cond (not (countsSound k && stand)) 2 (cond (full k) 3 0)
 
 -- helper: each count has room for one more
 pub record Room (k : Counts) : Type 0 where
@@ -41,6 +41,6 @@ entryAfter k wait = countsOf (oneMore (k .accepted)) (k .refused) (oneMore (k .e
 abbrev pub exitAfter : Counts → Counts
 exitAfter k = countsOf (oneMore (k .accepted)) (k .refused) (k .entries) (oneMore (k .exits)) (k .longest)
 
--- [5.70] [5.90] the counts after an accepted action at the time m of a process with the try time `tried`
-abbrev pub acceptedAfter : Counts → ℕ → ℕ → ℕ → Counts
-acceptedAfter k act m tried = cond (eqb act critAct) (entryAfter k (waitFrom tried m)) (cond (eqb act exitAct) (exitAfter k) (otherAfter k))
+-- [5.70] [5.90] the counts after an accepted action; `wait` is the one that it ends, if it is a crit
+abbrev pub acceptedAfter : Counts → ℕ → ℕ → Counts
+acceptedAfter k act wait = cond (eqb act critAct) (entryAfter k wait) (cond (eqb act exitAct) (exitAfter k) (otherAfter k))

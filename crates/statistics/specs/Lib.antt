@@ -1,1 +1,2 @@
 pub mod Countings
+pub mod Waitings

@@ -1,15 +1,11 @@
-// A summary after one more action: the counts, and the try time of the acting process.
+// A summary after one more action: the counts.
 // Any counts are taken: those without room may wrap, and a summary that is not full has room.
-use crate::wait_from;
 use model::Counts;
 use rules::actions::CRIT;
 use rules::actions::EXIT;
-use rules::actions::TRY;
-use rules::actions::WITHDRAW;
 use std::num::wrapping_add_u64;
 use values::greater;
 ghost use mathlib.Core.Path.{_≡_};
-ghost use Rattle.model.specs.Summaries.{triedAfter};
 ghost use Rattle.statistics.specs.Countings.{refusedAfter, otherAfter, entryAfter, exitAfter, acceptedAfter};
 
 // [5.100]
@@ -47,31 +43,15 @@ fn with_exit(mut counts: Counts) -> Counts
     counts
 }
 
-// [5.70] [5.90] The counts after an accepted action of a process that tried at `tried`.
-pub fn counts_after(counts: Counts, action: u64, time: u64, tried: u64) -> Counts
-    ensures { λ r. ⌜ r ≡ acceptedAfter counts action time tried ⌝ }
+// [5.70] [5.90] The counts after an accepted action, which ends a wait if it is a crit.
+pub fn counts_after(counts: Counts, action: u64, wait: u64) -> Counts
+    ensures { λ r. ⌜ r ≡ acceptedAfter counts action wait ⌝ }
 {
     if action == CRIT {
-        return with_entry(counts, wait_from(tried, time));
+        return with_entry(counts, wait);
     }
     if action == EXIT {
         return with_exit(counts);
     }
     with_accepted(counts)
-}
-
-// [5.80] The try time of the acting process after its action.
-pub fn tried_after(tried: u64, action: u64, time: u64) -> u64
-    ensures { λ r. ⌜ r ≡ triedAfter tried action time ⌝ }
-{
-    if action == TRY {
-        return time;
-    }
-    if action == CRIT {
-        return 0;
-    }
-    if action == WITHDRAW {
-        return 0;
-    }
-    tried
 }

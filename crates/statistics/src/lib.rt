@@ -2,12 +2,15 @@
 // Both take any state and any summary, and answer what `recordedOf` of the model says.
 pub mod counting;
 pub mod soundness;
+pub mod waiting;
 
 use crate::counting::counts_after;
-use crate::counting::tried_after;
 use crate::counting::with_refused;
 use crate::soundness::fault_by;
-use crate::soundness::tries_stand;
+use crate::soundness::waits_stand;
+use crate::waiting::does_clear;
+use crate::waiting::may_wait;
+use crate::waiting::wait_after;
 use machine::step;
 use model::Counts;
 use model::Outcome;
@@ -16,12 +19,13 @@ use model::State;
 use model::Statistics;
 use rules::actions::WAIT;
 use rules::answers::slot_of;
+use std::num::wrapping_add_u64;
 use values::answer_with;
 ghost use mathlib.Core.Path.{_≡_};
 ghost use mathlib.Core.Bool.{cond};
 ghost use Rattle.model.specs.States.{soundOf};
 ghost use Rattle.model.specs.Answers.{answers};
-ghost use Rattle.model.specs.Summaries.{newStatistics, waitFrom, beside, recordedOf};
+ghost use Rattle.model.specs.Summaries.{newStatistics, beside, recordedOf};
 
 // [5.20] [21.110]
 pub fn new_statistics() -> Statistics
@@ -35,18 +39,8 @@ pub fn new_statistics() -> Statistics
             exits: 0,
             longest: 0,
         },
-        tries: [0; 96],
+        waited: [0; 96],
     }
-}
-
-// [5.90] The wait that a crit ends, of a process with a try time. It is worked out here alone.
-pub fn wait_from(tried: u64, time: u64) -> u64
-    ensures { λ r. ⌜ r ≡ waitFrom tried time ⌝ }
-{
-    if time < tried {
-        return 0;
-    }
-    time - tried
 }
 
 // The refusal 2 or 3, or 1 before it: whether the state is sound is told by a wait at its own clock, which changes nothing.
@@ -65,7 +59,8 @@ fn refuse(state: State, fault: u64) -> Outcome
 }
 
 // [5.30] [5.80] [5.105] [5.110] [21.110] One action of a process at a time, and the summary after it. The summary is judged first and
-// changed in place, as each hand-over of it copies 808 bytes.
+// changed in place, as each hand-over of it copies 808 bytes; the waits so far are gone over after the step, so that no second state is
+// kept.
 pub fn record(
     state: State,
     mut statistics: Statistics,
@@ -76,8 +71,8 @@ pub fn record(
     ensures { λ r. ⌜ r ≡ recordedOf state statistics action process time ⌝ }
 {
     let counts = statistics.counts;
-    let tries = statistics.tries;
-    let fault = fault_by(counts, tries_stand(&tries, state.clock));
+    let clock = state.clock;
+    let fault = fault_by(counts, waits_stand(&statistics.waited, clock));
     if fault != 0 {
         return Recorded {
             outcome: refuse(state, fault),
@@ -88,9 +83,22 @@ pub fn record(
     let answer = outcome.answer;
     if answer.code == 0 {
         let slot = slot_of(process);
-        let tried = statistics.tries[slot];
-        statistics.counts = counts_after(counts, action, time, tried);
-        statistics.tries[slot] = tried_after(tried, action, time);
+        let mut wait = statistics.waited[slot];
+        if may_wait(answer.process, action, clock, time) {
+            let unused = wait_after(
+                &mut statistics.waited,
+                outcome.state,
+                answer.process,
+                action,
+                process,
+                clock,
+            );
+            wait = wrapping_add_u64(wait, unused);
+        }
+        statistics.counts = counts_after(counts, action, wait);
+        if does_clear(action) {
+            statistics.waited[slot] = 0;
+        }
     } else if answer.code != 1 {
         statistics.counts = with_refused(counts);
     }

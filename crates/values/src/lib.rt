@@ -1,11 +1,12 @@
 // Small values that the step machine and the recordings share: an answer, parameters and which of them stand, the lesser of two sizes,
-// the greater of two numbers.
+// the greater of two numbers, the bits of many.
 use model::Answer;
 use model::Parameters;
 ghost use mathlib.Core.Path.{_≡_};
 ghost use Prim.Native.Nat.{min, max};
 ghost use Rattle.model.specs.States.{noParameters, countStands, limitsStand, parametersStand, limitIn};
 ghost use Rattle.model.specs.Answers.{answerOf, answerNumbers};
+ghost use Rattle.values.specs.Bits.{bitsOf};
 
 // [4.50] An answer of three numbers.
 pub fn answer_with(code: u64, process: u64, time: u64) -> Answer
@@ -90,4 +91,19 @@ pub fn greater(a: u64, b: u64) -> u64
     ensures { λ r. ⌜ r ≡ max a b ⌝ }
 {
     if a < b { b } else { a }
+}
+
+// The bits of all numbers together. It is 0 just where they are all 0, and less than none of them. There is no break: so the compiler takes
+// several at a time.
+pub fn bits_of(numbers: &[u64]) -> u64
+    ensures { λ r. ⌜ r ≡ bitsOf (now (numbers .entry)) ⌝ }
+{
+    let end = numbers.len();
+    let mut bits: u64 = 0;
+    let mut i: usize = 0;
+    while i < end {
+        bits = bits | numbers[i];
+        i += 1;
+    }
+    bits
 }

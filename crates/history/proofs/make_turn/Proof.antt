@@ -10,7 +10,7 @@ use Rattle.history.proofs.make_turn.Tie as tie
 
 -- the rows at entry
 abbrev lent : tie.Start → Rows
-lent c = rows (c .args .counts .now) (c .args .tries .now) (c .args .answers .now)
+lent c = rows (c .args .counts .now) (c .args .waited .now) (c .args .answers .now)
 
 made : (c : tie.After-make-call)
     → let s = c .before .before .before .before .before in
@@ -53,11 +53,11 @@ mul-left-counts c = search needs
 slice-set-from-left-counts : tie.Need-slice-set-from-left-counts
 slice-set-from-left-counts c = search needs
 
-mul-left-tries : tie.Need-mul-left-tries
-mul-left-tries c = search needs
+mul-left-waited : tie.Need-mul-left-waited
+mul-left-waited c = search needs
 
-slice-set-from-left-tries : tie.Need-slice-set-from-left-tries
-slice-set-from-left-tries c = search needs
+slice-set-from-left-waited : tie.Need-slice-set-from-left-waited
+slice-set-from-left-waited c = search needs
 
 answer-row-requires : tie.Need-answer-row-requires
 answer-row-requires c κs = search needs
@@ -100,8 +100,8 @@ make-turn-spec =
     tuple-of-requires
     mul-left-counts
     slice-set-from-left-counts
-    mul-left-tries
-    slice-set-from-left-tries
+    mul-left-waited
+    slice-set-from-left-waited
     answer-row-requires
     mul-row
     slice-set-from-row

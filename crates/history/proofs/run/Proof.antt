@@ -6,20 +6,20 @@ use native.Mathlib.Omega.{arith}
 use Rattle.model.specs.declared.Outcome.{Outcome}
 use Rattle.model.proofs.Folds.{sets-out}
 use Rattle.history.specs.Lists.{Rows, rows, callsOf, ranFrom, ranOf}
-use Rattle.history.proofs.Turns.{length-calls, Turning, is-inside, turns-on, counts-long, tries-long, answers-long, ends, ran-demand3}
+use Rattle.history.proofs.Turns.{length-calls, Turning, is-inside, turns-on, counts-long, waited-long, answers-long, ends, ran-demand3}
 use Rattle.history.proofs.run.Statement.{statement}
 use Rattle.history.proofs.run.Tie as tie
 
 abbrev Inv-loop : tie.InvT-loop
-Inv-loop calls counts₀ tries₀ answers₀ answer state₀ count i₀ counts tries answers state i =
-    Turning state₀ calls (rows counts₀ tries₀ answers₀) count i state (rows counts tries answers)
+Inv-loop calls counts₀ waited₀ answers₀ answer state₀ count i₀ counts waited answers state i =
+    Turning state₀ calls (rows counts₀ waited₀ answers₀) count i state (rows counts waited answers)
 
 abbrev μ-loop : tie.MeasureT-loop
-μ-loop calls counts₀ tries₀ answers₀ answer state₀ count i₀ counts tries answers state i = count - i
+μ-loop calls counts₀ waited₀ answers₀ answer state₀ count i₀ counts waited answers state i = count - i
 
 -- the rows at entry
 abbrev lent : tie.Start Inv-loop μ-loop → Rows
-lent c = rows (c .args .counts .now) (c .args .tries .now) (c .args .answers .now)
+lent c = rows (c .args .counts .now) (c .args .waited .now) (c .args .answers .now)
 
 fresh-requires : tie.Need-fresh-requires Inv-loop μ-loop
 fresh-requires c κs = tt
@@ -41,7 +41,7 @@ loop-holds c =
 make-turn-requires : tie.Need-make-turn-requires Inv-loop μ-loop
 make-turn-requires c κs =
     let g = c .before .before .before .before .loop .inv in
-    omega (arith, is-inside g (omega arith), counts-long g, tries-long g, answers-long g)
+    omega (arith, is-inside g (omega arith), counts-long g, waited-long g, answers-long g)
 
 add-i : tie.Need-add-i Inv-loop μ-loop
 add-i c = omega arith
@@ -57,7 +57,7 @@ same-length : tie.Need-same-length Inv-loop μ-loop
 same-length c = counts-long (c .before .loop .inv)
 
 same-length-2 : tie.Need-same-length-2 Inv-loop μ-loop
-same-length-2 c = tries-long (c .before .loop .inv)
+same-length-2 c = waited-long (c .before .loop .inv)
 
 same-length-3 : tie.Need-same-length-3 Inv-loop μ-loop
 same-length-3 c = answers-long (c .before .loop .inv)

@@ -9,13 +9,13 @@ use Rattle.run_lists.proofs.reads.read_calls.Statement.{statement}
 use Rattle.run_lists.proofs.reads.read_calls.Tie as tie
 
 abbrev Inv-loop : tie.InvT-loop
-Inv-loop text wanted calls₀ counts₀ tries₀ count₀ at₀ calls counts tries count at =
+Inv-loop text wanted calls₀ counts₀ waited₀ count₀ at₀ calls counts waited count at =
     (at ≤ length text) × (count ≤ wanted)
-    × (length calls ≡ length calls₀) × (length counts ≡ length counts₀) × (length tries ≡ length tries₀)
-    × (wanted ≤ length calls₀) × (wanted ≤ length counts₀) × (wanted ≤ length tries₀)
+    × (length calls ≡ length calls₀) × (length counts ≡ length counts₀) × (length waited ≡ length waited₀)
+    × (wanted ≤ length calls₀) × (wanted ≤ length counts₀) × (wanted ≤ length waited₀)
 
 abbrev μ-loop : tie.MeasureT-loop
-μ-loop text wanted calls₀ counts₀ tries₀ count₀ at₀ calls counts tries count at = wanted - count
+μ-loop text wanted calls₀ counts₀ waited₀ count₀ at₀ calls counts waited count at = wanted - count
 
 loop-holds : tie.Need-loop-holds Inv-loop μ-loop
 loop-holds c = search needs

@@ -5,14 +5,11 @@ use borrow.Author.Tests.{ne-eqb}
 use Rattle.statistics.proofs.counting.counts_after.Statement.{statement}
 use Rattle.statistics.proofs.counting.counts_after.Tie as tie
 
-wait-from-requires : tie.Need-wait-from-requires
-wait-from-requires c κs = search needs
-
 with-entry-requires : tie.Need-with-entry-requires
 with-entry-requires c κs = search needs
 
 returns : tie.Need-returns
-returns c = rw (c .before .before .if1 .taken, ← c .before .wait-from .ensures) (c .with-entry .ensures)
+returns c = rw (c .before .if1 .taken) (c .with-entry .ensures)
 
 with-exit-requires : tie.Need-with-exit-requires
 with-exit-requires c κs = search needs
@@ -30,7 +27,6 @@ pub counts-after-spec : {M : Type 1} → statement M
 counts-after-spec =
     tie.close
     (tie.spec
-    wait-from-requires
     with-entry-requires
     returns
     with-exit-requires

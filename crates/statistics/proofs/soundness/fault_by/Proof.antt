@@ -20,7 +20,7 @@ counts-sound : (c : tie.Else1) → countsSound (c .before .before .args .counts)
 counts-sound c = sym (c .before .counts-stand .ensures) ∙ not-false _ (c .if1 .left)
 
 returns-2 : tie.Need-returns-2
-returns-2 c = simp (counts-sound (c .before), not-true (c .before .before .before .args .past) (c .if2 .taken))
+returns-2 c = simp (counts-sound (c .before), not-true (c .before .before .before .args .stand) (c .if2 .taken))
 
 sub-if3 : tie.Need-sub-if3
 sub-if3 c = omega (arith, simp tests at (counts-sound (c .before .before)))
@@ -31,7 +31,7 @@ returns-3 c =
     let e = counts-sound (c .before .before .before .before) in
     simp (
       e,
-      not-false (a .past) (c .before .before .before .if2 .left),
+      not-false (a .stand) (c .before .before .before .if2 .left),
       eq-eqb (a .counts .accepted + a .counts .refused) mostActs (omega (arith, simp tests at e)),
     )
 
@@ -41,7 +41,7 @@ returns-4 c =
     let e = counts-sound (c .before .before .before .before) in
     simp (
       e,
-      not-false (a .past) (c .before .before .before .if2 .left),
+      not-false (a .stand) (c .before .before .before .if2 .left),
       ne-eqb (a .counts .accepted + a .counts .refused) mostActs (omega (arith, simp tests at e)),
     )
 

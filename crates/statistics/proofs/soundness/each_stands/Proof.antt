@@ -1,4 +1,4 @@
--- `statistics::soundness::tries_stand` meets its contract: the try times that are left stand just where all do. Assumes nothing.
+-- `statistics::soundness::each_stands` meets its contract: the waits so far that are left stand just where all do. Assumes nothing.
 use Prim.Native.Nat.{_-_, _≤_}
 use mathlib.Core.Path.{_≡_, refl, sym, _∙_}
 use mathlib.Core.Logic.{⊎-elim}
@@ -6,16 +6,16 @@ use native.Mathlib.Omega.{arith}
 use borrow.Author.Needs.{needs}
 use borrow.Author.Tests.{le-leb}
 use lib.ListN.{drop}
-use Rattle.model.specs.Summaries.{triesSound}
-use Rattle.statistics.proofs.Laws.{tries-at, all-stand, one-late}
-use Rattle.statistics.proofs.soundness.tries_stand.Statement.{statement}
-use Rattle.statistics.proofs.soundness.tries_stand.Tie as tie
+use Rattle.model.specs.Summaries.{waitedSound}
+use Rattle.statistics.proofs.Laws.{waits-at, all-stand, one-late}
+use Rattle.statistics.proofs.soundness.each_stands.Statement.{statement}
+use Rattle.statistics.proofs.soundness.each_stands.Tie as tie
 
 abbrev Inv-loop : tie.InvT-loop
-Inv-loop tries clock end i₀ i = (i ≤ end) × (triesSound clock (drop i tries) ≡ triesSound clock tries)
+Inv-loop waited clock end i₀ i = (i ≤ end) × (waitedSound clock (drop i waited) ≡ waitedSound clock waited)
 
 abbrev μ-loop : tie.MeasureT-loop
-μ-loop tries clock end i₀ i = end - i
+μ-loop waited clock end i₀ i = end - i
 
 loop-holds : tie.Need-loop-holds Inv-loop μ-loop
 loop-holds c = (omega arith, refl)
@@ -36,19 +36,19 @@ loop-again : tie.Need-loop-again Inv-loop μ-loop
 loop-again c =
     let a = c .before .before .before .before .args in
     let v = c .before .before .before .loop in
-    (omega arith, simp (le-leb _ _ (c .if1 .left)) at (sym (tries-at (a .clock) (a .tries .now) (v .i) (search needs))) ∙ v .inv .1)
+    (omega arith, simp (le-leb _ _ (c .if1 .left)) at (sym (waits-at (a .clock) (a .waited .now) (v .i) (search needs))) ∙ v .inv .1)
 
 returns : tie.Need-returns Inv-loop μ-loop
--- the loop runs to its end, or breaks at a try time after the clock
+-- the loop runs to its end, or breaks at one past the clock
 returns c =
     let a = c .before .before .args in
     let v = c .before .loop in
     ⊎-elim
-    (λ w. all-stand (a .clock) (a .tries .now) (v .i) (omega (arith, w .left, v .inv .0)) (v .inv .1))
-    (λ w. one-late (a .clock) (a .tries .now) (v .i) (w .0 .taken) (w .2 .taken) (v .inv .1))
+    (λ w. all-stand (a .clock) (a .waited .now) (v .i) (omega (arith, w .left, v .inv .0)) (v .inv .1))
+    (λ w. one-late (a .clock) (a .waited .now) (v .i) (w .0 .taken) (w .2 .taken) (v .inv .1))
     (c .loop-test .came)
 
-pub tries-stand-spec : {M : Type 1} → statement M
-tries-stand-spec =
+pub each-stands-spec : {M : Type 1} → statement M
+each-stands-spec =
     tie.close
     (tie.spec Inv-loop μ-loop loop-holds mul-if1 shared-slice-read-if1 add-i loop-less loop-again returns)
