@@ -10,7 +10,7 @@ use Rattle.model.specs.Folds.{Chained, lastOf, itself}
 use Rattle.model.specs.Answers.{answerOf}
 use Rattle.model.specs.Summaries.{waitOf}
 use Rattle.layout.specs.Interface.{Lent, LentSummary, recordGave}
-use Rattle.layout.specs.Encodings.{summaryIn}
+use Rattle.layout.specs.Encodings.{tableIn, summaryIn}
 use Rattle.recent.specs.Encodings.{boardLength, LentBoard, boardGave}
 use Rattle.recent.specs.Facts.{WidthStands}
 use Rattle.recent.specs.Lists.{BoardCall, boardAfter, askedOf, BoardPromise}
@@ -21,13 +21,13 @@ use Rattle.exported.specs.TableChains.{SomeTableStart, SomeSummaryStart}
 -- The board alone
 
 -- [10.150] [10.236] a result of one call on the numbers l; an adding is made, too, by a recorded step that accepts a crit, on any table and any
--- summary, with the wait that the summary tells
+-- summary, with the wait that the two tell
 pub data MadeOnBoard (l : List ℕ) (d : BoardCall) (r : LentBoard) : Type 0 where
   by-add : d .adds ≡ true → AddsTo l (d .time) (d .process) (d .wait) r → MadeOnBoard l d r
   by-show : d .adds ≡ false → ShowsOn l (d .time) r → MadeOnBoard l d r
   by-tell : d .adds ≡ true → (table summary : List ℕ) (act : ℕ) (t : LentTold)
       → TellsTo table summary l act (d .process) (d .time) t → entered (t .answer .code) act ≡ true
-      → d .wait ≡ waitOf (summaryIn summary) (d .process) (d .time) → r ≡ boardGave (t .told) (t .board) → MadeOnBoard l d r
+      → d .wait ≡ waitOf (tableIn table) (summaryIn summary) (d .process) (d .time) → r ≡ boardGave (t .told) (t .board) → MadeOnBoard l d r
 
 -- [10.150] [10.236] each on the numbers that the one before it left
 abbrev pub BoardChain : List ℕ → List BoardCall → List LentBoard → Type 0

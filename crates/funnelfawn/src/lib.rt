@@ -1,7 +1,6 @@
 // The box for callers in C: each function takes numbers and lists of numbers, any at all, and gives back what its definition says, the
 // lent numbers included. include/funnelfawn.h says the same in C.
 
-use layout::wait_in;
 use model::Answer;
 use model::Parameters;
 use model::Reading;
@@ -165,8 +164,8 @@ fn alone(answer: Answer) -> Told
     }
 }
 
-// [10.200] [10.205] [21.110] One act, in the lent table, counted in the lent summary; the lent board is told of an accepted crit. The wait is
-// read first, as the step clears the try time that it comes from.
+// [10.200] [10.205] [21.110] One act, in the lent table, counted in the lent summary; the lent board is told of an accepted crit, with
+// the wait that the recorded step hands on.
 #[no_mangle]
 pub extern "C" fn funnelfawn_record_and_tell(
     table: &mut [u64],
@@ -179,8 +178,9 @@ pub extern "C" fn funnelfawn_record_and_tell(
     ensures { λ r. ⌜ toldGave (recordGave (r .answer) (now (table .exit)) (now (summary .exit))) (boardGave (r .told) (now (board .exit)))
         ≡ lentTell (now (table .entry)) (now (summary .entry)) (now (board .entry)) action process time ⌝ }
 {
-    let wait = wait_in(summary, process, time);
-    let answer = layout::record(table, summary, action, process, time);
+    let entered = layout::record_entry(table, summary, action, process, time);
+    let wait = entered.wait;
+    let answer = entered.answer;
     if answer.code != 0 {
         return alone(answer);
     }

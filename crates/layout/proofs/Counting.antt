@@ -1,25 +1,28 @@
 -- Counting an act in the numbers of a summary is counting it in the summary that they tell. Assumes nothing.
-use Prim.Native.Nat.{ℕ, _-_, _≤_}
-use mathlib.Core.Path.{_≡_, sym, ap, _∙_}
-use mathlib.Core.List.{List}
+use Prim.Native.Nat.{ℕ, _+_, _-_, _^_, _≤_, _<_}
+use mathlib.Core.Path.{_≡_, refl, sym, ap, _∙_}
+use mathlib.Core.List.{List, [], _∷_, _++_, append-nil}
 use native.Mathlib.Omega.{arith}
-use lib.Dec.{eqb}
-use lib.ListN.{length, getD, take, drop, set, length-set, length-drop}
-use lib.Seq.{getD-drop, getD-take, set-getD, take-all}
-use borrow.Author.Tests.{eq-eqb, ne-eqb, le-ltb}
+use native.Mathlib.Nat.{mod-eq-of-lt}
+use lib.ListN.{length, getD, take, drop, set, length-set, length-drop, length-append, take-append-drop}
+use lib.Seq.{getD-drop, take-all, length-take-le}
 use Rattle.model.specs.declared.Counts.{Counts}
+use Rattle.model.specs.declared.Process.{Process}
 use Rattle.model.specs.declared.Statistics.{Statistics}
-use Rattle.model.specs.Acts.{waitAct}
-use Rattle.model.specs.Summaries.{waitFrom, waitOf, statisticsOf, oneRefused, countsAfter, triedAfter, triedAt, acceptedCounted, refusedCounted}
+use Rattle.model.specs.Summaries.{statisticsOf, oneRefused, countsAfter, waitedOn, clears, clearedBy, waitedBy, refusedCounted}
 use Rattle.statistics.specs.Countings.{Room, acceptedAfter}
+use Rattle.statistics.specs.Waitings.{longerBy}
 use Rattle.statistics.proofs.Laws.{refused-after, accepted-after}
-use Rattle.layout.specs.Encodings.{countsLength, refusedPlace, triedPlace, summaryLength, statisticsNumbers, statisticsIn, summaryIn, waitIn}
+use Rattle.layout.specs.Encodings.{countsLength, refusedPlace, waitedPlace, summaryLength, statisticsNumbers, statisticsIn}
 use Rattle.layout.specs.Places.{countsPut}
 use Rattle.layout.proofs.Numbers.{summary-numbers-told}
-use Rattle.layout.proofs.Storing.{counted-stored, counts-stored, refused-stored}
-use Rattle.model.proofs.Tests.{by-test, if-eq}
+use Rattle.layout.proofs.Storing.{counts-stored, waits-stored, wait-stored, refused-stored}
+use Rattle.model.proofs.Lists.{drop-end}
+use Rattle.model.proofs.Tests.{by-test}
+use Rattle.theory.proofs.Waits.{length-waited-on, waited-on-zero}
+use Rattle.rules.specs.Judging.{slotOf}
 use Rattle.rules.proofs.Slots.{slot-in}
-use Rattle.layout.specs.Countings.{triedIn, countsCounted, acceptedIn, refusedIn}
+use Rattle.layout.specs.Countings.{waitIn, countsCounted, waitedPut, clearedIn, acceptedIn, refusedIn}
 
 module _ (l : List ℕ) (long : length l ≡ summaryLength) where
   abbrev x : Statistics
@@ -34,57 +37,67 @@ module _ (l : List ℕ) (long : length l ≡ summaryLength) where
       ap (λ (k : Counts). set l refusedPlace (k .refused)) (refused-after (x .counts) room)
       ∙ sym (refused-stored x ∙ ap (λ (k : List ℕ). set k refusedPlace (oneRefused (x .counts) .refused)) are-numbers)
 
-  module _ (act p m : ℕ) (few : p ≤ 96) (room : Room (x .counts)) where
-    tried-is : triedIn l p ≡ triedAt x p
-    unfolding statisticsIn
-    tried-is = ap (λ (i : ℕ). getD l (triedPlace i) 0) (slot-in p few) ∙ sym (getD-drop countsLength l (p - 1) 0)
-
-    abbrev counts : Counts
-    counts = countsAfter (x .counts) act m (triedAt x p)
-
-    counts-are : countsCounted l act p m ≡ countsPut (statisticsNumbers x) counts
-    unfolding statisticsIn
-    counts-are =
-        let counted = ap (acceptedAfter (x .counts) act m) tried-is ∙ accepted-after (x .counts) act m (triedAt x p) room in
-        λ i. countsPut (sym are-numbers i) (counted i)
-
-    -- a wait leaves the try times
-    waited : act ≡ waitAct → set (x .tries) (p - 1) (triedAfter (triedAt x p) act m) ≡ x .tries
-    waited e = rw e (set-getD (x .tries) (p - 1) 0)
-
-    pub accepted-numbers : acceptedIn l act p m ≡ statisticsNumbers (acceptedCounted x act p m)
-    unfolding acceptedIn acceptedCounted
-    accepted-numbers =
-        if-eq act waitAct
-        (λ e. rw (eq-eqb act waitAct e)
-        (counts-are ∙ sym (counts-stored x counts) ∙ ap (λ (t : List ℕ). statisticsNumbers (statisticsOf counts t)) (sym (waited e))))
-        (λ n. rw (ne-eqb act waitAct n)
-        ((λ i. set (counts-are i) (triedPlace (slot-in p few i)) (triedAfter (tried-is i) act m)) ∙ sym (counted-stored x counts (p - 1) _)))
-
-  pub accepted-length : (act p m : ℕ) → length (acceptedIn l act p m) ≡ summaryLength
-  unfolding acceptedIn
-  accepted-length act p m = by-test (eqb act waitAct) (λ e. rw e (simp length-set long)) (λ e. rw e (simp length-set long))
-
   pub refused-length : length (refusedIn l) ≡ summaryLength
   unfolding refusedIn
   refused-length = simp length-set long
 
--- behind the counts stand the try times, and no more
-pub tries-part : (l : List ℕ) → length l ≡ summaryLength → take (summaryLength - countsLength) (drop countsLength l) ≡ drop countsLength l
-tries-part l long = take-all (summaryLength - countsLength) (drop countsLength l) (omega (arith, length-drop countsLength l))
+  -- an accepted act of process p with the unused time d
+  module _ (act p d : ℕ) (few : p ≤ 96) (fits : waitedBy x p + d < 2 ^ 64) where
+    own-is : getD l (waitedPlace (slotOf p)) 0 ≡ waitedBy x p
+    unfolding statisticsIn
+    own-is = ap (λ (i : ℕ). getD l (waitedPlace i) 0) (slot-in p few) ∙ sym (getD-drop countsLength l (p - 1) 0)
 
--- The wait
+    pub wait-is : waitIn l p d ≡ waitedBy x p + d
+    wait-is = ap (longerBy d) own-is ∙ mod-eq-of-lt fits
 
--- a list that is long enough has a try time of each process
-pub record HasTry (summary : List ℕ) (p : ℕ) : Type 0 where
-  pub long : summaryLength ≤ length summary
-  pub some : 1 ≤ p
-  pub most : p ≤ 96
+    module _ (room : Room (x .counts)) where
+      abbrev counts : Counts
+      counts = countsAfter (x .counts) act (waitedBy x p + d)
 
--- the wait by the numbers is that by the summary
-pub wait-is : (summary : List ℕ) (p m : ℕ) → HasTry summary p → waitIn summary p m ≡ waitOf (summaryIn summary) p m
-unfolding waitIn statisticsIn
-wait-is summary p m h =
-    rw (le-ltb _ _ (h .long), ne-eqb p 0 (omega arith), le-ltb _ _ (h .most))
-    (ap (λ (tried : ℕ). waitFrom tried m)
-    (sym (getD-drop countsLength (take summaryLength summary) (p - 1) 0 ∙ getD-take summaryLength summary (triedPlace (p - 1)) 0 (omega arith))))
+      counts-are : countsCounted l act p d ≡ statisticsNumbers (statisticsOf counts (x .waited))
+      unfolding statisticsIn
+      counts-are =
+          let counted = ap (acceptedAfter (x .counts) act) wait-is ∙ accepted-after (x .counts) act (waitedBy x p + d) room in
+          (λ i. countsPut (sym are-numbers i) (counted i)) ∙ sym (counts-stored x counts)
+
+      pub accepted-numbers : (qs : List Process)
+          → acceptedIn l qs act p d ≡ statisticsNumbers (statisticsOf counts (clearedBy act p (waitedOn d qs (x .waited))))
+      unfolding acceptedIn
+      accepted-numbers qs =
+          let y = statisticsOf counts (waitedOn d qs (x .waited)) in
+          ap (λ (k : List ℕ). clearedIn (waitedPut k qs d) act p) counts-are
+          ∙ ap (λ (k : List ℕ). clearedIn k act p) (sym (waits-stored (statisticsOf counts (x .waited)) qs d))
+          ∙ by-test (clears act)
+          (λ e. rw e (ap (λ (i : ℕ). set (statisticsNumbers y) (waitedPlace i) 0) (slot-in p few) ∙ sym (wait-stored y (p - 1) 0)))
+          (λ e. rw e)
+
+-- behind the counts stand the waits so far, and no more
+pub waits-part : (l : List ℕ) → length l ≡ summaryLength → take (summaryLength - countsLength) (drop countsLength l) ≡ drop countsLength l
+waits-part l long = take-all (summaryLength - countsLength) (drop countsLength l) (omega (arith, length-drop countsLength l))
+
+-- other counts leave them
+pub waits-kept : (l : List ℕ) (k : Counts) → drop countsLength (countsPut l k) ≡ drop countsLength l
+waits-kept [] k = refl
+waits-kept (_ ∷ []) k = refl
+waits-kept (_ ∷ _ ∷ []) k = refl
+waits-kept (_ ∷ _ ∷ _ ∷ []) k = refl
+waits-kept (_ ∷ _ ∷ _ ∷ _ ∷ []) k = refl
+waits-kept (_ ∷ _ ∷ _ ∷ _ ∷ _ ∷ rest) k = refl
+
+-- put back in their place, those that were gone over are the waits so far
+pub waits-put : (l : List ℕ) → length l ≡ summaryLength → {new : List ℕ} (qs : List Process) (d : ℕ)
+    → new ≡ waitedOn d qs (take (summaryLength - countsLength) (drop countsLength l))
+    → take countsLength l ++ (new ++ drop (summaryLength - countsLength) (drop countsLength l)) ≡ waitedPut l qs d
+waits-put l long {new} qs d e =
+    let none = drop-end (drop countsLength l) (summaryLength - countsLength) (omega (arith, length-drop countsLength l))
+    (omega (arith, length-drop countsLength l)) in
+    rw (none, append-nil new, e, waits-part l long)
+
+-- where no time is unused they stand
+pub waits-rest : (l : List ℕ) (qs : List Process) {d : ℕ} → d ≡ 0 → l ≡ waitedPut l qs d
+waits-rest l qs e = sym (rw (e, waited-on-zero qs (drop countsLength l)) (take-append-drop countsLength l))
+
+pub put-length : (l : List ℕ) (qs : List Process) (d : ℕ) → length l ≡ summaryLength → length (waitedPut l qs d) ≡ summaryLength
+put-length l qs d long =
+    length-append (take countsLength l) (waitedOn d qs (drop countsLength l))
+    ∙ omega (arith, length-waited-on d qs (drop countsLength l), length-take-le countsLength l (omega arith), length-drop countsLength l)

@@ -79,7 +79,7 @@ module _ (l : List ℕ) (e : isSoundTable l ≡ true) where
 
 -- Summaries
 
-pub summary-length : (x : Statistics) → length (x .tries) ≡ 96 → length (statisticsNumbers x) ≡ summaryLength
+pub summary-length : (x : Statistics) → length (x .waited) ≡ 96 → length (statisticsNumbers x) ≡ summaryLength
 summary-length x whole = omega (arith, length-summary x)
 
 pub summary-comes-back : SummaryComesBack
@@ -90,8 +90,8 @@ module _ (l : List ℕ) (fits : summaryLength ≤ length l) where
   summary-numbers : statisticsNumbers (summaryIn l) ≡ take summaryLength l
   summary-numbers = summary-numbers-told (take summaryLength l) (omega (arith, length-take-le summaryLength l fits))
 
-  -- which has 96 try times
-  pub summary-is-whole : length (summaryIn l .tries) ≡ 96
+  -- which has 96 waits so far
+  pub summary-is-whole : length (summaryIn l .waited) ≡ 96
   summary-is-whole =
       omega (
         arith,

@@ -58,7 +58,7 @@ module _ (table : List ℕ) (fits : tableLength ≤ length table) (act p m : ℕ
 
   -- the first numbers give what the step in place gives of them
   module _ {j : Answer} {new : List ℕ} (e : lentGave j new ≡ actedIn first (surveyIn first p) act p m) where
-    new-long : length new ≡ tableLength
+    pub new-long : length new ≡ tableLength
     new-long = ap (λ (g : Lent). length (g .table)) e ∙ acted-length first (surveyIn first p) act p m ∙ first-long
 
     unsound-front : isSoundTable table ≡ false → lentGave j (new ++ drop tableLength table) ≡ lentStep table act p m
@@ -72,11 +72,14 @@ module _ (table : List ℕ) (fits : tableLength ≤ length table) (act p m : ℕ
       is-step : lentGave j new ≡ outcomeNumbers o
       is-step = e ∙ step-acted first first-long act p m ∙ rw (sym (first-sound table fits) ∙ sound)
 
+      pub new-numbers : new ≡ stateNumbers (o .state)
+      new-numbers = ap (λ (g : Lent). g .table) is-step
+
       pub answer-front : j ≡ o .answer
       answer-front = ap (λ (g : Lent). g .answer) is-step
 
       pub table-front : new ++ drop tableLength table ≡ over (stateNumbers (o .state)) table
-      table-front = front-over tableLength table (ap (λ (g : Lent). g .table) is-step) new-long
+      table-front = front-over tableLength table new-numbers new-long
 
     pub step-front : lentGave j (new ++ drop tableLength table) ≡ lentStep table act p m
     unfolding lentStep

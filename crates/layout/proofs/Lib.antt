@@ -5,6 +5,7 @@ pub mod Entries
 pub mod Lists
 pub mod Saving
 pub mod Storing
+pub mod Waiting
 pub mod Zeros
 pub mod Looks
 pub mod Surveys

@@ -132,7 +132,7 @@ state-numbers-told l h e = rw (entries-told (drop headerLength l) e, ← drop-at
 
 -- A summary
 
-pub length-summary : (x : Statistics) → length (statisticsNumbers x) ≡ countsLength + length (x .tries)
+pub length-summary : (x : Statistics) → length (statisticsNumbers x) ≡ countsLength + length (x .waited)
 unfolding statisticsNumbers
 length-summary x = omega arith
 

@@ -1,12 +1,13 @@
 -- What the recorded step gives back on lent lists, of which the first numbers are the table and the summary. Assumes nothing.
-use Prim.Native.Nat.{ℕ, _≤_, _<_}
+use Prim.Native.Nat.{ℕ, _+_, _-_, _^_, _≤_, _<_}
 use mathlib.Core.Path.{_≡_, refl, sym, ap, _∙_}
 use mathlib.Core.Logic.{_≢_}
 use mathlib.Core.Bool.{true, false}
-use mathlib.Core.List.{List, _++_}
-use lib.ListN.{length, take, drop}
+use mathlib.Core.List.{List, [], _++_, append-nil}
+use native.Mathlib.Omega.{arith}
+use lib.ListN.{length, getD, take, drop}
 use lib.Seq.{length-take-le}
-use borrow.Author.Tests.{lt-ltb, le-ltb}
+use borrow.Author.Tests.{lt-ltb, le-ltb, eq-eqb, ne-eqb}
 use Rattle.model.specs.declared.State.{State}
 use Rattle.model.specs.declared.Answer.{Answer}
 use Rattle.model.specs.declared.Outcome.{Outcome}
@@ -14,22 +15,33 @@ use Rattle.model.specs.declared.Recorded.{Recorded}
 use Rattle.model.specs.declared.Statistics.{Statistics}
 use Rattle.model.specs.Answers.{answerOf, answers, stepOf}
 use Rattle.model.specs.Readings.{over}
+use Rattle.model.specs.Summaries.{statisticsOf, countsAfter, unusedTime, waitedOn, clearedBy, waitedBy, waitOf}
 use Rattle.model.specs.Summaries.{acceptedCounted, refusedCounted, beside, recordedOf}
+use Rattle.model.specs.Facts.{Accepted}
 use Rattle.model.proofs.Tests.{clash}
+use Rattle.theory.specs.Acceptance.{Allowed}
 use Rattle.theory.specs.Summaries.{HasRoom}
+use Rattle.theory.proofs.Acceptance.{accepted-iff-allowed, next-is-changed}
+use Rattle.theory.proofs.StaysSound.{sound-kept}
+use Rattle.theory.proofs.Waits.{unused-fits, waited-after-act, length-waited-after}
 use Rattle.theory.proofs.Steps.{unsound-iff-one}
+use Rattle.rules.specs.Judging.{othersFrom}
 use Rattle.statistics.specs.Countings.{Room}
+use Rattle.statistics.specs.Waitings.{unusedBeside}
+use Rattle.statistics.proofs.Waits.{unused-is}
 use Rattle.statistics.proofs.Laws.{faultOf, no-fault-room, counts-room, accepted-named, recorded-fault, gives-accepted, gives-refused}
-use Rattle.layout.specs.Encodings.{tableLength, stateNumbers, stateIn, tableIn, isSoundTable, clockIn}
+use Rattle.layout.specs.Encodings.{tableLength, stateNumbers, stateIn, tableIn, isSoundTable, clockIn, countsLength}
 use Rattle.layout.specs.Encodings.{summaryLength, statisticsNumbers, statisticsIn, summaryIn}
-use Rattle.layout.specs.Interface.{lentGave, recordGave, recordedLent, lentRecord}
-use Rattle.layout.proofs.Encodings.{numbers-come-back, sound-is-table, table-is-sound, summary-numbers-come-back}
+use Rattle.layout.specs.Interface.{lentGave, LentBoth, recordGave, recordedLent, lentRecord, LentEntry, entryGave, lentEntry}
+use Rattle.layout.proofs.Numbers.{state-told}
+use Rattle.layout.proofs.Encodings.{table-comes-back, table-is-whole, numbers-come-back, sound-is-table, table-is-sound}
+use Rattle.layout.proofs.Encodings.{summary-length, summary-is-whole, summary-numbers-come-back}
 use Rattle.layout.specs.Steps.{actedIn, surveyIn}
-use Rattle.layout.specs.Countings.{faultIn, acceptedIn, refusedIn}
+use Rattle.layout.specs.Countings.{faultIn, waitIn, acceptedIn, refusedIn}
 use Rattle.layout.proofs.Surveys.{Found, faulty, whole, survey-found}
 use Rattle.layout.proofs.Lists.{front-over}
-use Rattle.layout.proofs.Lending.{first-sound, answer-front, table-front}
-use Rattle.layout.proofs.Counting.{refused-numbers, accepted-numbers, accepted-length, refused-length}
+use Rattle.layout.proofs.Lending.{first-sound, new-numbers, answer-front, table-front}
+use Rattle.layout.proofs.Counting.{refused-numbers, refused-length, wait-is, accepted-numbers}
 
 record-gave : {r s : Answer} {t u x y : List ℕ} → r ≡ s → t ≡ u → x ≡ y → recordGave r t x ≡ recordGave s u y
 record-gave r t x = λ i. recordGave (r i) (t i) (x i)
@@ -56,6 +68,17 @@ module _ (table : List ℕ) (fits : tableLength ≤ length table) (p : ℕ) wher
       go : Found first p (surveyIn first p) → isSoundTable table ≡ true
       go (faulty _ n) = absurd (n z)
       go (whole e _) = first-sound table fits ∙ e
+
+-- The lowest critical process besides the acting one
+
+others-found : (table : List ℕ) → tableLength ≤ length table → (p : ℕ) → isSoundTable table ≡ true
+    → surveyIn (take tableLength table) p .critical ≡ othersFrom p 1 (tableIn table .processes)
+others-found table fits p sound = go (found table fits p)
+  where
+    go : Found (take tableLength table) p (surveyIn (take tableLength table) p)
+        → surveyIn (take tableLength table) p .critical ≡ othersFrom p 1 (tableIn table .processes)
+    go (faulty e _) = clash sound (first-sound table fits ∙ e)
+    go (whole _ w) = sym (w .critical)
 
 -- The refusals of table and summary
 
@@ -126,14 +149,67 @@ module _ (table summary : List ℕ) (act p m : ℕ) where
             first-long : length counts-first ≡ summaryLength
             first-long = length-take-le summaryLength summary fits
 
-            pub record-accepted : j .code ≡ 0 → {u : List ℕ} → u ≡ acceptedIn counts-first act p m
-                → recordGave j (new ++ drop tableLength table) (u ++ drop summaryLength summary) ≡ lentRecord table summary act p m
-            record-accepted z f =
-                let accepted = sym code-is ∙ z in
-                let y = acceptedCounted x act p m in
-                gives {r = beside y o} (gives-accepted s x act p m has-room refl accepted refl) answer-is (table-front table long act p m e sound)
-                (front-over summaryLength summary (f ∙ accepted-numbers counts-first first-long act p m (accepted-named s act p m accepted) room)
-                (ap length f ∙ accepted-length counts-first first-long act p m))
+            -- An accepted act: u has the counts and waits so far, with the unused time d by what was found of the table
+
+            module _ (z : j .code ≡ 0) where
+              accepted : Accepted o
+              accepted = sym code-is ∙ z
+
+              allowed : Allowed s act p m
+              allowed = accepted-iff-allowed s (table-is-sound table sound) act p m .0 accepted
+
+              size : length (s .processes) ≡ 96
+              size = table-is-whole table (sound-is-table table sound)
+
+              state-after : stateIn new ≡ o .state
+              state-after = ap stateIn (new-numbers table long act p m e sound) ∙ state-told (o .state)
+
+              pub sound-after : isSoundTable new ≡ true
+              unfolding isSoundTable
+              sound-after =
+                  let back = table-comes-back (o .state) (next-is-changed s size act p m accepted .size-stays ∙ size) [] in
+                  let numbers = new-numbers table long act p m e sound ∙ sym (append-nil (stateNumbers (o .state))) in
+                  rw (numbers, back .0, back .1) (sound-kept s size act p m (table-is-sound table sound) accepted)
+
+              module _ {d : ℕ} (d-is : d ≡ unusedBeside (surveyIn (take tableLength table) p .critical) act (clockIn (take tableLength table)) m) where
+                unused : d ≡ unusedTime s m
+                unfolding stateIn
+                unused =
+                    d-is ∙ ap (λ (others : ℕ). unusedBeside others act (s .clock) m) (others-found table long p sound) ∙ unused-is s allowed
+
+                pub waits-fit : (i : ℕ) → getD (drop countsLength counts-first) i 0 + d < 2 ^ 64
+                unfolding statisticsIn
+                waits-fit i =
+                    omega (arith, unused, has-room .sound .waited i, unused-fits s m (allowed .forward), allowed .within)
+
+                own-fits : waitedBy x p + d < 2 ^ 64
+                unfolding statisticsIn
+                own-fits = waits-fit (p - 1)
+
+                counted-is : statisticsOf (countsAfter (x .counts) act (waitedBy x p + d)) (clearedBy act p (waitedOn d (stateIn new .processes) (x .waited)))
+                    ≡ acceptedCounted s x act p m
+                unfolding acceptedCounted
+                counted-is =
+                    let changed = next-is-changed s size act p m accepted in
+                    rw (unused, state-after)
+                    (ap (statisticsOf (countsAfter (x .counts) act (waitOf s x p m))) (waited-after-act allowed changed (unusedTime s m) (x .waited)))
+
+                counted-long : length (statisticsNumbers (acceptedCounted s x act p m)) ≡ summaryLength
+                unfolding acceptedCounted
+                counted-long = summary-length (acceptedCounted s x act p m) (length-waited-after s (x .waited) act p m ∙ summary-is-whole summary fits)
+
+                pub wait-told : {wait : ℕ} → wait ≡ waitIn counts-first p d → wait ≡ waitOf s x p m
+                wait-told f =
+                    f ∙ wait-is counts-first first-long act p d (accepted-named s act p m accepted) own-fits ∙ ap (λ (k : ℕ). waitedBy x p + k) unused
+
+                pub record-accepted : {u : List ℕ} → u ≡ acceptedIn counts-first (stateIn new .processes) act p d
+                    → recordGave j (new ++ drop tableLength table) (u ++ drop summaryLength summary) ≡ lentRecord table summary act p m
+                record-accepted f =
+                    let y = acceptedCounted s x act p m in
+                    let numbers = accepted-numbers counts-first first-long act p d (accepted-named s act p m accepted) own-fits room (stateIn new .processes)
+                    ∙ ap statisticsNumbers counted-is in
+                    gives {r = beside y o} (gives-accepted s x act p m has-room refl accepted refl) answer-is (table-front table long act p m e sound)
+                    (front-over summaryLength summary (f ∙ numbers) (ap length (f ∙ numbers) ∙ counted-long))
 
             pub record-counted : j .code ≢ 0 → {u : List ℕ} → u ≡ refusedIn counts-first
                 → recordGave j (new ++ drop tableLength table) (u ++ drop summaryLength summary) ≡ lentRecord table summary act p m
@@ -145,3 +221,26 @@ module _ (table summary : List ℕ) (act p m : ℕ) where
               where
                 not-one : o .answer .code ≢ 1
                 not-one z = clash (table-is-sound table sound) (unsound-iff-one s act p m .0 z)
+
+-- With the wait
+
+module _ (table summary : List ℕ) (act p m : ℕ) {g : LentBoth} (e : g ≡ lentRecord table summary act p m) where
+  pub entry-refused : g .answer .code ≢ 0 → {wait : ℕ} → wait ≡ 0 → entryGave g wait ≡ lentEntry table summary act p m
+  unfolding lentEntry
+  entry-refused n w = rw (← e, ne-eqb _ _ n, w)
+
+  pub entry-accepted : g .answer .code ≡ 0 → {wait : ℕ} → wait ≡ waitOf (tableIn table) (summaryIn summary) p m
+      → entryGave g wait ≡ lentEntry table summary act p m
+  unfolding lentEntry
+  entry-accepted z w = rw (← e, eq-eqb _ _ z, w)
+
+-- What such a call gave: the recorded step, and with an accepted act the wait
+
+module _ (table summary : List ℕ) (act p m : ℕ) {g : LentBoth} {wait : ℕ} (e : entryGave g wait ≡ lentEntry table summary act p m) where
+  pub entry-record : g ≡ lentRecord table summary act p m
+  unfolding lentEntry
+  entry-record = ap (λ (k : LentEntry). k .recorded) e
+
+  pub entry-wait : g .answer .code ≡ 0 → wait ≡ waitOf (tableIn table) (summaryIn summary) p m
+  unfolding lentEntry
+  entry-wait z = ap (λ (k : LentEntry). k .wait) e ∙ rw (← entry-record, eq-eqb _ _ z)

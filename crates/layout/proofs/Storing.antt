@@ -1,5 +1,5 @@
 -- What an action stores is what it changes: the clock, the word and the entry of its process in the numbers of a table, the counts and
--- the try time of its process in those of a summary. Assumes nothing.
+-- the waits so far in those of a summary. Assumes nothing.
 use Prim.Native.Nat.{ℕ, zero, suc, _+_, _*_, _-_}
 use mathlib.Core.Path.{_≡_, refl, sym, ap, _∙_}
 use mathlib.Core.List.{List, [], _∷_, _++_}
@@ -13,10 +13,11 @@ use Rattle.model.specs.declared.Counts.{Counts}
 use Rattle.model.specs.declared.Statistics.{Statistics}
 use Rattle.model.specs.States.{entry, stageOf, sinceOf}
 use Rattle.model.specs.Actions.{changed, waited, moved}
-use Rattle.model.specs.Summaries.{countsNumbers, statisticsOf, oneRefused, refusedCounted}
+use Rattle.model.specs.Summaries.{countsNumbers, statisticsOf, oneRefused, waitedOn, refusedCounted}
 use Rattle.layout.specs.Encodings.{stride, sincePlace, processNumbers, parametersNumbers, stateNumbers}
-use Rattle.layout.specs.Encodings.{headerLength, refusedPlace, triedPlace, statisticsNumbers}
+use Rattle.layout.specs.Encodings.{headerLength, refusedPlace, waitedPlace, statisticsNumbers}
 use Rattle.layout.specs.Places.{clocked, placedAt, countsPut}
+use Rattle.layout.specs.Countings.{waitedPut}
 use Rattle.layout.proofs.Lists.{set-behind}
 
 -- A table
@@ -60,16 +61,22 @@ waited-stored s m = refl
 
 -- A summary
 
--- other counts, and another try time
-pub counted-stored : (x : Statistics) (k : Counts) (i v : ℕ)
-    → statisticsNumbers (statisticsOf k (set (x .tries) i v)) ≡ set (countsPut (statisticsNumbers x) k) (triedPlace i) v
-unfolding statisticsNumbers
-counted-stored x k i v = sym (set-behind (countsNumbers k) (x .tries) i v)
-
--- other counts alone
-pub counts-stored : (x : Statistics) (k : Counts) → statisticsNumbers (statisticsOf k (x .tries)) ≡ countsPut (statisticsNumbers x) k
+-- other counts
+pub counts-stored : (x : Statistics) (k : Counts) → statisticsNumbers (statisticsOf k (x .waited)) ≡ countsPut (statisticsNumbers x) k
 unfolding statisticsNumbers
 counts-stored x k = refl
+
+-- time that is added to the waits so far
+pub waits-stored : (x : Statistics) (qs : List Process) (d : ℕ)
+    → statisticsNumbers (statisticsOf (x .counts) (waitedOn d qs (x .waited))) ≡ waitedPut (statisticsNumbers x) qs d
+unfolding statisticsNumbers
+waits-stored x qs d = refl
+
+-- another wait so far
+pub wait-stored : (x : Statistics) (i v : ℕ)
+    → statisticsNumbers (statisticsOf (x .counts) (set (x .waited) i v)) ≡ set (statisticsNumbers x) (waitedPlace i) v
+unfolding statisticsNumbers
+wait-stored x i v = sym (set-behind (countsNumbers (x .counts)) (x .waited) i v)
 
 -- another count of refused actions
 pub refused-stored : (x : Statistics)

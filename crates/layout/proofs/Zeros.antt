@@ -1,16 +1,15 @@
--- Numbers that are all 0: looked at as one, one by one, and in pairs. Assumes nothing.
-use Prim.Native.Nat.{ℕ, _+_, _<_}
+-- Numbers that are all 0: looked at as one, and one by one. Assumes nothing.
+use Prim.Native.Nat.{ℕ}
 use mathlib.Core.Path.{_≡_, sym, _∙_}
 use mathlib.Core.Bool.{false, _&&_, and-assoc, and-true}
-use mathlib.Core.List.{List}
+use mathlib.Core.List.{List, [], _∷_}
 use native.Mathlib.Omega.{arith}
 use lib.Bits.{bitOr, or-add-and, and-le-l, and-le-r}
 use lib.Dec.{eqb}
-use lib.ListN.{length, getD, drop}
 use borrow.Author.Tests.{eq-eqb, ne-eqb}
 use Rattle.layout.specs.Places.{areZero}
-use Rattle.model.proofs.Lists.{drop-at, drop-end}
 use Rattle.model.proofs.Tests.{if-eq}
+use Rattle.values.specs.Bits.{bitsOn, bitsOf}
 
 -- the bits of two numbers together are 0 where both are
 or-zero : (a b : ℕ) → eqb (bitOr a b) 0 ≡ eqb a 0 && eqb b 0
@@ -29,14 +28,11 @@ or-zero a b =
         (λ e. if-eq b 0 (λ f. absurd (n (rw (e, f)))) (λ f. rw (e, ne-eqb b 0 f)))
         (λ e. rw (ne-eqb a 0 e))
 
--- i numbers are looked at, and `all` is what they come to
-pub zero-next : (l : List ℕ) (all i : ℕ) → i < length l
-    → eqb (bitOr all (getD l i 0)) 0 && areZero (drop (i + 1) l) ≡ eqb all 0 && areZero (drop i l)
-unfolding areZero
-zero-next l all i h =
-    rw (or-zero all (getD l i 0), drop-at l i 0 h) (and-assoc (eqb all 0) (eqb (getD l i 0) 0) (areZero (drop (i + 1) l)))
+-- with the bits that came before
+zero-on : (bits : ℕ) (l : List ℕ) → eqb (bitsOn bits l) 0 ≡ eqb bits 0 && areZero l
+unfolding bitsOn areZero
+zero-on bits [] = sym (and-true (eqb bits 0))
+zero-on bits (x ∷ xs) = zero-on (bitOr bits x) xs ∙ rw (or-zero bits x) (and-assoc (eqb bits 0) (eqb x 0) (areZero xs))
 
--- nothing is left of them
-pub zeros-end : (l : List ℕ) (all i : ℕ) → length l ≡ i → eqb all 0 && areZero (drop i l) ≡ areZero l → eqb all 0 ≡ areZero l
-unfolding areZero
-zeros-end l all i e h = sym (and-true (eqb all 0)) ∙ rw (drop-end l i (omega arith) (omega arith)) at h
+pub bits-zero : (l : List ℕ) → eqb (bitsOf l) 0 ≡ areZero l
+bits-zero l = zero-on 0 l

@@ -1,10 +1,10 @@
 -- Section 9 of the specification, its lists: a state and a summary as numbers at fixed places, for a caller who can lend nothing else.
 -- Assumes nothing.
-use Prim.Native.Nat.{ℕ, _+_, _*_, _-_}
-use mathlib.Core.Bool.{Bool, true, false, cond, _&&_, _||_}
+use Prim.Native.Nat.{ℕ, _+_, _*_}
+use mathlib.Core.Bool.{Bool, true, false, _&&_}
 use mathlib.Core.List.{List, [], _∷_, _++_}
 use lib.ListN.{length, getD, take, drop}
-use lib.Dec.{leb, ltb, eqb}
+use lib.Dec.{leb, eqb}
 use Rattle.model.specs.declared.Process.{Process}
 use Rattle.model.specs.declared.Parameters.{Parameters}
 use Rattle.model.specs.declared.State.{State}
@@ -12,7 +12,7 @@ use Rattle.model.specs.declared.Counts.{Counts}
 use Rattle.model.specs.declared.Statistics.{Statistics}
 use Rattle.model.specs.Stages.{leaving}
 use Rattle.model.specs.States.{entry, stageOf, sinceOf, soundOf, locationAt, parametersOf}
-use Rattle.model.specs.Summaries.{countsOf, countsNumbers, statisticsOf, waitFrom}
+use Rattle.model.specs.Summaries.{countsOf, countsNumbers, statisticsOf}
 
 -- A table, the numbers of a state
 
@@ -147,13 +147,13 @@ exitsPlace = 3
 abbrev pub longestPlace : ℕ
 longestPlace = 4
 
--- [9.30] the numbers before the try times
+-- [9.30] the numbers before the waits so far
 abbrev pub countsLength : ℕ
 countsLength = 5
 
--- [9.30] where the try time of an entry stands
-abbrev pub triedPlace : ℕ → ℕ
-triedPlace i = countsLength + i
+-- [9.30] where the wait so far of an entry stands
+abbrev pub waitedPlace : ℕ → ℕ
+waitedPlace i = countsLength + i
 
 -- [9.30] the numbers of a summary
 abbrev pub summaryLength : ℕ
@@ -161,7 +161,7 @@ summaryLength = countsLength + 96
 
 -- [9.30]
 unfoldable pub statisticsNumbers : Statistics → List ℕ
-statisticsNumbers x = countsNumbers (x .counts) ++ x .tries
+statisticsNumbers x = countsNumbers (x .counts) ++ x .waited
 
 -- [9.30] the counts that they tell
 abbrev pub summaryCounts : List ℕ → Counts
@@ -175,7 +175,3 @@ statisticsIn l = statisticsOf (summaryCounts l) (drop countsLength l)
 -- [9.30] the summary that the first numbers of a list tell
 abbrev pub summaryIn : List ℕ → Statistics
 summaryIn l = statisticsIn (take summaryLength l)
-
--- [5.90] [10.200] the wait that a crit of process p at the time m ends; a list that is too short has none, nor has a number that is no process
-unfoldable pub waitIn : List ℕ → ℕ → ℕ → ℕ
-waitIn l p m = cond (ltb (length l) summaryLength || (eqb p 0 || ltb 96 p)) 0 (waitFrom (getD l (triedPlace (p - 1)) 0) m)

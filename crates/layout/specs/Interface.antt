@@ -11,7 +11,7 @@ use Rattle.model.specs.declared.Outcome.{Outcome}
 use Rattle.model.specs.declared.Recorded.{Recorded}
 use Rattle.model.specs.Answers.{answerOf, freshOf, stepOf}
 use Rattle.model.specs.Readings.{over}
-use Rattle.model.specs.Summaries.{newStatistics, recordedOf}
+use Rattle.model.specs.Summaries.{newStatistics, waitOf, recordedOf}
 use Rattle.layout.specs.Encodings.{tableLength, stateNumbers, tableIn, isSoundTable, summaryLength, statisticsNumbers, summaryIn}
 
 -- A lent table: the answer, and its numbers
@@ -82,3 +82,20 @@ lentRecord table summary act p m =
     cond (not (isSoundTable table)) (recordGave (answerOf 1 0 0) table summary)
     (cond (ltb (length summary) summaryLength) (recordGave (answerOf 2 0 0) table summary)
     (recordedLent (recordedOf (tableIn table) (summaryIn summary) act p m) table summary))
+
+-- The wait besides, for a board
+
+-- helper: what a recorded step gives back, and the wait
+pub record LentEntry : Type 0 where
+  pub recorded : LentBoth
+  pub wait : ℕ
+
+-- helper: from its parts
+abbrev pub entryGave : LentBoth → ℕ → LentEntry
+entryGave r wait = record { recorded = r; wait = wait }
+
+-- [5.90] [10.200] the recorded step, and beside an accepted action the wait that it ends, if it is a crit
+unfoldable pub lentEntry : List ℕ → List ℕ → ℕ → ℕ → ℕ → LentEntry
+lentEntry table summary act p m =
+    entryGave (lentRecord table summary act p m)
+    (cond (eqb (lentRecord table summary act p m .answer .code) 0) (waitOf (tableIn table) (summaryIn summary) p m) 0)

@@ -1,5 +1,5 @@
 -- Section 9 of the specification, the number of the layout. Whoever makes a list that is lent longer finds that `LayoutIsNumbered` no longer
--- holds; that a layout is added then, and none edited, is his to see to. Assumes nothing.
+-- holds; that a layout is added then, and none edited, is his to see to, and where a number comes to mean something else, all. Assumes nothing.
 use Prim.Native.Nat.{ℕ, _-_}
 use mathlib.Core.Path.{_≡_}
 use mathlib.Core.List.{List, [], _∷_}
@@ -19,13 +19,17 @@ pub record Layout : Type 0 where
 abbrev pub firstLayout : Layout
 firstLayout = record { table = 198; header = 6; entry = 2; summary = 101; counts = 5; board = 3_076 }
 
+-- helper: that of the number 2, as long: a summary has waits so far where it had try times
+abbrev pub secondLayout : Layout
+secondLayout = firstLayout
+
 -- [9.15] all that there have been, that of the number 1 first
 abbrev pub layouts : List Layout
-layouts = firstLayout ∷ []
+layouts = firstLayout ∷ secondLayout ∷ []
 
 -- [9.15] the number of the one that lists have
 abbrev pub layoutNumber : ℕ
-layoutNumber = 1
+layoutNumber = 2
 
 -- [9.15] the layout of that number
 abbrev pub layout : Layout

@@ -25,11 +25,11 @@ TableIsWhole = (l : List ℕ) → isTable l ≡ true → length (tableIn l .proc
 abbrev pub NumbersComeBack : Type 0
 NumbersComeBack = (l : List ℕ) → isTable l ≡ true → over (stateNumbers (tableIn l)) l ≡ l
 
--- Summaries, of 96 try times
+-- Summaries, of 96 waits so far
 
 -- [9.40] as a table does
 abbrev pub SummaryComesBack : Type 0
-SummaryComesBack = (x : Statistics) → length (x .tries) ≡ 96 → (rest : List ℕ) → summaryIn (statisticsNumbers x ++ rest) ≡ x
+SummaryComesBack = (x : Statistics) → length (x .waited) ≡ 96 → (rest : List ℕ) → summaryIn (statisticsNumbers x ++ rest) ≡ x
 
 -- [9.40] any numbers, if there are enough of them
 abbrev pub SummaryNumbersComeBack : Type 0

@@ -12,21 +12,20 @@ use crate::steps::act;
 use crate::steps::survey_table;
 use crate::summaries::SUMMARY;
 use crate::summaries::clear;
-use crate::summaries::tried_in;
 use crate::tables::TABLE;
 use crate::tables::clock_in;
 use crate::tables::put_table;
 use model::Answer;
 use model::Parameters;
-use statistics::wait_from;
+use statistics::waiting::unused_time;
 use values::answer_with;
 ghost use mathlib.Core.Path.{_≡_};
-ghost use Rattle.layout.specs.Encodings.{waitIn};
-ghost use Rattle.layout.specs.Interface.{lentGave, lentFresh, lentStep, recordGave, lentRecord, summaryGave, lentSummary};
+ghost use Rattle.layout.specs.Interface.{lentGave, lentFresh, lentStep, recordGave, lentRecord, summaryGave, lentSummary, entryGave, lentEntry};
 ghost use Rattle.layout.specs.Layouts.{layoutNumber};
+ghost use Rattle.layout.specs.Countings.{refusedWith};
 
 // [9.15]
-const LAYOUT: u64 = 1;
+const LAYOUT: u64 = 2;
 
 // [9.15] [21.110] The number of the layout.
 pub fn number() -> u64
@@ -73,7 +72,7 @@ pub fn new_summary(summary: &mut [u64]) -> Answer
     answer_with(0, 0, 0)
 }
 
-// [9.80] [21.110] One act, in the lent table, counted in the lent summary. Table and summary are judged before either is written.
+// [9.80] [21.110] One act, in the lent table, counted in the lent summary.
 pub fn record(
     table: &mut [u64],
     summary: &mut [u64],
@@ -84,42 +83,67 @@ pub fn record(
     ensures { λ r. ⌜ recordGave r (now (table .exit)) (now (summary .exit))
         ≡ lentRecord (now (table .entry)) (now (summary .entry)) action process time ⌝ }
 {
+    let entered = record_entry(table, summary, action, process, time);
+    entered.answer
+}
+
+// [5.90] [10.200] What a recorded step answers, and beside an accepted action the wait that it ends, if it is a crit.
+pub struct Entered {
+    pub answer: Answer,
+    pub wait: u64,
+}
+
+// A refusal ends no wait.
+fn refused(answer: Answer) -> Entered
+    ensures { λ r. ⌜ r ≡ refusedWith answer ⌝ }
+{
+    Entered {
+        answer: answer,
+        wait: 0,
+    }
+}
+
+// [5.90] [9.80] [10.200] [21.110] As `record`, with the wait. Table and summary are judged before either is written.
+pub fn record_entry(
+    table: &mut [u64],
+    summary: &mut [u64],
+    action: u64,
+    process: u64,
+    time: u64,
+) -> Entered
+    ensures { λ r. ⌜ entryGave (recordGave (r .answer) (now (table .exit)) (now (summary .exit))) (r .wait)
+        ≡ lentEntry (now (table .entry)) (now (summary .entry)) action process time ⌝ }
+{
     if table.len() < TABLE {
-        return answer_with(1, 0, 0);
+        return refused(answer_with(1, 0, 0));
     }
     let found = survey_table(&table[..TABLE], process);
     if found.faulty != 0 {
-        return answer_with(1, 0, 0);
+        return refused(answer_with(1, 0, 0));
     }
     if summary.len() < SUMMARY {
-        return answer_with(2, 0, 0);
+        return refused(answer_with(2, 0, 0));
     }
-    let fault = fault_of(&summary[..SUMMARY], clock_in(&table[..TABLE]));
+    let clock = clock_in(&table[..TABLE]);
+    let fault = fault_of(&summary[..SUMMARY], clock);
     if fault != 0 {
-        return answer_with(fault, 0, 0);
+        return refused(answer_with(fault, 0, 0));
     }
     let answer = act(&mut table[..TABLE], found, action, process, time);
-    if answer.code == 0 {
-        count_accepted(&mut summary[..SUMMARY], action, process, time);
-    } else {
+    if answer.code != 0 {
         count_refused(&mut summary[..SUMMARY]);
+        return refused(answer);
     }
-    answer
-}
-
-// [5.90] [10.200] The wait that a crit of a process at a time ends, by a list for a summary; 0 where the list has no try time of it.
-pub fn wait_in(summary: &[u64], process: u64, time: u64) -> u64
-    ensures { λ r. ⌜ r ≡ waitIn (now (summary .entry)) process time ⌝ }
-{
-    if summary.len() < SUMMARY {
-        return 0;
+    let unused = unused_time(found.critical, action, clock, time);
+    let wait = count_accepted(
+        &mut summary[..SUMMARY],
+        &table[..TABLE],
+        action,
+        process,
+        unused,
+    );
+    Entered {
+        answer: answer,
+        wait: wait,
     }
-    if process == 0 {
-        return 0;
-    }
-    if 96 < process {
-        return 0;
-    }
-    let tried = tried_in(&summary[..SUMMARY], (process - 1) as usize);
-    wait_from(tried, time)
 }

@@ -28,6 +28,7 @@ use rules::survey::empty;
 use rules::survey::fault;
 use rules::survey::note_numbers;
 use rules::survey::scene_of;
+use values::bits_of;
 use values::limit_of;
 ghost use mathlib.Core.Path.{_≡_};
 ghost use Prim.Native.Nat.{_*_, _<_};
@@ -38,18 +39,10 @@ ghost use Rattle.layout.specs.Places.{entriesIn, areZero};
 ghost use Rattle.rules.specs.Survey.{nothing};
 ghost use Rattle.layout.specs.Steps.{entriesNoted, surveyIn, actionPut, actedIn};
 
-// There is no break: so the compiler takes four numbers at a time.
 fn are_zero(numbers: &[u64]) -> bool
     ensures { λ r. ⌜ r ≡ areZero (now (numbers .entry)) ⌝ }
 {
-    let end = numbers.len();
-    let mut all: u64 = 0;
-    let mut i: usize = 0;
-    while i < end {
-        all = all | numbers[i];
-        i += 1;
-    }
-    all == 0
+    bits_of(numbers) == 0
 }
 
 // What a pass over entries finds, those of the processes from 1 on. The process is told by the place in the list: where it is counted

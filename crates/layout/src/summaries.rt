@@ -1,10 +1,10 @@
-// A summary in lent numbers: accepted, refused, entries, exits, the longest wait, and then the 96 try times.
+// A summary in lent numbers: accepted, refused, entries, exits, the longest wait, and then the 96 waits so far.
 use model::Counts;
 ghost use mathlib.Core.Path.{_≡_};
 ghost use Prim.Native.Nat.{_<_};
 ghost use lib.ListN.{length, getD, set};
 ghost use Rattle.model.specs.Summaries.{newStatistics};
-ghost use Rattle.layout.specs.Encodings.{summaryCounts, refusedPlace, triedPlace, summaryLength, statisticsNumbers};
+ghost use Rattle.layout.specs.Encodings.{summaryCounts, refusedPlace, waitedPlace, summaryLength, statisticsNumbers};
 ghost use Rattle.layout.specs.Places.{countsPut};
 
 // [9.30] where the counts stand
@@ -18,7 +18,7 @@ const EXITS: usize = 3;
 
 const LONGEST: usize = 4;
 
-// [9.30] the numbers before the try times
+// [9.30] the numbers before the waits so far
 pub(crate) const COUNTS: usize = 5;
 
 // [9.30] the numbers of a summary
@@ -40,11 +40,11 @@ pub(crate) fn counts_in(summary: &[u64]) -> Counts
     }
 }
 
-// [9.30] The try time of an entry.
-pub(crate) fn tried_in(summary: &[u64], i: usize) -> u64
+// [9.30] What the process of an entry has waited so far.
+pub(crate) fn waited_in(summary: &[u64], i: usize) -> u64
     requires { ⌜ length (now summary) ≡ summaryLength ⌝ }
     requires { ⌜ i < 96 ⌝ }
-    ensures { λ r. ⌜ r ≡ getD (now (summary .entry)) (triedPlace i) 0 ⌝ }
+    ensures { λ r. ⌜ r ≡ getD (now (summary .entry)) (waitedPlace i) 0 ⌝ }
 {
     summary[COUNTS + i]
 }
@@ -71,13 +71,13 @@ pub(crate) fn put_refused(summary: &mut [u64], refused: u64)
     summary[REFUSED] = refused;
 }
 
-// [9.30] The try time of an entry.
-pub(crate) fn put_tried(summary: &mut [u64], i: usize, tried: u64)
+// [9.30] What the process of an entry has waited so far.
+pub(crate) fn put_waited(summary: &mut [u64], i: usize, waited: u64)
     requires { ⌜ length (now summary) ≡ summaryLength ⌝ }
     requires { ⌜ i < 96 ⌝ }
-    ensures { λ _. ⌜ now (summary .exit) ≡ set (now (summary .entry)) (triedPlace i) tried ⌝ }
+    ensures { λ _. ⌜ now (summary .exit) ≡ set (now (summary .entry)) (waitedPlace i) waited ⌝ }
 {
-    summary[COUNTS + i] = tried;
+    summary[COUNTS + i] = waited;
 }
 
 // [9.30] [5.20] A new summary.

@@ -20,7 +20,7 @@ use Rattle.layout.specs.Encodings.{tableLength, stateNumbers, summaryLength, st
 use Rattle.model.proofs.Lists.{over-seam}
 use Rattle.tallies.specs.Tallies.{recordNext, recordAll, recordsOf, startOf}
 use Rattle.theory.proofs.Soundness.{fresh-is-plain, fresh-is}
-use Rattle.lists.proofs.Sizes.{Whole, call-whole, tries-as-long}
+use Rattle.lists.proofs.Sizes.{Whole, call-whole, waited-as-long}
 use Rattle.tallies.proofs.Tallies.{every-tally}
 use Rattle.layout.proofs.Encodings.{table-length, summary-length, summary-comes-back}
 use Rattle.layout.specs.Interface.{Lent, LentSummary, LentBoth, recordGave}
@@ -31,10 +31,10 @@ use Rattle.lending.proofs.LentLists.{call-in-numbers}
 
 -- One recorded step
 
--- a table with its 96 entries and a summary with its 96 try times
+-- a table with its 96 entries and a summary with its 96 waits so far
 pub record BothWhole (r : Recorded) : Type 0 where
   pub table : Whole (r .outcome .state)
-  pub summary : length (r .statistics .tries) ≡ 96
+  pub summary : length (r .statistics .waited) ≡ 96
 
 module _ (rest spare : List ℕ) (r : Recorded) (whole : BothWhole r) (e : Event) where
   abbrev pub numbers : List ℕ
@@ -58,7 +58,7 @@ module _ (rest spare : List ℕ) (r : Recorded) (whole : BothWhole r) (e : Event
   pub next-whole : BothWhole (recordNext r e)
   next-whole = record {
     table = rw (← same-call) (call-whole (r .outcome .state) (whole .table) (callLent call));
-    summary = tries-as-long (r .outcome .state) (r .statistics) (e .action) (e .process) (e .time) ∙ whole .summary;
+    summary = waited-as-long (r .outcome .state) (r .statistics) (e .action) (e .process) (e .time) ∙ whole .summary;
   }
 
   pub record-in-numbers : lentCall (stateNumbers (r .outcome .state) ++ rest) call ≡ bothInNumbers rest spare (recordNext r e)
@@ -108,7 +108,7 @@ module _ (k : Parameters) (table summary : List ℕ) where
   fresh-accepted (FreshGiven.refused n) e = absurd (n e)
   fresh-accepted (FreshGiven.made a _) e = a
 
--- the start has all its entries and try times
+-- the start has all its entries and waits so far
 pub fresh-whole : (k : Parameters) → Accepted (freshOf k) → BothWhole (startOf (freshOf k .state))
 fresh-whole k e = record { table = fresh-is-plain k .fresh e .size; summary = refl }
 

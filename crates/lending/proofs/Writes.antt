@@ -1,6 +1,6 @@
--- An act writes the clock, the word and the entry of its process, and of a summary the counts and the try time of its process:
+-- An act writes the clock, the word and the entry of its process, and of a summary the counts, the wait so far of its process and those of who is trying:
 -- what it gives back differs from what was told there and nowhere else, and so do their numbers, which are as many. Assumes nothing.
-use Prim.Native.Nat.{ℕ, zero, suc, _-_, _≤_}
+use Prim.Native.Nat.{ℕ, zero, suc, _+_, _-_, _≤_}
 use mathlib.Core.Path.{_≡_, refl, sym, ap, subst, _∙_}
 use mathlib.Core.Logic.{_⊎_, inl, inr, _≢_}
 use mathlib.Core.Bool.{true}
@@ -14,29 +14,32 @@ use Rattle.model.specs.declared.Parameters.{Parameters}
 use Rattle.model.specs.declared.State.{State}
 use Rattle.model.specs.declared.Transition.{Transition}
 use Rattle.model.specs.declared.Outcome.{Outcome}
-use Rattle.model.specs.declared.Counts.{Counts}
 use Rattle.model.specs.declared.Statistics.{Statistics}
 use Rattle.model.specs.Acts.{waitAct}
 use Rattle.model.specs.States.{stageOf, sinceOf}
 use Rattle.model.specs.Actions.{transitionOf, waited, moved, effect}
 use Rattle.model.specs.Answers.{freshOf}
 use Rattle.model.specs.Readings.{over}
-use Rattle.model.specs.Summaries.{countsNumbers, statisticsOf, newStatistics, recordedOf}
+use Rattle.model.specs.Summaries.{countsNumbers, newStatistics, unusedTime, waitedOn, waitedAfter, recordedOf}
+use Rattle.model.specs.Facts.{IsCritical, IsTrying}
 use Rattle.model.specs.Calls.{Call, tableOf}
 use Rattle.layout.specs.Encodings.{tableLength, clockPlace, wordPlace, stagePlace, sincePlace, stateNumbers, tableIn, isSoundTable}
-use Rattle.layout.specs.Encodings.{countsLength, triedPlace, summaryLength, statisticsNumbers, summaryIn}
-use Rattle.layout.specs.Places.{clocked, placedAt, countsPut}
+use Rattle.layout.specs.Encodings.{countsLength, waitedPlace, summaryLength, statisticsNumbers, summaryIn}
+use Rattle.layout.specs.Places.{clocked, placedAt}
 use Rattle.layout.specs.Interface.{Lent, LentSummary, LentBoth}
-use Rattle.theory.specs.Acceptance.{Waits, Acts}
-use Rattle.lending.specs.Guarantees.{Elsewhere, StepWritesItsOwn, RecordWritesItsOwn, SummaryWritesItsOwn, LengthsStay}
+use Rattle.theory.specs.Acceptance.{Waits, Acts, Allowed}
+use Rattle.lending.specs.Guarantees.{Elsewhere, StepWritesItsOwn, RecordWritesItsOwn, WaitElsewhere, SummaryWritesItsOwn, LengthsStay}
 use Rattle.lending.specs.Guarantees.{LentCall, lentCall, callLent}
 use Rattle.model.proofs.Lists.{length-over}
+use Rattle.model.proofs.Tests.{by-test}
+use Rattle.theory.proofs.Entries.{entry-at}
 use Rattle.theory.proofs.Soundness.{fresh-is-plain}
+use Rattle.theory.proofs.Waits.{unused-used, tryingAt, waited-other, waited-on-zero, cleared-other, clears-some}
 use Rattle.theory.proofs.Rows.{from-ready}
 use Rattle.theory.proofs.Steps.{stepped, accepted-is}
 use Rattle.lists.proofs.Calls.{Called, called}
-use Rattle.lists.proofs.Sizes.{Whole, call-whole, recorded-tries, tries-as-long}
-use Rattle.layout.proofs.Storing.{moved-stored, waited-stored, counted-stored}
+use Rattle.lists.proofs.Sizes.{Whole, call-whole, recorded-waited, waited-as-long}
+use Rattle.layout.proofs.Storing.{moved-stored, waited-stored}
 use Rattle.layout.proofs.Encodings.{table-length, table-fits, table-is-whole, numbers-come-back, sound-is-table}
 use Rattle.layout.proofs.Encodings.{summary-length, summary-is-whole, summary-numbers-come-back}
 use Rattle.lending.proofs.LentSteps.{FreshGiven, fresh-given, NewGiven, new-given, RecordGiven, record-given}
@@ -82,25 +85,35 @@ numbers-stay (Called.refused _ same) k e = rw same
 
 -- The numbers of the summary after an act
 
--- past the counts, whatever they are, stand the try times
-past-counts : (x : Statistics) (c : Counts) (k : ℕ) → countsLength ≤ k
-    → getD (statisticsNumbers (statisticsOf c (x .tries))) k 0 ≡ getD (statisticsNumbers x) k 0
+-- past the counts, whatever they are, stand the waits so far
+past-counts : (x y : Statistics) (k : ℕ) → countsLength ≤ k
+    → getD (y .waited) (k - countsLength) 0 ≡ getD (x .waited) (k - countsLength) 0 → getD (statisticsNumbers y) k 0 ≡ getD (statisticsNumbers x) k 0
 unfolding statisticsNumbers
-past-counts x c k past =
+past-counts x y k past same =
     let j = k - countsLength in
-    let e : triedPlace j ≡ k = omega arith in
-    subst (λ (i : ℕ). getD (countsNumbers c ++ x .tries) i 0 ≡ getD (countsNumbers (x .counts) ++ x .tries) i 0) e
-    (getD-append-add (countsNumbers c) (x .tries) j 0 ∙ sym (getD-append-add (countsNumbers (x .counts)) (x .tries) j 0))
+    let e : waitedPlace j ≡ k = omega arith in
+    subst (λ (i : ℕ). getD (countsNumbers (y .counts) ++ y .waited) i 0 ≡ getD (countsNumbers (x .counts) ++ x .waited) i 0) e
+    (getD-append-add (countsNumbers (y .counts)) (y .waited) j 0 ∙ same ∙ sym (getD-append-add (countsNumbers (x .counts)) (x .waited) j 0))
 
-moments-stay : (s : State) (x : Statistics) (act p m k : ℕ) → countsLength ≤ k → (1 ≤ p → k ≢ triedPlace (p - 1))
+module _ (s : State) (ws : List ℕ) (m j : ℕ) (others : IsTrying s (j + 1) → (i : ℕ) × IsCritical s i) where
+  -- no time is added, as the process is not trying or somebody is critical
+  added-stays : getD (waitedOn (unusedTime s m) (s .processes) ws) j 0 ≡ getD ws j 0
+  added-stays = by-test (tryingAt (s .processes) j)
+      (λ e. let used = others (record { from = omega arith; at = rw (entry-at s j) e }) in
+      rw (unused-used s m (used .1), waited-on-zero (s .processes) ws))
+      (waited-other (unusedTime s m) (s .processes) ws j)
+
+  after-stays : {act p : ℕ} → Allowed s act p m → (1 ≤ p → j ≢ p - 1) → getD (waitedAfter s ws act p m) j 0 ≡ getD ws j 0
+  after-stays {act} {p} allowed own =
+      cleared-other act p (waitedOn (unusedTime s m) (s .processes) ws) j (λ e. own (clears-some (allowed .turn) e)) ∙ added-stays
+
+waits-stay : (s : State) (x : Statistics) (act p m k : ℕ) → WaitElsewhere s p k
     → getD (statisticsNumbers (recordedOf s x act p m .statistics)) k 0 ≡ getD (statisticsNumbers x) k 0
-unfolding statisticsNumbers
-moments-stay s x act p m k past other =
-    let c = recordedOf s x act p m .statistics .counts in
-    recorded-tries s x act p m (λ (l : List ℕ). getD (statisticsNumbers (statisticsOf c l)) k 0 ≡ getD (statisticsNumbers x) k 0)
-    (past-counts x c k past)
-    (λ some t. ap (λ (l : List ℕ). getD l k 0) (counted-stored x c (p - 1) t)
-    ∙ getD-set-other (countsPut (statisticsNumbers x) c) (triedPlace (p - 1)) k t 0 (other some) ∙ past-counts x c k past)
+waits-stay s x act p m k e =
+    let j = k - countsLength in
+    past-counts x (recordedOf s x act p m .statistics) k (e .not-count)
+    (recorded-waited s x act p m (λ (l : List ℕ). getD l j 0 ≡ getD (x .waited) j 0) refl
+    (λ allowed. after-stays s (x .waited) m j (e .not-trying) allowed (λ some f. e .not-own some (omega arith))))
 
 -- The lent numbers
 
@@ -170,17 +183,17 @@ module _ (table summary : List ℕ) (act p m : ℕ) where
 
   noted-length : summaryLength ≤ length summary → length (statisticsNumbers after) ≡ summaryLength
   noted-length fits =
-      summary-length after (tries-as-long (tableIn table) (summaryIn summary) act p m ∙ summary-is-whole summary fits)
+      summary-length after (waited-as-long (tableIn table) (summaryIn summary) act p m ∙ summary-is-whole summary fits)
 
   counted-writes : {g : LentBoth} → RecordGiven table summary act p m g
-      → (k : ℕ) → countsLength ≤ k → (1 ≤ p → k ≢ triedPlace (p - 1)) → getD (g .summary) k 0 ≡ getD summary k 0
-  counted-writes (RecordGiven.no-table _) k past other = refl
-  counted-writes (RecordGiven.no-summary _ _) k past other = refl
-  counted-writes (RecordGiven.taken _ fits) k past other =
+      → (k : ℕ) → WaitElsewhere (tableIn table) p k → getD (g .summary) k 0 ≡ getD summary k 0
+  counted-writes (RecordGiven.no-table _) k e = refl
+  counted-writes (RecordGiven.no-summary _ _) k e = refl
+  counted-writes (RecordGiven.taken _ fits) k e =
       let x = summaryIn summary in
       over-same (statisticsNumbers after) (statisticsNumbers x) summary (summary-numbers-come-back summary fits)
       (noted-length fits ∙ sym (summary-length x (summary-is-whole summary fits))) k
-      (moments-stay (tableIn table) x act p m k past other)
+      (waits-stay (tableIn table) x act p m k e)
 
   counted-as-long : {g : LentBoth} → RecordGiven table summary act p m g → length (g .summary) ≡ length summary
   counted-as-long (RecordGiven.no-table _) = refl

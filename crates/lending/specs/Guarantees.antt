@@ -15,11 +15,11 @@ use Rattle.model.specs.declared.Recorded.{Recorded}
 use Rattle.model.specs.Acts.{waitAct, tryAct, withdrawAct}
 use Rattle.model.specs.States.{lastTime}
 use Rattle.model.specs.Answers.{answerOf, freshOf}
-use Rattle.model.specs.Facts.{LeadsOn, HasDeadline}
+use Rattle.model.specs.Facts.{IsCritical, IsTrying, LeadsOn, HasDeadline}
 use Rattle.model.specs.Readings.{over}
 use Rattle.model.specs.Summaries.{countsOf, statisticsOf, mostActs}
-use Rattle.layout.specs.Encodings.{headerLength, stride, tableLength, clockPlace, wordPlace, stateNumbers}
-use Rattle.layout.specs.Encodings.{countsLength, summaryLength, statisticsNumbers, summaryIn}
+use Rattle.layout.specs.Encodings.{headerLength, stride, tableLength, clockPlace, wordPlace, stateNumbers, tableIn}
+use Rattle.layout.specs.Encodings.{countsLength, waitedPlace, summaryLength, statisticsNumbers, summaryIn}
 use Rattle.model.specs.Folds.{endBy, resultsBy, itself}
 use Rattle.model.specs.Calls.{Call}
 use Rattle.model.specs.Texts.{Event}
@@ -73,7 +73,8 @@ pub record LentSuccesses : Type 0 where
   pub fresh : (k : Parameters) (table : List ℕ) → lentFresh k table .answer .code ≡ 0 → lentFresh k table .answer ≡ answerOf 0 0 0
   pub new-summary : (summary : List ℕ) → lentSummary summary .answer .code ≡ 0 → lentSummary summary .answer ≡ answerOf 0 0 0
 
--- An act writes the clock, the word and the entry of its process; and of a summary the counts and the try moment of its process
+-- An act writes the clock, the word and the entry of its process; and of a summary the counts, the wait so far of its process and, where nobody
+-- is critical before it, those of the processes that are trying
 
 -- [9.130] place k of a table is another than these, for an act of process p
 pub record Elsewhere (p k : ℕ) : Type 0 where
@@ -92,10 +93,16 @@ abbrev pub RecordWritesItsOwn : Type 0
 RecordWritesItsOwn = (table summary : List ℕ) (act p m k : ℕ) → Elsewhere p k
     → getD (lentRecord table summary act p m .table) k 0 ≡ getD table k 0
 
+-- [9.130] place k of a summary is another than these, for an act of process p in the state s
+pub record WaitElsewhere (s : State) (p k : ℕ) : Type 0 where
+  pub not-count : countsLength ≤ k
+  pub not-own : 1 ≤ p → k ≢ waitedPlace (p - 1)
+  -- its process is not trying, unless somebody is critical
+  pub not-trying : IsTrying s (k - countsLength + 1) → (i : ℕ) × IsCritical s i
+
 -- [9.130]
 abbrev pub SummaryWritesItsOwn : Type 0
-SummaryWritesItsOwn = (table summary : List ℕ) (act p m k : ℕ)
-    → countsLength ≤ k → (1 ≤ p → k ≢ countsLength + (p - 1))
+SummaryWritesItsOwn = (table summary : List ℕ) (act p m k : ℕ) → WaitElsewhere (tableIn table) p k
     → getD (lentRecord table summary act p m .summary) k 0 ≡ getD summary k 0
 
 -- [9.130] of every function that is lent a table or a summary

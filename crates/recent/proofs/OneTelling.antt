@@ -10,7 +10,7 @@ use Rattle.model.specs.declared.Answer.{Answer}
 use Rattle.model.specs.Answers.{answerOf}
 use Rattle.model.specs.Summaries.{waitOf}
 use Rattle.model.proofs.Tests.{by-test, by-cond, clash}
-use Rattle.layout.specs.Encodings.{summaryIn}
+use Rattle.layout.specs.Encodings.{tableIn, summaryIn}
 use Rattle.layout.specs.Interface.{LentBoth, lentRecord}
 use Rattle.recent.specs.Boards.{entryWith, Board, boardSound, BoardOutcome, keeps, addOf}
 use Rattle.recent.specs.Encodings.{boardIn, isBoard, LentBoard, lentAdd}
@@ -57,7 +57,7 @@ module _ (table summary board : List ℕ) (act p m : ℕ) where
   -- the board is left alone, or told
   pub data TellGiven : LentTold → Type 0 where
     alone : entered (step .answer .code) act ≡ false → TellGiven (toldGave step (leftAlone board))
-    told : entered (step .answer .code) act ≡ true → TellGiven (toldGave step (lentAdd board m p (waitOf (summaryIn summary) p m)))
+    told : entered (step .answer .code) act ≡ true → TellGiven (toldGave step (lentAdd board m p (waitOf (tableIn table) (summaryIn summary) p m)))
 
   pub tell-given : TellGiven (lentTell table summary board act p m)
   unfolding lentTell
@@ -73,7 +73,7 @@ module _ (table summary board : List ℕ) (act p m : ℕ) where
     length-stays = refl;
   }
   tells (TellGiven.told e) =
-      let wait = waitOf (summaryIn summary) p m in
+      let wait = waitOf (tableIn table) (summaryIn summary) p m in
       record {
         step = refl;
         alone = λ f. clash e f;

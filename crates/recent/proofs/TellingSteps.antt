@@ -21,10 +21,10 @@ use Rattle.theory.proofs.RecordedSteps.{Judged, judged}
 use Rattle.theory.proofs.Soundness.{sound-iff-plain}
 use Rattle.tallies.specs.Tallies.{recordNext}
 use Rattle.tallies.proofs.Tallies.{along-judged, recorded-allowed, recorded-wait, recorded-clock, recorded-later}
-use Rattle.layout.specs.Encodings.{summaryIn}
+use Rattle.layout.specs.Encodings.{tableIn, summaryIn}
 use Rattle.layout.specs.Interface.{LentBoth, lentRecord}
 use Rattle.lending.specs.Guarantees.{lentCall, bothInNumbers}
-use Rattle.layout.proofs.Encodings.{summary-comes-back}
+use Rattle.layout.proofs.Encodings.{table-comes-back, summary-comes-back}
 use Rattle.lending.proofs.LentTallies.{next-whole, record-in-numbers}
 use Rattle.recent.specs.Boards.{mostKept, howMany, isProcess}
 use Rattle.recent.specs.Encodings.{LentBoard, lentAdd}
@@ -138,12 +138,17 @@ module _ {w : ℕ} {rest spare : List ℕ} {log : List Noted} {g : LentTold} (h 
         (λ _. CritCode.accepted))))
 
     -- the wait that the summary counts is the one worked out from the acts
-    add-is : lentAdd (g .board) (d .time) (d .process) (waitOf (summaryIn (g .summary)) (d .process) (d .time))
+    add-is : lentAdd (g .board) (d .time) (d .process) (waitOf (tableIn (g .table)) (summaryIn (g .summary)) (d .process) (d .time))
         ≡ lentBoardCall (g .board) (adding log d)
     unfolding lentBoardCall
     add-is =
         ap (lentAdd (g .board) (d .time) (d .process))
-        (rw (h .summary, summary-comes-back (h .recorded .statistics) (h .whole .summary) spare)
+        (rw (
+          h .summary,
+          h .table,
+          summary-comes-back (h .recorded .statistics) (h .whole .summary) spare,
+          table-comes-back (h .recorded .outcome .state) (h .whole .table) rest .1,
+        )
         (recorded-wait (h .along) (d .action) (d .process) (d .time) judgement was-accepted crit))
 
     told-next : d .shows ≡ false → Next (toldGave taken (lentBoardCall (g .board) (adding log d)))

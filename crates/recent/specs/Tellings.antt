@@ -15,7 +15,7 @@ use Rattle.model.specs.Summaries.{waitOf}
 use Rattle.model.specs.Texts.{Event}
 use Rattle.model.specs.Tallies.{Attempt, attempt, waitAfter}
 use Rattle.model.specs.Folds.{endBy, resultsBy, itself, logBy}
-use Rattle.layout.specs.Encodings.{tableLength, summaryIn}
+use Rattle.layout.specs.Encodings.{tableLength, tableIn, summaryIn}
 use Rattle.layout.specs.Interface.{LentBoth, recordGave, lentFresh, lentSummary, lentRecord}
 use Rattle.lending.specs.Guarantees.{LentCall, lentRun, LentDemand3, lentStart, lentAll, LentTally}
 use Rattle.recent.specs.Boards.{Entry, mostKept, howMany, figuresAt}
@@ -45,11 +45,11 @@ abbrev pub leftAlone : List ℕ → LentBoard
 leftAlone board = boardGave (answerOf 0 0 0) board
 
 -- [10.200] [10.205] `funnelfawn_record_and_tell`: the recorded step, whatever the board answers; and the board, told of an accepted crit with
--- the wait that the summary counts
+-- the wait that the summary counts, by table and summary before the step
 unfoldable pub lentTell : List ℕ → List ℕ → List ℕ → ℕ → ℕ → ℕ → LentTold
 lentTell table summary board act p m =
     toldGave (lentRecord table summary act p m)
-    (cond (entered (lentRecord table summary act p m .answer .code) act) (lentAdd board m p (waitOf (summaryIn summary) p m))
+    (cond (entered (lentRecord table summary act p m .answer .code) act) (lentAdd board m p (waitOf (tableIn table) (summaryIn summary) p m))
     (leftAlone board))
 
 -- [10.200] [10.205] what it gives back, of any numbers
@@ -59,7 +59,7 @@ pub record Tells (table summary board : List ℕ) (act p m : ℕ) (r : LentTold)
   -- [10.205]
   pub alone : entered (r .answer .code) act ≡ false → (r .told ≡ answerOf 0 0 0) × (r .board ≡ board)
   -- [10.200]
-  pub told : entered (r .answer .code) act ≡ true → boardGave (r .told) (r .board) ≡ lentAdd board m p (waitOf (summaryIn summary) p m)
+  pub told : entered (r .answer .code) act ≡ true → boardGave (r .told) (r .board) ≡ lentAdd board m p (waitOf (tableIn table) (summaryIn summary) p m)
   -- [10.205] so it can be told whether an entry was
   pub seen : entered (r .answer .code) act ≡ true → r .told ≢ answerOf 0 0 0
   -- [10.100]

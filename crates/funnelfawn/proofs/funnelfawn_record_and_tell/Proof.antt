@@ -5,11 +5,8 @@ use Rattle.funnelfawn.proofs.Telling.{tell-refused, tell-other, tell-en
 use Rattle.funnelfawn.proofs.funnelfawn_record_and_tell.Statement.{statement}
 use Rattle.funnelfawn.proofs.funnelfawn_record_and_tell.Tie as tie
 
-wait-in-requires : tie.Need-wait-in-requires
-wait-in-requires c κs = search needs
-
-record-requires : tie.Need-record-requires
-record-requires c κs = search needs
+record-entry-requires : tie.Need-record-entry-requires
+record-entry-requires c κs = search needs
 
 alone-requires : tie.Need-alone-requires
 alone-requires c κs = search needs
@@ -22,9 +19,9 @@ same-length-2 c = search needs
 
 returns : tie.Need-returns
 returns c =
-    let a = c .before .before .before .before .before .before .before .before .before .before .before .before .before .before .before .args in
+    let a = c .before .before .before .before .before .before .before .before .before .before .before .before .before .before .args in
     tell-refused (a .table .now) (a .summary .now) (a .board .now) (a .action) (a .process) (a .time)
-    (c .before .before .before .before .before .before .before .record .ensures) (c .before .if1 .taken) (c .alone .ensures)
+    (c .before .before .before .before .before .before .before .before .record-entry .ensures) (c .before .if1 .taken) (c .alone .ensures)
 
 alone-requires-2 : tie.Need-alone-requires-2
 alone-requires-2 c κs = search needs
@@ -37,10 +34,10 @@ same-length-4 c = search needs
 
 returns-2 : tie.Need-returns-2
 returns-2 c =
-    let stepped = c .before .before .before .before .before .before .before .before in
-    let a = stepped .before .before .before .before .before .before .before .before .args in
+    let a = c .before .before .before .before .before .before .before .before .before .before .before .before .before .before .before .args in
     tell-other (a .table .now) (a .summary .now) (a .board .now) (a .action) (a .process) (a .time)
-    (stepped .record .ensures) (c .before .before .if1 .left) (c .before .if2 .taken) (c .alone2 .ensures)
+    (c .before .before .before .before .before .before .before .before .before .record-entry .ensures) (c .before .before .if1 .left) (c
+    .before .if2 .taken) (c .alone2 .ensures)
 
 add-requires : tie.Need-add-requires
 add-requires c κs = search needs
@@ -56,20 +53,18 @@ same-length-7 c = search needs
 
 returns-3 : tie.Need-returns-3
 returns-3 c =
-    let entered = c .before .before .before .before in
-    let stepped = entered .before .before .before .before .before .before .before in
-    let waited = stepped .before .before .before in
-    let a = waited .before .before .before .before .before .args in
+    let a = c .before .before .before .before .before .before .before .before .before .before .before .before .before .before .before
+    .before .before .before .args in
     tell-entered (a .table .now) (a .summary .now) (a .board .now) (a .action) (a .process) (a .time)
-    (stepped .record .ensures) (entered .before .if1 .left) (entered .if2 .left) (waited .wait-in .ensures)
+    (c .before .before .before .before .before .before .before .before .before .before .before .before .record-entry .ensures) (c .before
+    .before .before .before .before .if1 .left) (c .before .before .before .before .if2 .left)
     (c .before .before .add .ensures)
 
 pub funnelfawn-record-and-tell-spec : {M : Type 1} → statement M
 funnelfawn-record-and-tell-spec =
     tie.close
     (tie.spec
-    wait-in-requires
-    record-requires
+    record-entry-requires
     alone-requires
     same-length
     same-length-2
