@@ -2,8 +2,8 @@
 //! A board goes in and comes back by value, as a table does: each call gets the board that the last gave back.
 
 use crate::answer::*;
-use crate::machine::{Table, CLOCK_END, CRIT, WINDOWS};
-use crate::summary::{recorded_step, Summary};
+use crate::machine::{accepted, Table, CLOCK_END, WINDOWS};
+use crate::summary::{recorded_refusal, Summary};
 
 /// The greatest W.
 pub const W_END: u64 = 1_000_000_000;
@@ -114,8 +114,8 @@ pub struct Told {
     pub board: Answer,
 }
 
-/// [10.200] [10.205] The recorded step, of which the board is told if it is an accepted crit, with the wait from the window's try on. It
-/// stands, whatever the board answers.
+/// [10.200] [10.205] The recorded step, of which the board is told if it is an accepted crit, with the wait that the crit ends. It stands,
+/// whatever the board answers.
 pub fn record_and_tell(
     table: Table,
     summary: &mut Summary,
@@ -124,12 +124,13 @@ pub fn record_and_tell(
     window: u64,
     moment: u64,
 ) -> (Told, Table, Board) {
-    // an accepted crit clears it
-    let tried = summary.tried(window);
-    let (step, table) = recorded_step(table, summary, act, window, moment);
-    let entered = act == CRIT && step.number == ACCEPTED;
-    let (told, board) = match tried.filter(|_| entered) {
-        Some(tried) => board.add(moment, window, moment - tried),
+    if let Some(step) = recorded_refusal(&table, summary, act, window, moment) {
+        return (Told { step, board: bare(ACCEPTED) }, table, board);
+    }
+    let wait = summary.count_accepted(&table, act, window, moment);
+    let (step, table) = accepted(table, act, window, moment);
+    let (told, board) = match wait {
+        Some(wait) => board.add(moment, window, wait),
         None => (bare(ACCEPTED), board),
     };
     (Told { step, board: told }, table, board)

@@ -9,6 +9,7 @@ pub mod generator;
 pub mod list;
 pub mod machine;
 pub mod promises;
+pub mod reckoning;
 pub mod recording;
 pub mod replay;
 pub mod summary;

@@ -1,6 +1,6 @@
 //! A list of calls, as text, and what comes of it: sections 8 and 5 of the specification.
 //! Line 1 has n, a, b, c. Each further line is a call: 1 with a summary or 0 without, act, window, moment, then the summary that is
-//! lent: its four counts, the longest wait and the try moments. What a line leaves out at its end is 0.
+//! lent: its four counts, the longest wait and what each window has waited. What a line leaves out at its end is 0.
 
 use crate::answer::Answer;
 use crate::machine::*;
@@ -46,10 +46,10 @@ fn call_line(call: &Call) -> String {
     joined(&numbers)
 }
 
-/// The try moments up to the last that is not 0.
+/// What the windows have waited up to the last sum that is not 0.
 fn summary_numbers(summary: &Summary) -> Vec<u64> {
-    let tried = summary.try_moments.iter().rposition(|&moment| moment != 0).map_or(0, |last| last + 1);
-    [&counts(summary), &summary.try_moments[..tried]].concat()
+    let shown = summary.waited.iter().rposition(|&waited| waited != 0).map_or(0, |last| last + 1);
+    [&counts(summary), &summary.waited[..shown]].concat()
 }
 
 fn counts(summary: &Summary) -> [u64; 5] {
@@ -68,7 +68,7 @@ pub fn read(text: &str) -> Option<List> {
     Some(List { values, calls: lines.map(|line| Some(call(&line?))).collect::<Option<_>>()? })
 }
 
-/// The numbers of a line: four of the call, five of the summary, the try moments.
+/// The numbers of a line: four of the call, five of the summary, and what each window has waited.
 type Numbers = [u64; 9 + WINDOWS];
 
 fn numbers(line: &str) -> Option<Numbers> {
@@ -88,7 +88,7 @@ fn call(line: &Numbers) -> Call {
         longest_wait: line[8],
         ..Summary::new()
     };
-    summary.try_moments.copy_from_slice(&line[9..]);
+    summary.waited.copy_from_slice(&line[9..]);
     Call { recorded: line[0] != 0, act: line[1], window: line[2], moment: line[3], summary }
 }
 
@@ -122,9 +122,9 @@ fn answer_line(name: &str, answer: Answer) -> String {
     line(name, &[answer.number, answer.window, answer.moment])
 }
 
-/// The four counts, the longest wait, and the try moments of the windows 1 to n.
+/// The four counts, the longest wait, and what the windows 1 to n have waited.
 fn summary_line(n: u64, summary: &Summary) -> String {
-    line("summary", &[&counts(summary), &summary.try_moments[..shown(n)]].concat())
+    line("summary", &[&counts(summary), &summary.waited[..shown(n)]].concat())
 }
 
 /// n, a, b, c, the clock, the word, and place and arrival of the windows 1 to the n that was asked for.

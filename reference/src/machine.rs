@@ -38,12 +38,32 @@ pub enum Place {
 }
 
 impl Place {
+    /// The place with a number of [2.70], 0 to 7; the arrival is of no account where a place has none.
+    pub fn numbered(number: u64, arrival: u64) -> Option<Place> {
+        Some(match number {
+            0 => Remainder,
+            1 => Testing(arrival),
+            2 => Setting(arrival),
+            3 => Checking(arrival),
+            4 => Entering(arrival),
+            5 => Selling,
+            6 => Resetting(arrival),
+            7 => Leaving(arrival),
+            _ => return None,
+        })
+    }
+
     pub fn arrival(self) -> Option<u64> {
         match self {
             Remainder | Selling => None,
             Testing(arrival) | Setting(arrival) | Checking(arrival) => Some(arrival),
             Entering(arrival) | Resetting(arrival) | Leaving(arrival) => Some(arrival),
         }
+    }
+
+    /// [2.110]
+    pub fn is_trying(self) -> bool {
+        matches!(self, Testing(_) | Setting(_) | Checking(_) | Entering(_))
     }
 }
 

@@ -69,7 +69,7 @@ impl Promises {
     }
 
     fn start_span(&mut self, table: &Table) {
-        let trying = windows(table).filter(|&window| is_trying(table.place(window)));
+        let trying = windows(table).filter(|&window| table.place(window).is_trying());
         let span = Span { start: table.clock, staying: trying.map(bit).sum() };
         // after a refused call the point is the last one again
         if table.seller() == 0 && span.staying != 0 && self.spans.last() != Some(&span) {
@@ -84,11 +84,6 @@ fn bit(window: u64) -> Windows {
 
 fn windows(table: &Table) -> impl Iterator<Item = u64> {
     1..=table.values.n
-}
-
-/// [2.110]
-fn is_trying(place: Place) -> bool {
-    matches!(place, Place::Testing(_) | Place::Setting(_) | Place::Checking(_) | Place::Entering(_))
 }
 
 /// [8.90]

@@ -7,6 +7,7 @@ use reference::generator::boards::{list, Family};
 use reference::generator::generate;
 use reference::generator::random::Random;
 use reference::machine::*;
+use reference::reckoning::Reckoning;
 use reference::recording::read;
 use reference::summary::{recorded_step, Summary};
 
@@ -200,7 +201,7 @@ fn the_board_is_told_of_each_accepted_crit() {
         let w = 40;
         let (_, mut table) = fresh(recording.values);
         let (mut summary, mut plain, mut board) = (Summary::new(), Summary::new(), board(w));
-        let (mut tried, mut full) = ([0; WINDOWS], FullList::default());
+        let (mut reckoning, mut full) = (Reckoning::default(), FullList::default());
         full.answer(BoardCall::SetUp(w));
         for step in &recording.steps {
             let wanted = recorded_step(table, &mut plain, step.act, step.window, step.time);
@@ -208,12 +209,9 @@ fn the_board_is_told_of_each_accepted_crit() {
             (told, table, board) =
                 record_and_tell(table, &mut summary, board, step.act, step.window, step.time);
             assert_eq!((told.step, table, &summary), (wanted.0, wanted.1, &plain));
-            let accepted = told.step.number == ACCEPTED;
-            if accepted && step.act == TRY {
-                tried[step.window as usize - 1] = step.time;
-            }
-            if accepted && step.act == CRIT {
-                let wait = step.time - tried[step.window as usize - 1];
+            reckoning.after([step.act, step.window, step.time], told.step);
+            if step.act == CRIT && told.step.number == ACCEPTED {
+                let wait = reckoning.waits().last().expect("a crit ends a wait").unused;
                 let entry = Entry { moment: step.time, window: step.window, wait };
                 assert_eq!(told.board, full.answer(BoardCall::Add(entry)));
                 entered += 1;
@@ -229,7 +227,7 @@ fn the_board_is_told_of_each_accepted_crit() {
 fn the_step_stands_whatever_the_board_answers() {
     let (_, mut entering) = fresh(Values { n: 2, a: 5, b: 8, c: 12 });
     (entering.clock, entering.word, entering.places[1]) = (20, 2, Place::Entering(18));
-    let summary = Summary { accepted: 9, try_moments: [3; WINDOWS], ..Summary::new() };
+    let summary = Summary { accepted: 9, waited: [17; WINDOWS], ..Summary::new() };
     let crit = |board: Board, window, moment| {
         let (mut counted, mut alone) = (summary.clone(), summary.clone());
         let (told, table, board) = record_and_tell(entering, &mut counted, board, CRIT, window, moment);

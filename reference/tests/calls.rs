@@ -77,7 +77,7 @@ fn summaries_of_any_make() {
     assert_eq!(answered(Summary { accepted: u64::MAX, refused: 1, ..new.clone() }), NO_SUMMARY);
     assert_eq!(answered(Summary { accepted: 5, entries: 3, exits: 3, ..new.clone() }), NO_SUMMARY);
     assert_eq!(answered(Summary { longest_wait: 1_000_000_000_001, ..new.clone() }), NO_SUMMARY);
-    assert_eq!(answered(Summary { try_moments: [1; WINDOWS], ..new.clone() }), NO_SUMMARY);
+    assert_eq!(answered(Summary { waited: [1; WINDOWS], ..new.clone() }), NO_SUMMARY);
     assert_eq!(answered(Summary { accepted: 1_000_000_000_000, ..new.clone() }), SUMMARY_FULL);
     assert_eq!(answered(Summary { refused: 999_999_999_999, ..new }), NO_ACT);
 }
@@ -126,24 +126,20 @@ fn writer() {
     assert_eq!(output[..], [GOOD, &[b'.'; 60][GOOD.len()..]].concat());
 }
 
-/// [5.110] and [5.130] after each step; after the last, of [5.120] the accepted and the refused acts.
+/// [5.110] and [5.130] after each step.
 #[test]
 fn summaries_of_walks() {
     for recording in (0..400).filter_map(|index| read(&generate(2, index).text).ok()) {
         let (_, mut table) = fresh(recording.values);
         let mut summary = Summary::new();
-        let mut accepted = 0;
         for taken in &recording.steps {
             let plain = step(table, taken.act, taken.window, taken.time);
             assert_eq!(recorded_step(table, &mut summary, taken.act, taken.window, taken.time), plain);
-            accepted += u64::from(plain.0.number == ACCEPTED);
             table = plain.1;
             let selling = table.places.iter().filter(|place| **place == Place::Selling).count() as u64;
             assert!(selling <= 1, "one seller");
             assert_eq!(summary.entries, summary.exits + selling);
         }
-        let refused = recording.steps.len() as u64 - accepted;
-        assert_eq!((summary.accepted, summary.refused), (accepted, refused));
     }
 }
 
@@ -169,57 +165,4 @@ fn a_list_is_read_as_it_was_written() {
     }
     assert_eq!(list::read("2,5,8,x\n"), None);
     assert_eq!(list::read(""), None);
-}
-
-/// Those of `store_outputs`.
-fn stored_lists() -> impl Iterator<Item = list::List> {
-    (0..10).map(|index| generate_list(64, 65, index))
-}
-
-#[test]
-fn the_stored_lists_have_every_answer_of_a_recorded_step() {
-    let mut numbers = [0; 17];
-    for list in stored_lists() {
-        let (_, mut table) = fresh(list.values);
-        for mut call in list.calls {
-            let answer;
-            (answer, table) = list::make(table, &mut call);
-            numbers[answer.number as usize] += 1;
-        }
-    }
-    assert_eq!(numbers[1], 0);
-    for number in [0, 2, 3, 4, 5, 6, 7, 8, 9, 10] {
-        assert!(numbers[number] > 0, "no answer {number}");
-    }
-}
-
-#[test]
-fn the_stored_lists_have_withdraws_that_end_a_try() {
-    let mut ended = 0;
-    for list in stored_lists() {
-        let (_, mut table) = fresh(list.values);
-        for mut call in list.calls {
-            let tried = call.summary.tried(call.window).unwrap_or(0);
-            (_, table) = list::make(table, &mut call);
-            ended += u64::from(call.act == WITHDRAW && call.summary.tried(call.window).unwrap_or(0) < tried);
-        }
-    }
-    assert!(ended > 0);
-}
-
-#[test]
-fn each_stored_list_comes_to_an_entry() {
-    for list in stored_lists() {
-        let (_, mut table) = fresh(list.values);
-        let (mut one, mut one_table) = (Summary::new(), table);
-        let mut entries = 0;
-        for mut call in list.calls {
-            let answer;
-            (answer, table) = list::make(table, &mut call);
-            (_, one_table) = recorded_step(one_table, &mut one, call.act, call.window, call.moment);
-            let is_entry = call.act == CRIT && answer.number == ACCEPTED;
-            entries += u64::from(call.recorded && is_entry);
-        }
-        assert!(entries > 0 && one.entries > 0);
-    }
 }

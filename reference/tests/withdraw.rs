@@ -54,10 +54,10 @@ fn it_takes_a_try_back() {
 }
 
 #[test]
-fn a_summary_counts_it_and_forgets_the_try() {
-    let mut summary = Summary { try_moments: [7; WINDOWS], ..Summary::new() };
+fn a_summary_counts_it_and_forgets_the_wait() {
+    let mut summary = Summary { waited: [7; WINDOWS], ..Summary::new() };
     let mut wanted = Summary { accepted: 1, ..summary.clone() };
-    wanted.try_moments[0] = 0;
+    wanted.waited[0] = 0;
     recorded_step(table(Place::Testing(18)), &mut summary, WITHDRAW, 1, 20);
     assert_eq!(summary, wanted);
     recorded_step(table(Place::Setting(18)), &mut summary, WITHDRAW, 1, 20);

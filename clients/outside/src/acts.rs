@@ -25,7 +25,7 @@ fn likely(random: &mut Random, table: &Table) -> [u64; 3] {
 /// An act that leaves the place of window n, the last with an entry of its own.
 fn last_window(random: &mut Random, table: &Table) -> [u64; 3] {
     let n = table.values.n;
-    let moment = table.earliest(n).unwrap_or(0).max(table.clock);
+    let moment = moment(random, table).max(table.earliest(n).unwrap_or(0));
     [act_from(random, table.place(n)), n, moment]
 }
 
@@ -34,16 +34,21 @@ pub fn a_try(random: &mut Random, table: &Table) -> [u64; 3] {
     let n = table.values.n;
     let away: Vec<u64> = (1..=n).filter(|&window| table.place(window) == Place::Remainder).collect();
     let window = if away.is_empty() { n } else { random.pick(&away) };
-    [TRY, window, Walk { random, table: *table, focus: n, pause: 3 }.moment()]
+    [TRY, window, moment(random, table)]
 }
 
 /// As `act`, but the crit of a window that may enter comes more often.
 pub fn act_or_crit(random: &mut Random, table: &Table) -> [u64; 3] {
     let entering = |&window: &u64| matches!(table.place(window), Place::Entering(_));
     match (1..=table.values.n).find(entering).filter(|_| random.chance(60)) {
-        Some(window) => [CRIT, window, table.clock],
+        Some(window) => [CRIT, window, moment(random, table)],
         None => act(random, table),
     }
+}
+
+/// One at which nobody is late.
+fn moment(random: &mut Random, table: &Table) -> u64 {
+    Walk { random, table: *table, focus: table.values.n, pause: 3 }.moment()
 }
 
 /// The edges of the specification's rules, and those of smaller numbers than 64 bits hold.

@@ -13,8 +13,8 @@ use reference::generator::random::Random;
 use reference::machine::CLOCK_END;
 
 /// Makes a call on lent numbers, which become those that it has to leave: the answer that is due, and whether it and all numbers came.
-pub fn make(call: BoardCall, numbers: &mut Vec<u64>) -> (Answer, Verdict) {
-    let lent = numbers.clone();
+pub fn make(call: BoardCall, numbers: &mut [u64]) -> (Answer, Verdict) {
+    let lent = numbers.to_vec();
     match call {
         BoardCall::SetUp(w) => {
             let answer = expected::set_up_board(w, numbers);

@@ -1,13 +1,13 @@
 //! Tables, summaries and boards of the reference as the numbers of include/funnelfawn.h, and back.
 
-use funnelfawn::raw::{BOARD, BOARD_HEADER, BOARD_STRIDE, HEADER, PLACES, STRIDE, SUMMARY, TABLE, TRIES};
+use funnelfawn::raw::{BOARD, BOARD_HEADER, BOARD_STRIDE, HEADER, PLACES, STRIDE, SUMMARY, TABLE, WAITED};
 use reference::board::{Board, Entry};
 use reference::list::number_of;
 use reference::machine::{Place, Table, Values, WINDOWS};
 use reference::summary::Summary;
 
 /// The layout that is written out here, as one number [9.15].
-pub const LAYOUT: u64 = 1;
+pub const LAYOUT: u64 = 2;
 
 /// The table that a list starts with, if it is long enough and its numbers tell one, sound or not.
 pub fn table_in(numbers: &[u64]) -> Option<Table> {
@@ -21,17 +21,7 @@ pub fn table_in(numbers: &[u64]) -> Option<Table> {
 
 /// Beside remainder and selling, which have no arrival, 0 has to stand [9.20].
 fn place_in(number: u64, arrival: u64) -> Option<Place> {
-    let place = match number {
-        0 => Place::Remainder,
-        1 => Place::Testing(arrival),
-        2 => Place::Setting(arrival),
-        3 => Place::Checking(arrival),
-        4 => Place::Entering(arrival),
-        5 => Place::Selling,
-        6 => Place::Resetting(arrival),
-        7 => Place::Leaving(arrival),
-        _ => return None,
-    };
+    let place = Place::numbered(number, arrival)?;
     (place.arrival().unwrap_or(0) == arrival).then_some(place)
 }
 
@@ -52,18 +42,18 @@ pub fn table_numbers(table: &Table) -> Vec<u64> {
 
 /// The summary that a list starts with, if it is long enough.
 pub fn summary_in(numbers: &[u64]) -> Option<Summary> {
-    let &[accepted, refused, entries, exits, longest_wait, ref tries @ ..] = numbers.get(..SUMMARY)? else {
+    let &[accepted, refused, entries, exits, longest_wait, ref waited @ ..] = numbers.get(..SUMMARY)? else {
         return None;
     };
-    let try_moments = tries.try_into().ok()?;
-    Some(Summary { accepted, refused, entries, exits, longest_wait, try_moments })
+    let waited = waited.try_into().ok()?;
+    Some(Summary { accepted, refused, entries, exits, longest_wait, waited })
 }
 
 /// Over the start of a list that is long enough.
 pub fn store_summary(summary: &Summary, numbers: &mut [u64]) {
-    let Summary { accepted, refused, entries, exits, longest_wait, try_moments } = summary;
-    numbers[..TRIES].copy_from_slice(&[*accepted, *refused, *entries, *exits, *longest_wait]);
-    numbers[TRIES..SUMMARY].copy_from_slice(try_moments);
+    let &Summary { accepted, refused, entries, exits, longest_wait, ref waited } = summary;
+    numbers[..WAITED].copy_from_slice(&[accepted, refused, entries, exits, longest_wait]);
+    numbers[WAITED..SUMMARY].copy_from_slice(waited);
 }
 
 pub fn summary_numbers(summary: &Summary) -> Vec<u64> {

@@ -4,12 +4,16 @@
 pub mod acts;
 pub mod boards;
 pub mod calls;
+pub mod course;
 pub mod encoding;
 pub mod expected;
 pub mod lent;
 pub mod lists;
+pub mod sights;
 pub mod stored;
 pub mod tables;
 pub mod taken_back;
 pub mod tally;
 pub mod texts;
+pub mod waits;
+pub mod walks;

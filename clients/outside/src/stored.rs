@@ -1,5 +1,5 @@
 //! The stored calls of reference/vectors, one a line, made and held to what stands beside them. The files leave out what is the same in
-//! all of them: windows 9 to 96 are in remainder, with the try moment 0. What a board's numbers are after a call is worked out.
+//! all of them: windows 9 to 96 are in remainder and have waited 0. What a board's numbers are after a call is worked out.
 
 use crate::boards;
 use crate::calls::{self, Verdict};

@@ -3,7 +3,7 @@
 use reference::generator::random::Random;
 use reference::machine::*;
 
-/// A fresh table, or one with any places, two and more sellers among them, at any clock, its end too; or with nobody in remainder, and with
+/// A fresh table, or one with any places, no seller or one or two or more, at any clock, its end too; or with nobody in remainder, and with
 /// the same latest moment for most windows.
 pub fn start(random: &mut Random) -> Table {
     let (_, table) = fresh(values(random));
@@ -42,7 +42,22 @@ fn busy(random: &mut Random, mut table: Table) -> Table {
             table.places[window] = place(random, &table);
         }
     }
+    seat_sellers(random, &mut table);
     table
+}
+
+/// Those who came to sell, or none, one or two others; of a hundred windows hardly ever so few would sell.
+fn seat_sellers(random: &mut Random, table: &mut Table) {
+    let most = random.below(4);
+    if most == 3 {
+        return;
+    }
+    for place in table.places.iter_mut().filter(|place| **place == Place::Selling) {
+        *place = Place::Testing(table.clock);
+    }
+    for _ in 0..most {
+        table.places[random.index(table.values.n as usize)] = Place::Selling;
+    }
 }
 
 /// Every window in a timed place, with one latest moment or the next: where they are late, the lowest of many is to be told.

@@ -1,7 +1,7 @@
-//! How often each answer was due from random calls, of boards apart, and what came of the calls: a run in which something never came up
-//! shows too little.
+//! How often each answer was due from random calls, of boards apart, and what the calls came upon.
 
 use crate::calls::Verdict;
+use crate::sights::{Sight, Sights};
 use reference::answer::*;
 use std::ops::RangeInclusive;
 
@@ -35,29 +35,7 @@ pub struct Tally {
     differ: u64,
     others: Answers,
     boards: Answers,
-    /// accepted crits whose entries boards took and refused
-    taken: u64,
-    refused: u64,
-    /// lists of calls of one board, their calls, and how often a first place came around the end
-    pub lists: u64,
-    pub listed: u64,
-    pub rounds: u64,
-    walks: Seen,
-}
-
-/// What came up in walks, beside answers.
-#[derive(Default)]
-pub struct Seen {
-    /// accepted withdraws
-    pub withdraws: u64,
-    /// tries that a withdraw took back
-    pub taken_back: u64,
-    /// refusals as late at which the latest moment is that of several windows
-    pub level: u64,
-    /// accepted acts at a table of several windows with nobody in remainder
-    pub crowded: u64,
-    /// calls from a fresh table on, after which the promises of lists were looked at
-    pub promised: u64,
+    pub sights: Sights,
 }
 
 impl Tally {
@@ -67,10 +45,9 @@ impl Tally {
         self.calls += 1;
         self.others.count(other);
         self.boards.count(board);
-        match (other, board) {
-            (Some(_), Some(board)) if board.number == ACCEPTED => self.taken += 1,
-            (Some(_), Some(_)) => self.refused += 1,
-            _ => {}
+        if let (Some(_), Some(board)) = (other, board) {
+            let taken = board.number == ACCEPTED;
+            self.sights.look(if taken { Sight::EntryTaken } else { Sight::EntryRefused }, true);
         }
         if let Err(difference) = verdict {
             self.differ += 1;
@@ -80,42 +57,18 @@ impl Tally {
         }
     }
 
-    /// What one walk came to.
-    pub fn add(&mut self, seen: &Seen) {
-        self.walks.withdraws += seen.withdraws;
-        self.walks.taken_back += seen.taken_back;
-        self.walks.level += seen.level;
-        self.walks.crowded += seen.crowded;
-        self.walks.promised += seen.promised;
-    }
-
     /// Says it all; true if nothing differs and nothing is missing.
     pub fn report(&self) -> bool {
-        let Tally { calls, differ, others, boards, taken, refused, lists, listed, rounds, walks } = self;
-        let Seen { withdraws, taken_back, level, crowded, promised } = walks;
+        let Tally { calls, differ, others, boards, sights } = self;
         println!("answers: {}", others.said(OTHERS));
         println!("answers of boards: {}", boards.said(OF_BOARDS));
-        println!("accepted crits that a board was told of: it took {taken}, refused {refused}");
-        println!("accepted withdraws: {withdraws}, and {taken_back} that took back a try");
-        println!("late by the latest moment of several windows: {level}; accepted with nobody in remainder: {crowded}");
-        println!("calls from a fresh table on, with promises: {promised}");
-        println!(
-            "lists of board calls: {lists}, of {listed} calls, which went around the places {rounds} times"
-        );
-        let missing = [
+        sights.say();
+        let answers = [
             (others.missing(OTHERS), "an answer of all but boards"),
             (boards.missing(OF_BOARDS), "an answer of boards"),
-            (*taken == 0, "the entry of a crit that a board took"),
-            (*refused == 0, "the entry of a crit that a board refused"),
-            (*rounds == 0, "a list of board calls that went around the places"),
-            (*withdraws == 0, "a withdraw that is accepted"),
-            (*taken_back == 0, "a withdraw that took back a try"),
-            (*level == 0, "a latest moment of several windows that are late"),
-            (*crowded == 0, "an act that is accepted with nobody in remainder"),
-            (*promised == 0, "a call from a fresh table on"),
         ];
-        let missing = missing.into_iter().filter_map(|(is_missing, what)| is_missing.then_some(what));
-        let missing: Vec<&str> = missing.collect();
+        let answers = answers.into_iter().filter_map(|(is_missing, what)| is_missing.then_some(what));
+        let missing: Vec<&str> = answers.chain(sights.missing()).collect();
         for what in &missing {
             println!("did not come up: {what}");
         }

@@ -71,7 +71,7 @@ fn lent(random: &mut Random, clock: u64, left: &Summary, wild: u64) -> (bool, Su
     }
 }
 
-/// A sound one with any counts.
+/// A sound one with any counts, in which windows that do not try may have waited too, and any window all the time of the clock.
 pub fn foreign(random: &mut Random, clock: u64) -> Summary {
     let most = random.pick(&[0, 3, 1_000, SUMMARY_END / 2]);
     let accepted = random.between(0, most);
@@ -84,8 +84,10 @@ pub fn foreign(random: &mut Random, clock: u64) -> Summary {
         longest_wait: random.pick(&[0, 1, 40, SUMMARY_END]),
         ..Summary::new()
     };
-    for window in 0..random.index(WINDOWS + 1) {
-        summary.try_moments[window] = random.between(0, clock);
+    let first = random.pick(&[0, 0, 1, 50]);
+    for waited in summary.waited.iter_mut().skip(first).take(random.index(WINDOWS + 1)) {
+        let any = random.between(0, clock);
+        *waited = random.pick(&[0, any, any, clock]);
     }
     summary
 }
@@ -93,7 +95,7 @@ pub fn foreign(random: &mut Random, clock: u64) -> Summary {
 /// One that is full, that one more act makes full, or that is not sound in one way.
 pub fn unsound_or_full(random: &mut Random, clock: u64) -> Summary {
     let mut summary = foreign(random, clock);
-    match random.below(9) {
+    match random.below(10) {
         0 | 1 => summary.refused = SUMMARY_END - summary.accepted,
         2 => summary.refused = SUMMARY_END - summary.accepted - 1,
         3 => summary.refused = SUMMARY_END - summary.accepted + 1,
@@ -101,7 +103,13 @@ pub fn unsound_or_full(random: &mut Random, clock: u64) -> Summary {
         5 => summary.exits = summary.accepted - summary.entries + 1,
         6 => summary.exits = u64::MAX - random.between(0, summary.entries),
         7 => summary.longest_wait = random.pick(&[SUMMARY_END + 1, u64::MAX]),
-        _ => summary.try_moments[random.index(WINDOWS)] = random.pick(&[clock + 1, u64::MAX]),
+        _ => summary.waited[any_window(random)] = random.pick(&[clock + 1, clock + 1, u64::MAX]),
     }
     summary
+}
+
+/// The place of a sum: as often one that every table with windows has as one that few have.
+fn any_window(random: &mut Random) -> usize {
+    let any = random.index(WINDOWS);
+    random.pick(&[0, 1, any, any, WINDOWS - 1])
 }

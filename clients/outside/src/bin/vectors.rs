@@ -14,7 +14,7 @@ fn files() -> [(&'static str, usize, Call); 5] {
     let mut board = stored::Board::new();
     [
         ("step.txt", 340, Box::new(stored::step)),
-        ("recorded.txt", 340, Box::new(stored::recorded)),
+        ("recorded.txt", 400, Box::new(stored::recorded)),
         ("reader.txt", 110, Box::new(stored::reader)),
         ("writer.txt", 160, Box::new(stored::writer)),
         ("board.txt", 141, Box::new(move |line| board.call(line))),

@@ -1,0 +1,101 @@
+//! What random calls have to come upon, beside every answer: a run in which one of these never came up shows too little.
+
+use std::collections::BTreeMap;
+
+#[derive(Clone, Copy, PartialEq, Eq, PartialOrd, Ord)]
+pub enum Sight {
+    // boards
+    EntryTaken,
+    EntryRefused,
+    ListedCall,
+    Round,
+    // walks
+    Withdraw,
+    TakenBack,
+    Level,
+    Crowded,
+    Promised,
+    // recorded steps, of which waits.rs says more
+    Unused,
+    NoAdvance,
+    OneSold,
+    TwoSold,
+    CritInUnused,
+    CritWhileSold,
+    TryAfterSum,
+    WithdrawAfterSum,
+    OfNoTry,
+    AboveN,
+    AtClock,
+    PastClock,
+    PastClockAboveN,
+    RefusedInUnused,
+    // threaded lists
+    Threaded,
+    SoldMeanwhile,
+}
+
+use Sight::*;
+
+/// Each with how it is told.
+const SIGHTS: [(Sight, &str); 25] = [
+    (EntryTaken, "accepted crits whose entries a board took"),
+    (EntryRefused, "accepted crits whose entries a board refused"),
+    (ListedCall, "calls of lists on one board"),
+    (Round, "times that such a list went around the places"),
+    (Withdraw, "accepted withdraws"),
+    (TakenBack, "withdraws that took back a try"),
+    (Level, "acts that are late by the latest moment of several windows"),
+    (Crowded, "accepted acts with nobody in remainder"),
+    (Promised, "calls from a fresh table on, with the promises of lists"),
+    (Unused, "counted acts in unused time that somebody waits"),
+    (NoAdvance, "counted acts without an advance while somebody waits"),
+    (OneSold, "counted acts with an advance while one sells and somebody tries"),
+    (TwoSold, "counted acts with an advance while two or more sell and somebody tries"),
+    (CritInUnused, "crits that end a wait with their own advance"),
+    (CritWhileSold, "crits with an advance while another sells"),
+    (TryAfterSum, "tries of windows that had waited before"),
+    (WithdrawAfterSum, "withdraws of windows that had waited"),
+    (OfNoTry, "counted acts in unused time beside a sum of a window that does not try"),
+    (AboveN, "counted acts in unused time beside a sum of a window above n"),
+    (AtClock, "counted acts in unused time at which a sum is all of the clock"),
+    (PastClock, "summaries that are not sound by a sum that is one past the clock"),
+    (PastClockAboveN, "summaries that are not sound by such a sum of a window above n"),
+    (RefusedInUnused, "refused acts with an advance while somebody waits"),
+    (Threaded, "calls of threaded lists whose summaries acts and answers come to"),
+    (SoldMeanwhile, "waits of such lists in which another sold"),
+];
+
+/// How often each came up.
+#[derive(Default)]
+pub struct Sights(BTreeMap<Sight, u64>);
+
+impl Sights {
+    pub fn count(&mut self, sight: Sight, times: u64) {
+        *self.0.entry(sight).or_default() += times;
+    }
+
+    /// Once, if it is there.
+    pub fn look(&mut self, sight: Sight, is_there: bool) {
+        self.count(sight, u64::from(is_there));
+    }
+
+    pub fn add(&mut self, other: &Sights) {
+        other.0.iter().for_each(|(&sight, &times)| self.count(sight, times));
+    }
+
+    pub fn say(&self) {
+        for (sight, told) in SIGHTS {
+            println!("{told}: {}", self.times(sight));
+        }
+    }
+
+    /// Those that never came up.
+    pub fn missing(&self) -> impl Iterator<Item = &'static str> + '_ {
+        SIGHTS.iter().filter(|&&(sight, _)| self.times(sight) == 0).map(|&(_, told)| told)
+    }
+
+    fn times(&self, sight: Sight) -> u64 {
+        self.0.get(&sight).copied().unwrap_or(0)
+    }
+}
