@@ -35,8 +35,14 @@ extern "C" {
  * comes to hold more numbers, or a number there to mean something else. FUNNELFAWN_LAYOUT is that of this header, and funnelfawn_layout()
  * that of the archive: a program compares the two once, at its start, so that a header and an archive of different versions are found out
  * before a list is lent. Of numbers that were stored by another program or on another day it says nothing, unless the layout is stored
- * with them. */
-enum { FUNNELFAWN_LAYOUT = 1 };
+ * with them.
+ *
+ * Layout 2 has the lengths of layout 1; only waits differ. FUNNELFAWN_AT_TRIES is gone: from FUNNELFAWN_AT_WAITED, the same place, on stands
+ * what each window has waited where its try moment stood; and the longest wait and a board's waits count unused time alone. So a summary
+ * that an older program kept must not be lent to this archive: its numbers may well be sound, so that no call refuses them, and only the
+ * layout stored beside them tells. Start it anew, and a board too; beside a table in use, a new summary counts the waits of those who are
+ * in the line already from there on only. Tables, acts, answers and calls are as they were: a stored table can be used on. */
+enum { FUNNELFAWN_LAYOUT = 2 };
 
 uint64_t funnelfawn_layout(void);
 
@@ -83,20 +89,27 @@ enum funnelfawn_place {
 
 /* Summaries: [9.30], and section 5 of the specification
  *
- * A summary is lent as FUNNELFAWN_SUMMARY_LENGTH numbers: the five below, and from FUNNELFAWN_AT_TRIES on the try moment of each window,
- * that of window w at FUNNELFAWN_AT_TRIES + w - 1. Accepted and refused acts are counted (of the refusals 4 to 10), and as entries and
- * exits the accepted crits and exits. An accepted try makes its moment the try moment of its window. An accepted crit ends a wait, its
- * own moment less that try moment: if it is longer than the longest wait it takes its place, and the try moment becomes 0. After an
- * accepted withdraw it is 0 too, and no wait has ended [5.80]. A summary is sound when neither accepted + refused nor the longest wait
- * exceeds 1,000,000,000,000, entries + exits <= accepted, and no try moment lies after the table's clock [5.40]. */
+ * A summary is lent as FUNNELFAWN_SUMMARY_LENGTH numbers: the five below, and from FUNNELFAWN_AT_WAITED on what each window has waited
+ * so far, that of window w at FUNNELFAWN_AT_WAITED + w - 1. Accepted and refused acts are counted (of the refusals 4 to 10), and as entries
+ * and exits the accepted crits and exits.
+ *
+ * A wait counts unused time, in which nobody sells. If no window sold before an accepted act, the unused time of the act is its moment less
+ * the clock before it; otherwise it is 0 [5.75]. It is added to the number of each window that was trying before the act (testing, setting,
+ * checking or entering), and to no other. Then an accepted try, crit or withdraw sets the number of its own window to 0 [5.80]. What a crit
+ * so sets to 0, its own unused time included, is the wait that it ends: if it is longer than the longest wait it takes its place [5.90]. A
+ * withdraw ends no wait.
+ *
+ * A summary is sound when neither accepted + refused nor the longest wait exceeds 1,000,000,000,000, entries + exits <= accepted, and none
+ * of the 96 numbers from FUNNELFAWN_AT_WAITED on exceeds the table's clock, those of windows past n among them [5.40]. No more is asked of
+ * these: that of a window which is not trying need not be 0. */
 enum {
     FUNNELFAWN_AT_ACCEPTED,
     FUNNELFAWN_AT_REFUSED,
     FUNNELFAWN_AT_ENTRIES,
     FUNNELFAWN_AT_EXITS,
     FUNNELFAWN_AT_LONGEST_WAIT,
-    FUNNELFAWN_AT_TRIES,
-    FUNNELFAWN_SUMMARY_LENGTH = FUNNELFAWN_AT_TRIES + FUNNELFAWN_WINDOWS
+    FUNNELFAWN_AT_WAITED,
+    FUNNELFAWN_SUMMARY_LENGTH = FUNNELFAWN_AT_WAITED + FUNNELFAWN_WINDOWS
 };
 
 /* Boards: section 10 of the specification
@@ -109,7 +122,8 @@ enum {
  *
  * An entry counts at a clock while its moment + W is above it [10.40]; one that no longer does has expired, and gives up its place to the
  * next. A board is sound when W is 1 to 1,000,000,000, it keeps FUNNELFAWN_BOARD_PLACES entries at most, their moments do not fall, and
- * none is after the last moment told [10.30]. Nothing is asked of a wait, nor of a window that is kept [10.35].
+ * none is after the last moment told [10.30]. Nothing is asked of a wait, nor of a window that is kept [10.35]: a wait is the number that
+ * the board was told, which from funnelfawn_record_and_tell is the wait of a summary, in unused time.
  *
  * From funnelfawn_set_up_board on, handed on as each call left it, a board's figures are those of all the entries that it accepted since
  * [10.150]. As with tables, an older copy is not found. */
@@ -130,7 +144,8 @@ enum {
  *
  * A window is trying while it is testing, setting, checking or entering. From any point after funnelfawn_fresh at which some window is
  * trying and nobody sells, the clock moves on by at most 2c + 5a until a window is let in, as long as some window that was trying at that
- * point has not withdrawn since [8.78] [8.80]. Once all of them have, the clock may run on. */
+ * point has not withdrawn since [8.78] [8.80]. Once all of them have, the clock may run on. Nobody sells until then, so all of it is
+ * unused time. For the wait of one window no bound is promised, as others may be let in before it [8.85]. */
 enum funnelfawn_act {
     FUNNELFAWN_ACT_WAIT,    /* none (the window is 0): nothing but the clock changes */
     FUNNELFAWN_ACT_TRY,     /* remainder: to testing */
@@ -195,12 +210,15 @@ struct funnelfawn_answer funnelfawn_step(uint64_t *table, size_t table_length, u
 /* [9.70] A new summary: all zeros. 0, 0, 0; or 16. */
 struct funnelfawn_answer funnelfawn_new_summary(uint64_t *summary, size_t summary_length);
 
-/* [9.80] The same act, counted: as funnelfawn_step, and the summary is brought up to date, its five numbers and the try moment of the
- * acting window; or the lowest of 1 to 10 whose condition holds. With 1, 2 and 3 nothing is written, to the table or to the summary; with
- * 4 to 10 one number is, the summary's count of refused acts, which goes up by one. So a table may lie where it can only be read if the act
- * is refused, a summary only if the answer is 1, 2 or 3: an accepted act on such a list faults, and may leave the table moved on and the act
- * uncounted. To ask what an act would be answered, lend copies. That no other number is written, not even with the one that it has, is
- * tested; the proofs speak of what the numbers are. */
+/* [9.80] The same act, counted: as funnelfawn_step, and the summary is brought up to date; or the lowest of 1 to 10 whose condition holds.
+ *   Accepted, it writes the summary's five numbers and, of those from FUNNELFAWN_AT_WAITED on, that of its own window and, if the clock
+ *   moved and nobody sold before it, those of all windows that were trying before it. No other number changes [9.130]; though in the second
+ *   case that of a window which was not trying may be stored anew, as it was.
+ *   Refused with 1, 2 or 3, it writes nothing, to the table or to the summary; with 4 to 10 one number, the summary's count of refused acts,
+ *   which goes up by one. So a table may lie where it can only be read if the act is refused, a summary only if the answer is 1, 2 or 3: an
+ *   accepted act on such a list faults, and may leave the table moved on and the act uncounted, or counted in part. To ask what an act would
+ *   be answered, lend copies. That a refused act writes no other number, not even with the one that it has, is tested; the proofs speak of
+ *   what the numbers are. */
 struct funnelfawn_answer funnelfawn_record(uint64_t *FUNNELFAWN_RESTRICT table, size_t table_length,
                                            uint64_t *FUNNELFAWN_RESTRICT summary, size_t summary_length, uint64_t act, uint64_t window,
                                            uint64_t moment);
@@ -230,7 +248,7 @@ struct funnelfawn_told {
 };
 
 /* [10.200] The act of funnelfawn_record; and with an accepted crit the entry of funnelfawn_add_to_board, which has the act's moment and
- * window, and the wait that the summary counts.
+ * window, and the wait that the crit ends: what its window had waited so far by the summary, with the crit's own unused time [5.90].
  *   Look at both answers. The step stands whatever the board answers, which is 0, 0, 0 where no crit was accepted and the board was left
  *   alone [10.205]. From a fresh table, a new summary and a new board on, if nothing but this call and showings tells the board, it refuses
  *   an accepted crit in two cases alone: with 18, and with 4 where it was shown at a clock past the crit's moment [10.230]; the entry is then

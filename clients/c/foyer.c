@@ -1,6 +1,6 @@
-/* The foyer board of a short sale: how many windows were let in during the last 30 microseconds, and the longest wait among them.
- * A line comes out whenever a window is let in, and whenever the screen is drawn anew. Exit status: 0; 1 where the box does not open; 3
- * where the archive has another layout than the header. */
+/* The foyer board of a short sale: how many windows were let in during the last 30 microseconds, and the longest wait among them. Window 2
+ * tries from 8 to 28 and waits 18, as window 1 sells from 12 to 14. A line comes out whenever a window is let in, and whenever the screen is
+ * drawn anew. Exit status: 0; 1 where the box does not open; 3 where the archive has another layout than the header. */
 #include "funnelfawn.h"
 
 #include <inttypes.h>

@@ -1,23 +1,9 @@
-/* Holds include/funnelfawn.h to the library: every constant of the header is met here in what a call gives back. Each check names the
- * line that fails; the last line counts them. */
+/* Holds include/funnelfawn.h to the library: every constant of the header is met here in what a call gives back.
+ * The rules of waits have a program of their own, waits.c. */
+#include "checks.h"
 #include "funnelfawn.h"
 
-#include <inttypes.h>
-#include <stdio.h>
 #include <string.h>
-
-static unsigned checks, failures;
-
-static void check(int holds, int line)
-{
-    checks++;
-    if (!holds) {
-        failures++;
-        printf("line %d does not hold\n", line);
-    }
-}
-
-#define CHECK(holds) check((holds), __LINE__)
 
 static uint64_t table[FUNNELFAWN_TABLE_LENGTH];
 static uint64_t summary[FUNNELFAWN_SUMMARY_LENGTH];
@@ -69,22 +55,22 @@ static void start(void)
     CHECK(funnelfawn_new_summary(summary, FUNNELFAWN_SUMMARY_LENGTH).number == FUNNELFAWN_OK);
 }
 
-/* The lists below are those of this layout: it is another one as soon as a length or a place of them changes. */
+/* The lists below are those of this layout: it is another one as soon as a length or a place of them changes, or what a number means. */
 static void layout(void)
 {
-    CHECK(funnelfawn_layout() == FUNNELFAWN_LAYOUT && FUNNELFAWN_LAYOUT == 1);
+    CHECK(funnelfawn_layout() == FUNNELFAWN_LAYOUT && FUNNELFAWN_LAYOUT == 2);
     CHECK(FUNNELFAWN_TABLE_LENGTH == 198 && FUNNELFAWN_SUMMARY_LENGTH == 101 && FUNNELFAWN_BOARD_LENGTH == 3076);
 }
 
 /* Window 96 goes once round: the acts, the places and where each number stands. */
 static void round_of_96(void)
 {
-    static const struct { uint64_t act, moment, place, arrival, word; } turns[] = {
-        {FUNNELFAWN_ACT_TRY, 2, FUNNELFAWN_PLACE_TESTING, 2, 0},      {FUNNELFAWN_ACT_TEST, 3, FUNNELFAWN_PLACE_SETTING, 3, 0},
-        {FUNNELFAWN_ACT_SET, 4, FUNNELFAWN_PLACE_CHECKING, 4, 96},    {FUNNELFAWN_ACT_CHECK, 12, FUNNELFAWN_PLACE_ENTERING, 12, 96},
-        {FUNNELFAWN_ACT_CRIT, 13, FUNNELFAWN_PLACE_SELLING, 0, 96},   {FUNNELFAWN_ACT_EXIT, 14, FUNNELFAWN_PLACE_RESETTING, 14, 96},
-        {FUNNELFAWN_ACT_RESET, 15, FUNNELFAWN_PLACE_LEAVING, 15, 0},  {FUNNELFAWN_ACT_REM, 16, FUNNELFAWN_PLACE_REMAINDER, 0, 0},
-        {FUNNELFAWN_ACT_TRY, 17, FUNNELFAWN_PLACE_TESTING, 17, 0},
+    static const struct { uint64_t act, moment, place, arrival, word, waited; } turns[] = {
+        {FUNNELFAWN_ACT_TRY, 2, FUNNELFAWN_PLACE_TESTING, 2, 0, 0},      {FUNNELFAWN_ACT_TEST, 3, FUNNELFAWN_PLACE_SETTING, 3, 0, 1},
+        {FUNNELFAWN_ACT_SET, 4, FUNNELFAWN_PLACE_CHECKING, 4, 96, 2},    {FUNNELFAWN_ACT_CHECK, 12, FUNNELFAWN_PLACE_ENTERING, 12, 96, 10},
+        {FUNNELFAWN_ACT_CRIT, 13, FUNNELFAWN_PLACE_SELLING, 0, 96, 0},   {FUNNELFAWN_ACT_EXIT, 14, FUNNELFAWN_PLACE_RESETTING, 14, 96, 0},
+        {FUNNELFAWN_ACT_RESET, 15, FUNNELFAWN_PLACE_LEAVING, 15, 0, 0},  {FUNNELFAWN_ACT_REM, 16, FUNNELFAWN_PLACE_REMAINDER, 0, 0, 0},
+        {FUNNELFAWN_ACT_TRY, 17, FUNNELFAWN_PLACE_TESTING, 17, 0, 0},    {FUNNELFAWN_ACT_TEST, 20, FUNNELFAWN_PLACE_SETTING, 20, 0, 3},
     };
     const size_t entry = FUNNELFAWN_HEADER_LENGTH + FUNNELFAWN_STRIDE * (96 - 1);
 
@@ -94,15 +80,15 @@ static void round_of_96(void)
         CHECK(record(turns[i].act, FUNNELFAWN_WINDOWS, turns[i].moment) == FUNNELFAWN_OK);
         CHECK(table[FUNNELFAWN_AT_CLOCK] == turns[i].moment && table[FUNNELFAWN_AT_WORD] == turns[i].word);
         CHECK(table[entry] == turns[i].place && table[entry + 1] == turns[i].arrival);
+        CHECK(summary[FUNNELFAWN_AT_WAITED + 96 - 1] == turns[i].waited);
     }
-    CHECK(entry + FUNNELFAWN_STRIDE == FUNNELFAWN_TABLE_LENGTH);
-    CHECK(record(FUNNELFAWN_ACT_WAIT, 1, 17) == FUNNELFAWN_REFUSED_NO_WINDOW);
-    CHECK(summary[FUNNELFAWN_AT_ACCEPTED] == 9 && summary[FUNNELFAWN_AT_REFUSED] == 1 && summary[FUNNELFAWN_AT_ENTRIES] == 1);
+    CHECK(entry + FUNNELFAWN_STRIDE == FUNNELFAWN_TABLE_LENGTH && FUNNELFAWN_AT_WAITED + 96 == FUNNELFAWN_SUMMARY_LENGTH);
+    CHECK(record(FUNNELFAWN_ACT_WAIT, 1, 20) == FUNNELFAWN_REFUSED_NO_WINDOW);
+    CHECK(summary[FUNNELFAWN_AT_ACCEPTED] == 10 && summary[FUNNELFAWN_AT_REFUSED] == 1 && summary[FUNNELFAWN_AT_ENTRIES] == 1);
     CHECK(summary[FUNNELFAWN_AT_EXITS] == 1 && summary[FUNNELFAWN_AT_LONGEST_WAIT] == 11);
-    CHECK(summary[FUNNELFAWN_AT_TRIES + 96 - 1] == 17);
 }
 
-/* Window 96 withdraws while window 3 has the word, which stays; the try moment does not. */
+/* Window 96 withdraws while window 3 has the word, which stays; what window 96 has waited does not. */
 static void withdrawal(void)
 {
     const size_t entry = FUNNELFAWN_HEADER_LENGTH + FUNNELFAWN_STRIDE * (96 - 1);
@@ -110,13 +96,14 @@ static void withdrawal(void)
     start();
     CHECK(record(FUNNELFAWN_ACT_TRY, 3, 1) == FUNNELFAWN_OK && record(FUNNELFAWN_ACT_TEST, 3, 2) == FUNNELFAWN_OK);
     CHECK(record(FUNNELFAWN_ACT_SET, 3, 3) == FUNNELFAWN_OK && record(FUNNELFAWN_ACT_TRY, 96, 4) == FUNNELFAWN_OK);
-    CHECK(summary[FUNNELFAWN_AT_TRIES + 96 - 1] == 4);
-    CHECK(record(FUNNELFAWN_ACT_WITHDRAW, 3, 5) == FUNNELFAWN_REFUSED_OUT_OF_PLACE);
-    CHECK(record(FUNNELFAWN_ACT_WITHDRAW, 96, 5) == FUNNELFAWN_OK);
-    CHECK(table[FUNNELFAWN_AT_CLOCK] == 5 && table[FUNNELFAWN_AT_WORD] == 3);
+    CHECK(record(FUNNELFAWN_ACT_WAIT, 0, 6) == FUNNELFAWN_OK);
+    CHECK(summary[FUNNELFAWN_AT_WAITED + 96 - 1] == 2 && summary[FUNNELFAWN_AT_WAITED + 3 - 1] == 5);
+    CHECK(record(FUNNELFAWN_ACT_WITHDRAW, 3, 7) == FUNNELFAWN_REFUSED_OUT_OF_PLACE);
+    CHECK(record(FUNNELFAWN_ACT_WITHDRAW, 96, 7) == FUNNELFAWN_OK);
+    CHECK(table[FUNNELFAWN_AT_CLOCK] == 7 && table[FUNNELFAWN_AT_WORD] == 3);
     CHECK(table[entry] == FUNNELFAWN_PLACE_REMAINDER && table[entry + 1] == 0);
-    CHECK(summary[FUNNELFAWN_AT_ACCEPTED] == 5 && summary[FUNNELFAWN_AT_REFUSED] == 1 && summary[FUNNELFAWN_AT_LONGEST_WAIT] == 0);
-    CHECK(summary[FUNNELFAWN_AT_TRIES + 96 - 1] == 0 && summary[FUNNELFAWN_AT_TRIES + 3 - 1] == 1);
+    CHECK(summary[FUNNELFAWN_AT_ACCEPTED] == 6 && summary[FUNNELFAWN_AT_REFUSED] == 1 && summary[FUNNELFAWN_AT_LONGEST_WAIT] == 0);
+    CHECK(summary[FUNNELFAWN_AT_WAITED + 96 - 1] == 0 && summary[FUNNELFAWN_AT_WAITED + 3 - 1] == 6);
 }
 
 /* The refusals of an act, and what stands beside each. */
@@ -139,7 +126,7 @@ static void refusals(void)
     CHECK(answer.number == FUNNELFAWN_REFUSED_EARLY && answer.window == 3 && answer.moment == 29);
     summary[FUNNELFAWN_AT_REFUSED] = UINT64_C(1000000000000);
     CHECK(record(FUNNELFAWN_ACT_WAIT, 0, 21) == FUNNELFAWN_REFUSED_SUMMARY_FULL);
-    summary[FUNNELFAWN_AT_TRIES] = 22;
+    summary[FUNNELFAWN_AT_WAITED] = 22;
     CHECK(record(FUNNELFAWN_ACT_WAIT, 0, 21) == FUNNELFAWN_REFUSED_NO_SUMMARY);
     /* a fresh table that is refused leaves the older one */
     CHECK(funnelfawn_fresh(97, 5, 8, 12, table, FUNNELFAWN_TABLE_LENGTH).number == FUNNELFAWN_REFUSED_WINDOW_COUNT);
@@ -285,6 +272,5 @@ int main(void)
     board_refusals();
     tellings();
     recordings();
-    printf("%u checks of the header, %u failed\n", checks, failures);
-    return failures != 0;
+    return say_checks("the header");
 }

@@ -1,5 +1,6 @@
 /* What the steps write, tried on memory that can only be read: a refused one writes nothing but the count of refused acts, and an accepted
- * one nothing but its own numbers. A fault is a check that fails. Each check names the line that fails; the last line counts them. */
+ * one nothing but its own numbers and, where time goes unused, waits. A fault is a check that fails. Each check names the line that fails; the
+ * last line counts them. */
 #define _DEFAULT_SOURCE
 
 #include "funnelfawn.h"
@@ -127,14 +128,15 @@ static uint64_t record_and_tell(struct act act)
 /* The two recorded steps, which have to write the same as long as no crit is accepted. */
 static uint64_t (*const recorded[])(struct act) = {record, record_and_tell};
 
-/* The table of the refusals: of two windows, 1 came to checking at 0 and 2 to testing at 6, and the clock is at 7. And a summary. */
+/* The table of the refusals: of two windows, 1 came to checking at 0 and 2 to testing at 5, and the clock is at 6. Both are trying and nobody
+ * sells, so that an accepted act past 6 would raise what they have waited. And a summary, and a board. */
 static uint64_t numbers[FUNNELFAWN_TABLE_LENGTH], counts[FUNNELFAWN_SUMMARY_LENGTH], entries[FUNNELFAWN_BOARD_LENGTH];
 
 static void start(void)
 {
     static const struct act acts[] = {
         {FUNNELFAWN_ACT_TRY, 1, 0}, {FUNNELFAWN_ACT_TEST, 1, 0}, {FUNNELFAWN_ACT_SET, 1, 0},
-        {FUNNELFAWN_ACT_TRY, 2, 6}, {FUNNELFAWN_ACT_WAIT, 0, 7},
+        {FUNNELFAWN_ACT_TRY, 2, 5}, {FUNNELFAWN_ACT_WAIT, 0, 6},
     };
 
     CHECK(funnelfawn_fresh(2, 5, 8, 12, numbers, FUNNELFAWN_TABLE_LENGTH).number == FUNNELFAWN_OK, "fresh", 0);
@@ -145,6 +147,7 @@ static void start(void)
                                 acts[i].moment)
                       .number == FUNNELFAWN_OK,
               "act", i);
+    CHECK(counts[FUNNELFAWN_AT_WAITED] == 6 && counts[FUNNELFAWN_AT_WAITED + 1] == 1, "the waits", 0);
 }
 
 /* A wait that would be accepted, were table and summary sound. */
@@ -172,7 +175,7 @@ static void no_table(void)
         {FUNNELFAWN_AT_CLOCK, UINT64_C(1000000000001)},
         {FUNNELFAWN_AT_WORD, 3},
         {FUNNELFAWN_HEADER_LENGTH, 8},
-        {FUNNELFAWN_HEADER_LENGTH + 1, 8},
+        {FUNNELFAWN_HEADER_LENGTH + 1, 7},
         {FUNNELFAWN_HEADER_LENGTH + 2 * FUNNELFAWN_STRIDE, 5},
         {FUNNELFAWN_TABLE_LENGTH - 1, 1},
     };
@@ -202,12 +205,12 @@ static void no_summary(void)
         {FUNNELFAWN_AT_REFUSED, UINT64_MAX, FUNNELFAWN_REFUSED_NO_SUMMARY},
         {FUNNELFAWN_AT_ENTRIES, 6, FUNNELFAWN_REFUSED_NO_SUMMARY},
         {FUNNELFAWN_AT_LONGEST_WAIT, UINT64_C(1000000000001), FUNNELFAWN_REFUSED_NO_SUMMARY},
-        {FUNNELFAWN_AT_TRIES, 8, FUNNELFAWN_REFUSED_NO_SUMMARY},
-        {FUNNELFAWN_SUMMARY_LENGTH - 1, 8, FUNNELFAWN_REFUSED_NO_SUMMARY},
+        {FUNNELFAWN_AT_WAITED, 7, FUNNELFAWN_REFUSED_NO_SUMMARY},
+        {FUNNELFAWN_SUMMARY_LENGTH - 1, 7, FUNNELFAWN_REFUSED_NO_SUMMARY},
         {FUNNELFAWN_AT_ACCEPTED, UINT64_C(1000000000000), FUNNELFAWN_REFUSED_SUMMARY_FULL},
         {FUNNELFAWN_AT_REFUSED, UINT64_C(999999999995), FUNNELFAWN_REFUSED_SUMMARY_FULL},
     };
-    static const size_t lengths[] = {0, FUNNELFAWN_AT_TRIES, FUNNELFAWN_SUMMARY_LENGTH - 1};
+    static const size_t lengths[] = {0, FUNNELFAWN_AT_WAITED, FUNNELFAWN_SUMMARY_LENGTH - 1};
 
     for (size_t i = 0; i < sizeof damage / sizeof damage[0]; i++) {
         uint64_t damaged[FUNNELFAWN_SUMMARY_LENGTH];
@@ -225,13 +228,13 @@ static void no_summary(void)
 static void refused_acts(void)
 {
     static const struct { struct act act; uint64_t number; } refused[] = {
-        {{FUNNELFAWN_ACT_WAIT, 0, 6}, FUNNELFAWN_REFUSED_BACKWARD},
+        {{FUNNELFAWN_ACT_WAIT, 0, 5}, FUNNELFAWN_REFUSED_BACKWARD},
         {{FUNNELFAWN_ACT_WAIT, 0, UINT64_C(1000000000001)}, FUNNELFAWN_REFUSED_END_OF_CLOCK},
         {{FUNNELFAWN_ACT_WITHDRAW + 1, 1, 7}, FUNNELFAWN_REFUSED_NO_ACT},
         {{FUNNELFAWN_ACT_TRY, 3, 7}, FUNNELFAWN_REFUSED_NO_WINDOW},
         {{FUNNELFAWN_ACT_CRIT, UINT64_MAX, 7}, FUNNELFAWN_REFUSED_NO_WINDOW},
         {{FUNNELFAWN_ACT_WAIT, 1, 7}, FUNNELFAWN_REFUSED_NO_WINDOW},
-        {{FUNNELFAWN_ACT_TEST, 2, 12}, FUNNELFAWN_REFUSED_LATE},
+        {{FUNNELFAWN_ACT_TEST, 2, 11}, FUNNELFAWN_REFUSED_LATE},
         {{FUNNELFAWN_ACT_CRIT, 1, 7}, FUNNELFAWN_REFUSED_OUT_OF_PLACE},
         {{FUNNELFAWN_ACT_CHECK, 1, 7}, FUNNELFAWN_REFUSED_EARLY},
     };
@@ -254,34 +257,63 @@ static void refused_acts(void)
     }
 }
 
-/* The places of an accepted act: up to where it may write, in a table and in a summary. Before its own entry a window has those of the
- * windows below it, which only the comparison of numbers speaks of. */
+/* Where the entry of an act's window ends; for a wait, where the entries begin. Before its own entry a window has those of the windows
+ * below it, which only the comparison of numbers speaks of. */
 static size_t table_end(struct act act)
 {
     return FUNNELFAWN_HEADER_LENGTH + FUNNELFAWN_STRIDE * (size_t)act.window;
 }
 
-static size_t summary_end(struct act act)
+static uint64_t place_of(size_t window)
 {
-    return FUNNELFAWN_AT_TRIES + (size_t)act.window;
+    return numbers[FUNNELFAWN_HEADER_LENGTH + FUNNELFAWN_STRIDE * (window - 1)];
 }
 
-/* Nothing but the clock, the word and the entry differs; nothing but the counts and the try moment. */
+/* What the windows trying before an act wait by it [5.75]. */
+static uint64_t unused_time(struct act act)
+{
+    for (size_t window = 1; window <= FUNNELFAWN_WINDOWS; window++)
+        if (place_of(window) == FUNNELFAWN_PLACE_SELLING)
+            return 0;
+    return act.moment - numbers[FUNNELFAWN_AT_CLOCK];
+}
+
+static int is_trying(size_t window)
+{
+    return place_of(window) >= FUNNELFAWN_PLACE_TESTING && place_of(window) <= FUNNELFAWN_PLACE_ENTERING;
+}
+
+/* Up to where an act may write in a summary: its own window's wait; and where there is unused time the waits of all, as that of a window
+ * that does not try may be stored anew. What is stored there only the comparison of numbers tells. */
+static size_t summary_end(struct act act)
+{
+    return unused_time(act) != 0 ? FUNNELFAWN_SUMMARY_LENGTH : FUNNELFAWN_AT_WAITED + (size_t)act.window;
+}
+
+/* What a window has waited after an act [5.80]. */
+static uint64_t waited_after(struct act act, size_t window)
+{
+    int ends = act.act == FUNNELFAWN_ACT_TRY || act.act == FUNNELFAWN_ACT_CRIT || act.act == FUNNELFAWN_ACT_WITHDRAW;
+
+    if (act.window == window && ends)
+        return 0;
+    return counts[FUNNELFAWN_AT_WAITED + window - 1] + (is_trying(window) ? unused_time(act) : 0);
+}
+
+/* Nothing but the clock, the word and the entry differs; nothing but the counts, and the waits as they have to. */
 static int own_places(struct act act)
 {
-    size_t window = (size_t)act.window;
-
     for (size_t i = 0; i < FUNNELFAWN_TABLE_LENGTH; i++)
         if (table.list[i] != numbers[i] && i != FUNNELFAWN_AT_CLOCK && i != FUNNELFAWN_AT_WORD &&
-            (window == 0 || i < table_end(act) - FUNNELFAWN_STRIDE || i >= table_end(act)))
+            (act.window == 0 || i < table_end(act) - FUNNELFAWN_STRIDE || i >= table_end(act)))
             return 0;
-    for (size_t i = FUNNELFAWN_AT_TRIES; i < FUNNELFAWN_SUMMARY_LENGTH; i++)
-        if (summary.list[i] != counts[i] && (window == 0 || i + 1 != summary_end(act)))
+    for (size_t window = 1; window <= FUNNELFAWN_WINDOWS; window++)
+        if (summary.list[FUNNELFAWN_AT_WAITED + window - 1] != waited_after(act, window))
             return 0;
     return summary.list[FUNNELFAWN_AT_ACCEPTED] == counts[FUNNELFAWN_AT_ACCEPTED] + 1 && table.list[FUNNELFAWN_AT_CLOCK] == act.moment;
 }
 
-/* [9.130] Accepted acts: what a window has behind its own numbers cannot be written; then n, a, b and c cannot. */
+/* [9.130] Accepted acts: what lies behind the last number that one may write cannot be written; then n, a, b and c cannot. */
 static void accepted_act(struct act act)
 {
     lay(&table, numbers, FUNNELFAWN_TABLE_LENGTH, BEFORE, table_end(act));
@@ -301,16 +333,17 @@ static void accepted_act(struct act act)
     memcpy(counts, summary.list, sizeof counts);
 }
 
-/* A window goes once round, with a test that finds the word taken, a check that finds another's, a withdraw and waits. */
+/* A window goes once round, with a test that finds the word taken, a check that finds another's, a withdraw and waits. The other one tries
+ * while it does and while it sells, and at the end has waited from 15 to its crit and from its exit on. */
 static void accepted(uint64_t window, uint64_t other)
 {
     const struct act acts[] = {
         {FUNNELFAWN_ACT_WAIT, 0, 1},          {FUNNELFAWN_ACT_TRY, window, 2},      {FUNNELFAWN_ACT_TRY, other, 2},
         {FUNNELFAWN_ACT_TEST, window, 3},     {FUNNELFAWN_ACT_TEST, other, 3},      {FUNNELFAWN_ACT_SET, other, 4},
         {FUNNELFAWN_ACT_SET, window, 5},      {FUNNELFAWN_ACT_CHECK, other, 12},    {FUNNELFAWN_ACT_CHECK, window, 13},
-        {FUNNELFAWN_ACT_TEST, other, 14},     {FUNNELFAWN_ACT_WITHDRAW, other, 15}, {FUNNELFAWN_ACT_CRIT, window, 16},
-        {FUNNELFAWN_ACT_WAIT, 0, 17},         {FUNNELFAWN_ACT_EXIT, window, 18},    {FUNNELFAWN_ACT_RESET, window, 19},
-        {FUNNELFAWN_ACT_REM, window, 20},
+        {FUNNELFAWN_ACT_TEST, other, 14},     {FUNNELFAWN_ACT_WITHDRAW, other, 15}, {FUNNELFAWN_ACT_TRY, other, 15},
+        {FUNNELFAWN_ACT_CRIT, window, 16},    {FUNNELFAWN_ACT_TEST, other, 17},     {FUNNELFAWN_ACT_WAIT, 0, 18},
+        {FUNNELFAWN_ACT_EXIT, window, 19},    {FUNNELFAWN_ACT_RESET, window, 20},   {FUNNELFAWN_ACT_REM, window, 21},
     };
 
     CHECK(funnelfawn_fresh(96, 5, 8, 12, numbers, FUNNELFAWN_TABLE_LENGTH).number == FUNNELFAWN_OK, "fresh", 0);
@@ -318,6 +351,7 @@ static void accepted(uint64_t window, uint64_t other)
     for (size_t i = 0; i < sizeof acts / sizeof acts[0]; i++)
         accepted_act(acts[i]);
     CHECK(counts[FUNNELFAWN_AT_ACCEPTED] == sizeof acts / sizeof acts[0] && counts[FUNNELFAWN_AT_LONGEST_WAIT] == 14, "the summary", window);
+    CHECK(counts[FUNNELFAWN_AT_WAITED + window - 1] == 0 && counts[FUNNELFAWN_AT_WAITED + other - 1] == 1 + 2, "the waits", window);
 }
 
 /* Whether it faults to write a number that is there already. */

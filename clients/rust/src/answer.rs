@@ -16,7 +16,8 @@ pub struct Accepted {
 pub struct Figures {
     /// how many entries count
     pub entries: u64,
-    /// the longest wait among them, 0 where none counts
+    /// the longest wait among them, 0 where none counts; one that a [`Table`](crate::Table) told is in unused time, as in a
+    /// [`Summary`](crate::Summary)
     pub longest_wait: u64,
 }
 

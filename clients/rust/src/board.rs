@@ -61,7 +61,8 @@ impl Board {
         &self.numbers
     }
 
-    /// A board of stored numbers. Any will do, as each call judges them anew and may answer [`NoSummary`](Refusal::NoSummary).
+    /// A board of stored numbers. Any will do, as each call judges them anew and may answer [`NoSummary`](Refusal::NoSummary);
+    /// but waits stored with layout 1 count all time, and no call tells.
     pub fn from_numbers(numbers: [u64; raw::BOARD]) -> Board {
         layout::assert_same();
         Board { numbers: Box::new(numbers) }

@@ -7,7 +7,10 @@ use crate::ffi::*;
 
 /// The layout of the lists below, of tables, summaries and boards, as one number: whoever lends lists of his own to the functions here
 /// compares it with [`layout`] once. [`Table`](crate::Table), [`Summary`](crate::Summary) and [`Board`](crate::Board) do it themselves.
-pub const LAYOUT: u64 = 1;
+///
+/// With 1 a summary held the moment of each window's try where it now holds what the window has waited, [`WAITED`]. Numbers of either
+/// kind may be sound, so no call finds out a summary of layout 1: whoever stores numbers stores this number beside them.
+pub const LAYOUT: u64 = 2;
 /// The entries of every table, whatever its n.
 pub const WINDOWS: usize = 96;
 /// The numbers of a table before its entries: n, a, b, c, the clock, the word.
@@ -16,10 +19,10 @@ pub const HEADER: usize = 6;
 pub const STRIDE: usize = 2;
 /// The numbers of a table.
 pub const TABLE: usize = HEADER + STRIDE * WINDOWS;
-/// The numbers of a summary before its try moments: accepted, refused, entries, exits, the longest wait.
-pub const TRIES: usize = 5;
+/// The numbers of a summary before what each window has waited so far: accepted, refused, entries, exits, the longest wait.
+pub const WAITED: usize = 5;
 /// The numbers of a summary.
-pub const SUMMARY: usize = TRIES + WINDOWS;
+pub const SUMMARY: usize = WAITED + WINDOWS;
 /// The numbers of a board before its places: W, the last moment told, the place of the first kept entry, how many are kept.
 pub const BOARD_HEADER: usize = 4;
 /// The numbers of a place of a board: moment, window, wait.

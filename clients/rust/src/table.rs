@@ -84,7 +84,7 @@ impl Table {
         raw::record(&mut self.numbers, &mut summary.numbers, act.into(), window, moment).accepted()
     }
 
-    /// The same, and the board is told of an accepted crit, with the wait that the summary counts. The step stands, whatever the board
+    /// The same, and the board is told of an accepted crit, with the wait that it ends in the summary. The step stands, whatever the board
     /// answers: a new board that only this call and showings tell refuses an entry with [`BoardFull`](Refusal::BoardFull), or with
     /// [`Backward`](Refusal::Backward) where it was shown at a later clock; one of stored numbers may answer
     /// [`NoSummary`](Refusal::NoSummary).

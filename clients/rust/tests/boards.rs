@@ -129,11 +129,12 @@ fn the_readme_s_board() {
     sale.untold(1, &[(Test, 31)]);
     sale.untold(2, &[(Rem, 32)]);
     sale.untold(1, &[(Set, 36), (Check, 46)]);
-    assert_eq!(sale.accept(Crit, 1, 50), Some(figures(2, 34)));
+    // window 2 sold from 20 to 27, so that of 50 - 16 these 7 are no part of the wait
+    assert_eq!(sale.accept(Crit, 1, 50), Some(figures(2, 27)));
     sale.untold(1, &[(Exit, 52), (Reset, 54), (Rem, 56)]);
     sale.to_entering(2, 65);
-    assert_eq!(sale.board.show(79), figures(2, 34));
-    assert_eq!(sale.board.show(80), figures(1, 34));
+    assert_eq!(sale.board.show(79), figures(2, 27));
+    assert_eq!(sale.board.show(80), figures(1, 27));
     assert_eq!(sale.accept(Crit, 2, 79), Some(Err(Refusal::Backward { clock: 80 })));
     assert_eq!(sale.table.place(2), Some((Place::Selling, None)));
     assert_eq!(sale.board.show(110), figures(0, 0));

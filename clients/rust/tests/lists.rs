@@ -15,11 +15,11 @@ fn table() -> Vec<u64> {
     Table::fresh(2, 5, 8, 12).unwrap().numbers().to_vec()
 }
 
-/// What is lent has these lengths as long as the layout is 1.
+/// What is lent has these lengths as long as the layout is 2. They are those of layout 1, whose summary held other numbers.
 #[test]
 fn the_layout() {
-    assert_eq!((layout(), LAYOUT), (1, 1));
-    assert_eq!((TABLE, SUMMARY, BOARD), (198, 101, 3_076));
+    assert_eq!((layout(), LAYOUT), (2, 2));
+    assert_eq!((TABLE, SUMMARY, WAITED, BOARD), (198, 101, 5, 3_076));
 }
 
 #[test]
@@ -33,7 +33,7 @@ fn short_tables_and_summaries() {
         assert_eq!(fresh(0, 5, 8, 12, &mut short), bare(11));
         assert_eq!((&short[..], summary), (&table()[..length], [0; SUMMARY]));
     }
-    for length in [0, 1, TRIES, SUMMARY - 1] {
+    for length in [0, 1, WAITED, SUMMARY - 1] {
         let mut short = vec![PAST; length];
         assert_eq!(new_summary(&mut short), bare(16));
         assert_eq!(record(&mut table(), &mut short, 0, 0, 1), bare(2));
@@ -48,14 +48,15 @@ fn past_a_table_and_a_summary() {
     assert_eq!(fresh(2, 5, 8, 12, &mut long), bare(0));
     assert_eq!(new_summary(&mut summary), bare(0));
     assert_eq!(record(&mut long, &mut summary, 1, 2, 4), Answer { number: 0, window: 0, moment: 4 });
-    assert_eq!(step(&mut long, 2, 2, 5), Answer { number: 0, window: 0, moment: 5 });
+    assert_eq!(record(&mut long, &mut summary, 0, 0, 7), Answer { number: 0, window: 0, moment: 7 });
+    assert_eq!(step(&mut long, 2, 2, 9), Answer { number: 0, window: 0, moment: 9 });
     let mut left = table();
-    left[4] = 5;
-    left[HEADER + STRIDE..HEADER + 2 * STRIDE].copy_from_slice(&[2, 5]);
+    left[4] = 9;
+    left[HEADER + STRIDE..HEADER + 2 * STRIDE].copy_from_slice(&[2, 9]);
     left.extend([PAST; 3]);
     assert_eq!(long[..], left);
     let mut counted = Summary::new().numbers().to_vec();
-    (counted[0], counted[TRIES + 1]) = (1, 4);
+    (counted[0], counted[WAITED + 1]) = (2, 3);
     counted.extend([PAST; 3]);
     assert_eq!(summary[..], counted);
 }

@@ -77,10 +77,10 @@ fn by_counted_steps() {
     assert_left(&table);
     assert_eq!((summary.accepted(), summary.refused()), (10, 3));
     assert_eq!((summary.entries(), summary.exits()), (1, 0));
-    // window 2 tried at 3 and was let in at 20
+    // window 2 tried at 3 and was let in at 20; nobody has sold while window 1 is trying, from 0 to 20
     assert_eq!(summary.longest_wait(), 17);
-    let tries = [0, 1, 2, 96, 97, u64::MAX].map(|window| summary.try_moment(window));
-    assert_eq!(tries, [None, Some(0), Some(0), Some(0), None, None]);
+    let waited = [0, 1, 2, 96, 97, u64::MAX].map(|window| summary.waited(window));
+    assert_eq!(waited, [None, Some(20), Some(0), Some(0), None, None]);
 }
 
 #[test]
@@ -91,16 +91,4 @@ fn as_a_recording() {
     let steps = case().map(|(moment, window, act, _)| Step { moment, window, act: act.into() });
     assert_eq!(recording.steps, steps);
     assert_eq!(recording.write().unwrap(), INPUT);
-}
-
-#[test]
-fn a_try_moment_stays_until_the_entry() {
-    let mut table = Table::fresh(1, 5, 8, 12).unwrap();
-    let mut summary = Summary::new();
-    let acts = [(7, Try, 7), (8, Test, 7), (9, Set, 7), (17, Check, 7), (18, Crit, 0), (19, Exit, 0)];
-    for (moment, act, tried) in acts {
-        assert!(table.record(&mut summary, act, 1, moment).is_ok());
-        assert_eq!(summary.try_moment(1), Some(tried));
-    }
-    assert_eq!((summary.entries(), summary.exits(), summary.longest_wait()), (1, 1, 11));
 }

@@ -81,14 +81,21 @@ fn all_withdraw_and_the_clock_runs_on() {
 fn a_wait_is_counted_from_the_later_try() {
     let mut table = after(&[]);
     let mut summary = Summary::new();
-    let acts = [(3, Try, 3), (7, Withdraw, 0), (20, Try, 20), (21, Test, 20), (22, Set, 20), (30, Check, 20)];
-    for (moment, act, tried) in acts {
-        assert_eq!(table.record(&mut summary, act, 1, moment), nobody(moment));
-        assert_eq!(summary.try_moment(1), Some(tried));
+    for (moment, window, act, waited) in [
+        (3, 1, Try, 0),
+        (5, 0, Wait, 2),
+        (7, 1, Withdraw, 0),
+        (20, 1, Try, 0),
+        (21, 1, Test, 1),
+        (22, 1, Set, 2),
+        (30, 1, Check, 10),
+    ] {
+        assert_eq!(table.record(&mut summary, act, window, moment), nobody(moment));
+        assert_eq!(summary.waited(1), Some(waited));
     }
-    assert_eq!((summary.accepted(), summary.longest_wait()), (6, 0));
+    assert_eq!((summary.accepted(), summary.longest_wait()), (7, 0));
     assert!(table.record(&mut summary, Crit, 1, 32).is_ok());
-    assert_eq!((summary.accepted(), summary.refused()), (7, 0));
+    assert_eq!((summary.accepted(), summary.refused()), (8, 0));
     assert_eq!((summary.entries(), summary.exits(), summary.longest_wait()), (1, 0, 12));
 }
 
