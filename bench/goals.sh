@@ -11,16 +11,31 @@ stack_bytes() {
     awk '{ if ($1 > step) step = $1; if ($2 > record) record = $2 } END { print step, record }' "$work/stack"
 }
 
+# What an accepted recorded step took when a summary held the moment of each try, at commit cd9bd26, by these same programs: case,
+# instructions through the C library, instructions within Rattle.
+with_moments='11:970:2054 12:1113:2057 13:1560:2058 41:962:2058 42:1239:2281 43:2118:3005 73:2424:3005
+111:958:2060 112:1233:2280 113:2112:3000 123:2433:3011 131:964:2059 132:1243:2284 133:2122:3004'
+
 # goals: a line for each; the status is 1 if one is not met, or if a row that it speaks of was not measured
 goals() {
     stack=$(stack_bytes)
-    awk -v archive="$(archive_bytes)" -v step="${stack% *}" -v record="${stack#* }" '
+    awk -v archive="$(archive_bytes)" -v step="${stack% *}" -v record="${stack#* }" -v with_moments="$(echo $with_moments)" '
+        BEGIN {
+            for (k = split(with_moments, rows_before, " "); k > 0; k--) {
+                split(rows_before[k], numbers, ":")
+                before["recorded " numbers[1]] = numbers[2]
+                before["recorded_within " numbers[1]] = numbers[3]
+            }
+        }
         { note($1); note($1 " " $2) }
+        $2 ~ /^([14][123]|73|11[123]|123)$/ { note($1 " accepted") }
+        ($1 " " $2) in before { note_ratio($1 " with moments", $3 / $5 / before[$1 " " $2]) }
         $2 ~ /^([12][123]|83)$/ { note($1 " idle") }
         $2 ~ /^([456][123]|73)$/ { note($1 " busy") }
         $2 ~ /^(43|73)$/ { note($1 " busy 96") }
         $1 == "board" && ($2 == 201 || $2 == 205) { empty++; if ($3 / $5 > dearest) dearest = $3 / $5 }
-        function note(goal) { rows[goal]++; if ($3 / $4 > most[goal]) most[goal] = $3 / $4 }
+        function note_ratio(goal, ratio) { rows[goal]++; if (ratio > most[goal]) most[goal] = ratio }
+        function note(goal) { note_ratio(goal, $3 / $4) }
         function met(goal, expected, bound) { return rows[goal] == expected && most[goal] <= bound }
         function say(goal, bound, text, end) { printf "goal: %s: at most %.2f; is %.3f: %s\n", text, bound, most[goal], end }
         function verdict(is_met) { if (!is_met) missed = 1; return is_met ? "met" : "NOT MET" }
@@ -31,28 +46,32 @@ goals() {
             judge("inlined 12", 1, 0.39, "the same, n = 24")
             judge("inlined 13", 1, 0.34, "the same, n = 96")
             judge("inlined busy 96", 2, 0.60, "the same on busy tables, n = 96")
-            judge("inlined", 22, 1.0, "the same in every row")
+            judge("inlined", 29, 1.0, "the same in every row")
             judge("called 11", 1, 0.45, "a step within Rattle, called, accepted on an idle table, n = 2, of the twin")
             judge("called 12", 1, 0.43, "the same, n = 24")
             judge("called 13", 1, 0.39, "the same, n = 96")
             judge("called busy 96", 2, 0.60, "the same on busy tables, n = 96")
             # why it is missed is in docs/DECISIONS.md, "Speed": so it is told and does not decide
-            say("called", 1.0, "the same in every row", met("called", 22, 1.0) ? "met" : "NOT MET, as docs/DECISIONS.md tells")
+            say("called", 1.0, "the same in every row", met("called", 29, 1.0) ? "met" : "NOT MET, as docs/DECISIONS.md tells")
             judge("library 11", 1, 0.20, "a step through the C library, accepted on an idle table, n = 2, of the twin")
             judge("library 12", 1, 0.25, "the same, n = 24")
             judge("library 13", 1, 0.35, "the same, n = 96")
             judge("library 42", 1, 0.45, "the same on a busy table, n = 24")
             judge("library busy 96", 2, 0.60, "the same on busy tables, n = 96")
-            judge("library", 22, 1.0, "the same in every row")
+            judge("library", 29, 1.0, "the same in every row")
             # a table that is refused with 1 is no such table: those rows are in the last of the three
             judge("recorded idle", 7, 0.50, "a recorded step through the C library, on an idle table that is sound, every n, of the reference")
             judge("recorded busy", 10, 0.70, "the same on busy tables, sound or not, every n")
-            judge("recorded", 22, 1.0, "the same in every row")
+            judge("recorded", 29, 1.0, "the same in every row")
+            judge("recorded accepted", 11, 0.60, "the same where it accepts and nobody sells, the clock moving or not, every n")
+            judge("recorded with moments", 14, 1.15, "the same where it accepts, every n, of what it took with a moment for each try")
+            judge("recorded_within accepted", 11, 0.60, "a recorded step within Rattle, accepted while nobody sells, every n, of the reference")
+            judge("recorded_within with moments", 14, 1.15, "the same, somebody selling or not, of what it took with a moment for each try")
             judge("replay", 3, 0.8, "replay, of the reference")
             judge("board", 8, 1.0, "a board through the C library, in every row, of the reference")
             judge_number(dearest, empty == 2 && dearest < 200, "an empty board, adding or showing: less than 200 instructions")
-            # as many as with steps that make a state of the numbers
-            judge_number(archive, archive > 0 && archive <= 22870, "the archive: at most 22,870 bytes of code and constants")
+            # 22,870 with steps that made a state of the numbers; the waits of a summary, looked at and added to in a row, take some 1,000
+            judge_number(archive, archive > 0 && archive <= 23500, "the archive: at most 23,500 bytes of code and constants")
             judge_number(step, step > 0 && step < 1024, "a step through the C library: less than 1,024 bytes of stack")
             judge_number(record, record > 0 && record < 1024, "a recorded step through the C library: less than 1,024 bytes of stack")
             exit missed

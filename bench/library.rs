@@ -27,15 +27,24 @@ fn main() {
     println!("{} {}", sum, table[CLOCK]);
 }
 
+#[cfg(recorded)]
+fn summary_of(case: u64) -> [u64; raw::SUMMARY] {
+    let mut summary = [0; raw::SUMMARY];
+    for (window, waited) in (1..).zip(&mut summary[raw::WAITED..]) {
+        *waited = cases::waited_of(case, window);
+    }
+    summary
+}
+
 /// Prints the four counts and the longest wait too: they show that the acts were counted.
 #[cfg(recorded)]
 fn main() {
     let case = cases::chosen();
-    let (mut table, mut summary) = (table_of(case), [0u64; raw::SUMMARY]);
+    let (mut table, mut summary) = (table_of(case), summary_of(case));
     let sum = cases::run(case, |[act, window, moment]| {
         numbers(raw::record(&mut table, &mut summary, act, window, moment))
     });
-    println!("{} {} {:?}", sum, table[CLOCK], &summary[..raw::TRIES]);
+    println!("{} {} {:?}", sum, table[CLOCK], &summary[..raw::WAITED]);
 }
 
 /// Accepted crits, a microsecond after one another, of which the board keeps 100.
@@ -52,5 +61,5 @@ fn main() {
         let (step, board) = (numbers(told.step), numbers(told.board));
         [step[0] + board[0], step[1] + board[1], step[2] + board[2]]
     });
-    println!("{} {} {:?}", sum, table[CLOCK], &summary[..raw::TRIES]);
+    println!("{} {} {:?}", sum, table[CLOCK], &summary[..raw::WAITED]);
 }

@@ -27,8 +27,8 @@ steps_counted() {
 }
 
 heading() {
-    printf '%-42s %25s %7s %23s\n' '' 'instructions per call' '' 'nanoseconds per call'
-    printf '%-42s %12s %12s %7s %11s %11s\n' 'what is proved; what stands beside it' proved beside ratio proved beside
+    printf '%-45s %25s %7s %23s\n' '' 'instructions per call' '' 'nanoseconds per call'
+    printf '%-45s %12s %12s %7s %11s %11s\n' 'what is proved; what stands beside it' proved beside ratio proved beside
 }
 
 # row PART CASE LABEL CALLS COUNT COUNT_BESIDE TIME TIME_BESIDE: the counts are of CALLS calls, the times of one; noted for the goals
@@ -40,7 +40,7 @@ row() {
             return n tail
         }
         BEGIN {
-            printf "  %-40s %12s %12s %7.2f %11s %11s\n", label, grouped(ours / calls), grouped(beside / calls), ours / beside,
+            printf "  %-43s %12s %12s %7.2f %11s %11s\n", label, grouped(ours / calls), grouped(beside / calls), ours / beside,
                 grouped(time), grouped(time_beside)
         }'
 }

@@ -9,26 +9,23 @@ use reference::summary::Summary;
 #[cfg(not(told))]
 use reference::{answer::Answer, summary::recorded_step};
 
-fn place_of(place: u64, arrival: u64) -> Place {
-    match place {
-        0 => Place::Remainder,
-        1 => Place::Testing(arrival),
-        2 => Place::Setting(arrival),
-        3 => Place::Checking(arrival),
-        4 => Place::Entering(arrival),
-        5 => Place::Selling,
-        6 => Place::Resetting(arrival),
-        _ => Place::Leaving(arrival),
+fn table_of(case: u64) -> Table {
+    let [a, b, c] = cases::limits_of(case);
+    let places = std::array::from_fn(|i| {
+        let (place, arrival) = cases::place_of(case, i as u64 + 1);
+        Place::numbered(place, arrival).expect("a place")
+    });
+    Table {
+        values: Values { n: cases::count_of(case), a, b, c },
+        clock: cases::clock_of(case),
+        word: cases::word_of(case),
+        places,
     }
 }
 
-fn table_of(case: u64) -> Table {
-    let [a, b, c] = cases::LIMITS;
-    let places = std::array::from_fn(|i| {
-        let (place, arrival) = cases::place_of(case, i as u64 + 1);
-        place_of(place, arrival)
-    });
-    Table { values: Values { n: cases::count_of(case), a, b, c }, clock: 0, word: cases::word_of(case), places }
+#[cfg(not(told))]
+fn summary_of(case: u64) -> Summary {
+    Summary { waited: std::array::from_fn(|i| cases::waited_of(case, i as u64 + 1)), ..Summary::new() }
 }
 
 /// A call, as one of the library is.
@@ -41,7 +38,7 @@ fn called(table: Table, summary: &mut Summary, act: u64, window: u64, moment: u6
 #[cfg(not(told))]
 fn main() {
     let case = cases::chosen();
-    let (mut table, mut summary) = (table_of(case), Summary::new());
+    let (mut table, mut summary) = (table_of(case), summary_of(case));
     let sum = cases::run(case, |[act, window, moment]| {
         let answer;
         (answer, table) = called(table, &mut summary, act, window, moment);

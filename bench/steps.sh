@@ -1,7 +1,7 @@
 # The rows of bench/run that are made of steps, or of calls on a board, by the cases of bench/cases.rs and bench/boards.rs. Sourced by it.
 
-# idle tables, busy ones, and the single cases
-step_cases='11 12 13 21 22 23 31 32 33 41 42 43 51 52 53 61 62 63 73 83 93 94'
+# idle tables, busy ones, busy ones whose clock moves with each act, and the single cases
+step_cases='11 12 13 21 22 23 31 32 33 41 42 43 51 52 53 61 62 63 73 111 112 113 131 132 133 123 83 93 94'
 
 # parts DO: DO NAME PROGRAM PROGRAM_BESIDE TITLE CASE.. for each part of the table
 parts() {
@@ -9,6 +9,9 @@ parts() {
     "$1" called bin/bench_apart bench/twin_apart 'a step within Rattle, called; the twin, called' $step_cases
     "$1" library bench/library bench/twin_apart 'a step through the C library; the twin, called' $step_cases
     "$1" recorded bench/library_recorded bench/reference 'a recorded step through the C library; the reference' $step_cases
+    "$1" recorded_apart bench/library_recorded bench/reference \
+        'a recorded step through the C library, waits past half the clock; the reference' 141 142 143
+    "$1" recorded_within bin/bench_recorded bench/reference 'a recorded step within Rattle; the reference' $step_cases
     "$1" told bench/library_told bench/reference_told 'the same, telling a board that keeps 100 entries; the reference' 101 103
     "$1" board bench/board_library bench/board_reference 'a board through the C library; the reference' 201 202 203 204 205 206 207 208
 }
@@ -29,6 +32,10 @@ label_of() {
     93) echo "refused 1, the first entry, n = $n" ;;
     94) echo 'refused 1, n = 97' ;;
     10?) echo "an accepted crit, n = $n" ;;
+    11?) echo "busy, clock moves: accepted, n = $n" ;;
+    12?) echo "all places, clock moves: accepted, n = $n" ;;
+    13?) echo "busy, clock moves, one sells, n = $n" ;;
+    14?) echo "waits past half the clock: accepted, n = $n" ;;
     201) echo 'adding, none kept' ;;
     202) echo 'adding, 100 kept, one expires' ;;
     203) echo 'adding, 1,024 kept, one expires' ;;
@@ -42,8 +49,8 @@ label_of() {
 
 # How a part is timed: the steps of a run, and the runs. Many short runs, as a busy machine seldom leaves a long one alone; the
 # programs in Rattle make 2,000 steps and no other number. RUNS sets another number of runs.
-steps_of() { case $1 in inlined | called) echo 2000 ;; *) echo 5000 ;; esac; }
-runs_of() { case $1 in inlined | called) echo "${RUNS:-200}" ;; *) echo "${RUNS:-100}" ;; esac; }
+steps_of() { case $1 in inlined | called | recorded_within) echo 2000 ;; *) echo 5000 ;; esac; }
+runs_of() { case $1 in inlined | called | recorded_within) echo "${RUNS:-200}" ;; *) echo "${RUNS:-100}" ;; esac; }
 
 # agree, for `parts`: both programs print the same sums, for as many steps as are timed
 agree() {

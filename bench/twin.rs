@@ -211,7 +211,7 @@ fn location_of(place: u64, arrival: u64) -> Location {
 /// Set into `main`, it may cost each turn of the loop a copy of the state.
 #[inline(never)]
 fn state_of(case: u64) -> State {
-    let [a, b, c] = cases::LIMITS;
+    let [a, b, c] = cases::limits_of(case);
     let processes = std::array::from_fn(|i| {
         let (place, arrival) = cases::place_of(case, i as u64 + 1);
         Process { location: location_of(place, arrival) }

@@ -14,7 +14,8 @@ use rules::stages::location_at;
 use std::num::wrapping_add_u64;
 ghost use mathlib.Core.Path.{_≡_};
 ghost use Prim.Native.Nat.{_<_, _≤_};
-ghost use Rattle.workload.specs.Work.{digitOf, sizeIn, countIn, wordIn, onlyIn, placedIn, locationIn, startIn, turnIn, lapIn, roundAct, actIn};
+ghost use Rattle.workload.specs.Work.{digitOf, sizeIn, parametersIn, wordIn, onlyIn, mixedIn, placedIn, sellingIn, movingIn};
+ghost use Rattle.workload.specs.Work.{locationIn, startIn, turnIn, lapIn, actWith, roundAct, movingAct, actIn};
 
 // The cases. NONE makes no step: what it costs is taken off the others. Each other one is 10 times its kind and a digit for its
 // processes: 1, 2 and 3 for 2, 24 and 96.
@@ -42,13 +43,21 @@ const OUT_OF_PLACE: u64 = 8;
 
 const UNSOUND_FIRST: u64 = 9;
 
+// With wide limits, where each act moves the clock: a test of process 1 as in BUSY; a wait as in MIXED; a test of process 2 as in BUSY,
+// while process 1 is critical. 10 is a kind of `bench/cases.rs` alone.
+const MOVING: u64 = 11;
+
+const MIXED_MOVING: u64 = 12;
+
+const SELLING: u64 = 13;
+
 // The case whose n is 97.
 const UNSOUND_COUNT: u64 = 94;
 
-struct Act {
-    action: u64,
-    process: u64,
-    time: u64,
+pub struct Act {
+    pub action: u64,
+    pub process: u64,
+    pub time: u64,
 }
 
 fn digit(byte: u8) -> u64
@@ -63,15 +72,19 @@ fn digit(byte: u8) -> u64
     (byte - b'0') as u64
 }
 
-// The case that the program's argument names by two digits, or by a 0. Which one it is comes from the operating system.
+// The case that the program's argument names by two or three digits, or by a 0. Which one it is comes from the operating system.
 pub fn chosen() -> u64
-    ensures { λ r. ⌜ r ≤ 99 ⌝ }
+    ensures { λ r. ⌜ r ≤ 999 ⌝ }
 {
-    let mut word = [b'0'; 8];
+    let mut word = [b' '; 8];
     os::arg(1, &mut word);
-    let kind = digit(word[0]);
-    let size = digit(word[1]);
-    kind * 10 + size
+    let first = digit(word[0]);
+    let second = digit(word[1]);
+    if word[2] < b'0' {
+        return first * 10 + second;
+    }
+    let third = digit(word[2]);
+    first * 100 + second * 10 + third
 }
 
 // How many processes a case has.
@@ -85,13 +98,32 @@ fn size_of(case: u64) -> u64
     }
 }
 
-fn count_of(case: u64) -> u64
-    ensures { λ r. ⌜ r ≡ countIn case ⌝ }
+// In the wide limits nobody is late in a million acts.
+fn parameters_of(case: u64) -> Parameters
+    ensures { λ r. ⌜ r ≡ parametersIn case ⌝ }
 {
     if case == UNSOUND_COUNT {
-        return 97;
+        return Parameters {
+            n: 97,
+            a: 5,
+            b: 8,
+            c: 12,
+        };
     }
-    size_of(case)
+    if case / 10 < MOVING {
+        return Parameters {
+            n: size_of(case),
+            a: 5,
+            b: 8,
+            c: 12,
+        };
+    }
+    Parameters {
+        n: size_of(case),
+        a: 1000000,
+        b: 1000001,
+        c: 2000000,
+    }
 }
 
 fn word_of(case: u64) -> u64
@@ -101,7 +133,10 @@ fn word_of(case: u64) -> u64
     if kind < BUSY {
         return 0;
     }
-    if MIXED < kind {
+    if kind <= MIXED {
+        return 1;
+    }
+    if kind < MOVING {
         return 0;
     }
     1
@@ -114,6 +149,13 @@ fn only(place: u64, chosen: u64, time: u64) -> Location
         return Location::Testing(time);
     }
     Location::Remainder
+}
+
+// In the six timed locations in turn.
+fn mixed(place: u64) -> Location
+    ensures { λ r. ⌜ r ≡ mixedIn place ⌝ }
+{
+    location_at(place % 6 + 1 + place % 6 / 4, 0)
 }
 
 // Where one of so many processes is, by the place of its entry.
@@ -132,9 +174,29 @@ fn placed(kind: u64, size: u64, place: u64) -> Location
             }
             Location::Testing(0)
         }
-        MIXED => location_at(place % 6 + 1 + place % 6 / 4, 0),
+        MIXED => mixed(place),
         UNSOUND_FIRST => only(place, 0, 9),
         _ => Location::Remainder,
+    }
+}
+
+fn selling(place: u64) -> Location
+    ensures { λ r. ⌜ r ≡ sellingIn place ⌝ }
+{
+    if place == 0 {
+        return Location::Critical;
+    }
+    Location::Testing(0)
+}
+
+// The same in the kinds that move the clock.
+fn placed_moving(kind: u64, place: u64) -> Location
+    ensures { λ r. ⌜ r ≡ movingIn kind place ⌝ }
+{
+    match kind {
+        MIXED_MOVING => mixed(place),
+        SELLING => selling(place),
+        _ => Location::Testing(0),
     }
 }
 
@@ -145,7 +207,11 @@ fn location_of(case: u64, place: u64) -> Location
     if size <= place {
         return Location::Remainder;
     }
-    placed(case / 10, size, place)
+    let kind = case / 10;
+    if kind < MOVING {
+        return placed(kind, size, place);
+    }
+    placed_moving(kind, place)
 }
 
 // The state that a case starts from.
@@ -162,12 +228,7 @@ pub fn state_of(case: u64) -> State
         i += 1;
     }
     State {
-        parameters: Parameters {
-            n: count_of(case),
-            a: 5,
-            b: 8,
-            c: 12,
-        },
+        parameters: parameters_of(case),
         clock: 0,
         word: word_of(case),
         processes: processes,
@@ -209,7 +270,28 @@ fn round_act(case: u64, i: u64) -> Act
     }
 }
 
-fn act_of(case: u64, i: u64) -> Act
+fn act_with(action: u64, process: u64, time: u64) -> Act
+    ensures { λ r. ⌜ r ≡ actWith action process time ⌝ }
+{
+    Act {
+        action: action,
+        process: process,
+        time: time,
+    }
+}
+
+// An act that moves the clock.
+fn moving_act(kind: u64, time: u64) -> Act
+    ensures { λ r. ⌜ r ≡ movingAct kind time ⌝ }
+{
+    match kind {
+        MIXED_MOVING => act_with(WAIT, 0, time),
+        SELLING => act_with(TEST, 2, time),
+        _ => act_with(TEST, 1, time),
+    }
+}
+
+pub fn act_of(case: u64, i: u64) -> Act
     ensures { λ r. ⌜ r ≡ actIn case i ⌝ }
 {
     let kind = case / 10;
@@ -217,31 +299,18 @@ fn act_of(case: u64, i: u64) -> Act
         return round_act(case, i);
     }
     if kind == BUSY {
-        return Act {
-            action: TEST,
-            process: turn_of(case, i),
-            time: lap_of(case, i),
-        };
+        return act_with(TEST, turn_of(case, i), lap_of(case, i));
     }
     if kind == MIXED {
-        return Act {
-            action: WAIT,
-            process: 0,
-            time: 0,
-        };
+        return act_with(WAIT, 0, 0);
     }
     if kind == OUT_OF_PLACE {
-        return Act {
-            action: REM,
-            process: 1,
-            time: 0,
-        };
+        return act_with(REM, 1, 0);
     }
-    Act {
-        action: WAIT,
-        process: 0,
-        time: 1000,
+    if MOVING <= kind {
+        return moving_act(kind, i);
     }
+    act_with(WAIT, 0, 1000)
 }
 
 fn report(sum: u64, clock: u64) {

@@ -32,20 +32,47 @@ array-read-digit-2 c = search needs
 digit-requires-2 : tie.Need-digit-requires-2
 digit-requires-2 c κs = search needs
 
-kind-small : (c : tie.After-digit2) → c .before .digit .result ≤ 9
-kind-small c = rw (c .before .digit .ensures) (digit-small (getD (c .before .before .before .arg .last .1 .0) 0 0))
+array-read-if1 : tie.Need-array-read-if1
+array-read-if1 c = search needs
 
-size-small : (c : tie.After-digit2) → c .digit2 .result ≤ 9
-size-small c = rw (c .digit2 .ensures) (digit-small (getD (c .before .before .before .arg .last .1 .0) 1 0))
+first-small : (c : tie.After-digit2) → c .before .digit .result ≤ 9
+first-small c = rw (c .before .digit .ensures) (digit-small (getD (c .before .before .before .arg .last .1 .0) 0 0))
+
+second-small : (c : tie.After-digit2) → c .digit2 .result ≤ 9
+second-small c = rw (c .digit2 .ensures) (digit-small (getD (c .before .before .before .arg .last .1 .0) 1 0))
+
+third-small : (c : tie.After-digit3) → c .digit3 .result ≤ 9
+third-small c = rw (c .digit3 .ensures) (digit-small (getD (c .before .before .before .before .before .arg .last .1 .0) 2 0))
 
 mul-result : tie.Need-mul-result
-mul-result c = omega (arith, kind-small c)
+mul-result c = omega (arith, first-small (c .before))
 
 add-result : tie.Need-add-result
-add-result c = omega (arith, kind-small c, size-small c)
+add-result c = omega (arith, first-small (c .before), second-small (c .before))
 
 returns : tie.Need-returns
-returns c = omega (arith, kind-small c, size-small c)
+returns c = omega (arith, first-small (c .before), second-small (c .before))
+
+array-read-digit-3 : tie.Need-array-read-digit-3
+array-read-digit-3 c = search needs
+
+digit-requires-3 : tie.Need-digit-requires-3
+digit-requires-3 c κs = search needs
+
+mul-result-2 : tie.Need-mul-result-2
+mul-result-2 c = omega (arith, first-small (c .before .before))
+
+mul-result-3 : tie.Need-mul-result-3
+mul-result-3 c = omega (arith, second-small (c .before .before))
+
+add-result-2 : tie.Need-add-result-2
+add-result-2 c = omega (arith, first-small (c .before .before), second-small (c .before .before))
+
+add-result-3 : tie.Need-add-result-3
+add-result-3 c = omega (arith, first-small (c .before .before), second-small (c .before .before), third-small c)
+
+returns-2 : tie.Need-returns-2
+returns-2 c = omega (arith, first-small (c .before .before), second-small (c .before .before), third-small c)
 
 pub chosen-spec : {M : Type 1} → statement M
 chosen-spec =
@@ -57,6 +84,14 @@ chosen-spec =
     digit-requires
     array-read-digit-2
     digit-requires-2
+    array-read-if1
     mul-result
     add-result
-    returns)
+    returns
+    array-read-digit-3
+    digit-requires-3
+    mul-result-2
+    mul-result-3
+    add-result-2
+    add-result-3
+    returns-2)

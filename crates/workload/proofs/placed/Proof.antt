@@ -21,14 +21,8 @@ returns : tie.Need-returns
 unfolding placedIn
 returns c = rw (c .before .match .keys5) (simp (eq-eqb _ _ (c .if1 .taken)))
 
-add-location-at : tie.Need-add-location-at
-add-location-at c = search needs
-
-add-location-at-2 : tie.Need-add-location-at-2
-add-location-at-2 c = search needs
-
-location-at-requires : tie.Need-location-at-requires
-location-at-requires c κs = search needs
+mixed-requires : tie.Need-mixed-requires
+mixed-requires c κs = search needs
 
 only-requires-3 : tie.Need-only-requires-3
 only-requires-3 c κs = search needs
@@ -55,7 +49,7 @@ returns-6 c = rw (c .before .match .keys5) (simp (ne-eqb _ _ (c .if1 .left)))
 
 returns-7 : tie.Need-returns-7
 unfolding placedIn
-returns-7 c = rw (c .before .match .keys6) (c .location-at .ensures)
+returns-7 c = rw (c .before .match .keys6) (c .mixed .ensures)
 
 returns-8 : tie.Need-returns-8
 unfolding placedIn
@@ -84,9 +78,7 @@ placed-spec =
     only-requires-2
     add-if1
     returns
-    add-location-at
-    add-location-at-2
-    location-at-requires
+    mixed-requires
     only-requires-3
     returns-2
     returns-3

@@ -7,7 +7,7 @@ use native.Mathlib.Numerals.{unary-clauses}
 use lib.ListN.{length, set, length-set}
 use borrow.Author.Needs.{needs}
 use Rattle.model.specs.declared.Process.{Process}
-use Rattle.model.specs.States.{parametersOf, entry}
+use Rattle.model.specs.States.{entry}
 use Rattle.workload.specs.Work.{locationIn, entriesIn, startIn}
 use Rattle.workload.proofs.state_of.Statement.{statement}
 use Rattle.workload.proofs.state_of.Tie as tie
@@ -56,8 +56,8 @@ loop-again c =
           (c .entry-at .ensures ∙ ap entry (c .before .location-of .ensures))),
     )
 
-count-of-requires : tie.Need-count-of-requires Inv-loop μ-loop
-count-of-requires c κs = search needs
+parameters-of-requires : tie.Need-parameters-of-requires Inv-loop μ-loop
+parameters-of-requires c κs = search needs
 
 word-of-requires : tie.Need-word-of-requires Inv-loop μ-loop
 word-of-requires c κs = search needs
@@ -69,8 +69,8 @@ returns c =
     let v = c .before .before .before .loop in
     let all : v .i ≡ 96 = omega (arith, c .before .before .loop-test .left, v .inv .0) in
     let entries = v .inv .2 ∙ ap (entriesIn case) all in
-    let count = c .before .count-of .ensures in
-    λ i. record { parameters = parametersOf (count i) 5 8 12; clock = 0; word = c .word-of .ensures i; processes = entries i }
+    let parameters = c .before .parameters-of .ensures in
+    λ i. record { parameters = parameters i; clock = 0; word = c .word-of .ensures i; processes = entries i }
 
 pub state-of-spec : {M : Type 1} → statement M
 state-of-spec =
@@ -86,6 +86,6 @@ state-of-spec =
     add-i
     loop-less
     loop-again
-    count-of-requires
+    parameters-of-requires
     word-of-requires
     returns)

@@ -1,0 +1,30 @@
+-- `workload::parameters_of` meets its contract: each exit is a branch of `parametersIn`. Assumes nothing.
+use borrow.Author.Needs.{needs}
+use borrow.Author.Tests.{eq-eqb, ne-eqb, lt-ltb, le-ltb}
+use Rattle.workload.specs.Work.{parametersIn}
+use Rattle.workload.proofs.parameters_of.Statement.{statement}
+use Rattle.workload.proofs.parameters_of.Tie as tie
+
+returns : tie.Need-returns
+unfolding parametersIn
+returns c = simp (eq-eqb _ _ (c .if1 .taken))
+
+size-of-requires : tie.Need-size-of-requires
+size-of-requires c κs = search needs
+
+returns-2 : tie.Need-returns-2
+unfolding parametersIn
+returns-2 c =
+    rw (c .size-of .ensures) (simp (ne-eqb _ _ (c .before .before .if1 .left), lt-ltb _ _ (c .before .if2 .taken)))
+
+size-of-requires-2 : tie.Need-size-of-requires-2
+size-of-requires-2 c κs = search needs
+
+returns-3 : tie.Need-returns-3
+unfolding parametersIn
+returns-3 c =
+    rw (c .size-of2 .ensures) (simp (ne-eqb _ _ (c .before .before .if1 .left), le-ltb _ _ (c .before .if2 .left)))
+
+pub parameters-of-spec : {M : Type 1} → statement M
+parameters-of-spec =
+    tie.close (tie.spec returns size-of-requires returns-2 size-of-requires-2 returns-3)
