@@ -23,12 +23,13 @@ use Rattle.theory.specs.Acceptance.{Allowed}
 use Rattle.theory.specs.Summaries.{HasRoom}
 use Rattle.theory.proofs.Acceptance.{accepted-iff-allowed, next-is-changed}
 use Rattle.theory.proofs.StaysSound.{sound-kept}
-use Rattle.theory.proofs.Waits.{unused-fits, waited-after-act, length-waited-after}
+use Rattle.theory.proofs.Waits.{unused-fits, length-waited-after}
 use Rattle.theory.proofs.Steps.{unsound-iff-one}
 use Rattle.rules.specs.Judging.{othersFrom}
 use Rattle.statistics.specs.Countings.{Room}
 use Rattle.statistics.specs.Waitings.{unusedBeside}
-use Rattle.statistics.proofs.Waits.{unused-is}
+use Rattle.statistics.proofs.Waits.{unused-beside}
+use Rattle.statistics.proofs.Counted.{counted-after}
 use Rattle.statistics.proofs.Laws.{faultOf, no-fault-room, counts-room, accepted-named, recorded-fault, gives-accepted, gives-refused}
 use Rattle.layout.specs.Encodings.{tableLength, stateNumbers, stateIn, tableIn, isSoundTable, clockIn, countsLength}
 use Rattle.layout.specs.Encodings.{summaryLength, statisticsNumbers, statisticsIn, summaryIn}
@@ -175,7 +176,7 @@ module _ (table summary : List ℕ) (act p m : ℕ) where
                 unused : d ≡ unusedTime s m
                 unfolding stateIn
                 unused =
-                    d-is ∙ ap (λ (others : ℕ). unusedBeside others act (s .clock) m) (others-found table long p sound) ∙ unused-is s allowed
+                    d-is ∙ ap (λ (others : ℕ). unusedBeside others act (s .clock) m) (others-found table long p sound) ∙ unused-beside s allowed
 
                 pub waits-fit : (i : ℕ) → getD (drop countsLength counts-first) i 0 + d < 2 ^ 64
                 unfolding statisticsIn
@@ -188,11 +189,8 @@ module _ (table summary : List ℕ) (act p m : ℕ) where
 
                 counted-is : statisticsOf (countsAfter (x .counts) act (waitedBy x p + d)) (clearedBy act p (waitedOn d (stateIn new .processes) (x .waited)))
                     ≡ acceptedCounted s x act p m
-                unfolding acceptedCounted
                 counted-is =
-                    let changed = next-is-changed s size act p m accepted in
-                    rw (unused, state-after)
-                    (ap (statisticsOf (countsAfter (x .counts) act (waitOf s x p m))) (waited-after-act allowed changed (unusedTime s m) (x .waited)))
+                    counted-after s size x has-room act p m accepted unused (ap (λ (t : State). waitedOn d (t .processes) (x .waited)) state-after)
 
                 counted-long : length (statisticsNumbers (acceptedCounted s x act p m)) ≡ summaryLength
                 unfolding acceptedCounted

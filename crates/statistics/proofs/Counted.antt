@@ -25,7 +25,7 @@ use Rattle.theory.proofs.StaysSound.{sound-kept}
 use Rattle.theory.proofs.Waits.{unused-fits, waited-on-zero, waited-after-act}
 use Rattle.statistics.specs.Waitings.{unusedBeside, othersBefore, longerBy, stageAt}
 use Rattle.statistics.proofs.Laws.{not-one-sound}
-use Rattle.statistics.proofs.Waits.{unused-is, others-before}
+use Rattle.statistics.proofs.Waits.{unused-beside, others-before}
 
 -- past n a sound state has nobody but in the remainder
 pub past-rests : (s : State) → Sound s → (i : ℕ) → s .parameters .n ≤ i → stageAt (s .processes) i ≡ remainder
@@ -66,24 +66,30 @@ module _ (s : State) (size : length (s .processes) ≡ 96) (x : Statistics) (roo
   unused-told e =
       e
       ∙ (λ i. unusedBeside (others-before s size act p m accepted i) act (s .clock) (changed .clock-is i))
-      ∙ unused-is s allowed
+      ∙ unused-beside s allowed
 
   -- The summary
 
+  -- the waits so far gone over, over the entries after the act
+  pub counted-after : {u : ℕ} {ws : List ℕ} → u ≡ unusedTime s m → ws ≡ waitedOn u (s′ .processes) (x .waited)
+      → statisticsOf (countsAfter (x .counts) act (waitedBy x p + u)) (clearedBy act p ws) ≡ acceptedCounted s x act p m
+  unfolding acceptedCounted
+  counted-after u-is ws-is =
+      let waits = ap (clearedBy act p) (ws-is ∙ ap (λ (d : ℕ). waitedOn d (s′ .processes) (x .waited)) u-is)
+      ∙ waited-after-act allowed changed (unusedTime s m) (x .waited) in
+      λ i. statisticsOf (countsAfter (x .counts) act (waitedBy x p + u-is i)) (waits i)
+
+  -- as `record` has it
   module _ {u wait slot : ℕ} {k : Counts} {ws : List ℕ} (u-is : u ≡ unusedTime s m) (slot-is : slot ≡ p - 1)
       (wait-is : wait ≡ longerBy u (getD (x .waited) slot 0)) (k-is : k ≡ countsAfter (x .counts) act wait)
       (ws-is : ws ≡ waitedOn u (s′ .processes) (x .waited)) where
-    counts-are : k ≡ countsAfter (x .counts) act (waitedBy x p + unusedTime s m)
-    counts-are = k-is ∙ ap (countsAfter (x .counts) act) (wait-is ∙ (λ i. longerBy (u-is i) (getD (x .waited) (slot-is i) 0)) ∙ mod-eq-of-lt wait-fits)
-
-    waits-are : clearedBy act p ws ≡ clearedBy act p (waitedOn (unusedTime s m) (s .processes) (x .waited))
-    waits-are =
-        ap (clearedBy act p) (ws-is ∙ ap (λ (d : ℕ). waitedOn d (s′ .processes) (x .waited)) u-is)
-        ∙ waited-after-act allowed changed (unusedTime s m) (x .waited)
+    wait-exact : wait ≡ waitedBy x p + u
+    wait-exact =
+        wait-is ∙ ap (λ (i : ℕ). longerBy u (getD (x .waited) i 0)) slot-is ∙ mod-eq-of-lt (omega (arith, wait-fits, u-is))
 
     both-are : statisticsOf k (clearedBy act p ws) ≡ acceptedCounted s x act p m
-    unfolding acceptedCounted
-    both-are = λ i. statisticsOf (counts-are i) (waits-are i)
+    both-are =
+        ap (λ (c : Counts). statisticsOf c (clearedBy act p ws)) (k-is ∙ ap (countsAfter (x .counts) act) wait-exact) ∙ counted-after u-is ws-is
 
     pub counted-cleared : clears act ≡ true → statisticsOf k (set ws slot 0) ≡ acceptedCounted s x act p m
     counted-cleared e = ap (λ (i : ℕ). statisticsOf k (set ws i 0)) slot-is ∙ sym (rw e) ∙ both-are

@@ -168,8 +168,8 @@ module _ (s : State) {act p m : ℕ} where
   exit-critical (inl w) e = absurd (omega (arith, w .wait))
   exit-critical (inr a) e = record { from = a .some; at = from-exit (a .from) e }
 
-  pub unused-is : Allowed s act p m → unusedBeside (othersFrom p 1 (s .processes)) act (s .clock) m ≡ unusedTime s m
-  unused-is h = if-eq act exitAct
+  pub unused-beside : Allowed s act p m → unusedBeside (othersFrom p 1 (s .processes)) act (s .clock) m ≡ unusedTime s m
+  unused-beside h = if-eq act exitAct
       (λ e. by-cond (λ (d : ℕ). d ≡ unusedTime s m) (not (eqb (othersFrom p 1 (s .processes)) 0))
       (λ _. sym (unused-used s m (exit-critical (h .turn) e)))
       (λ _. rw (eq-eqb act exitAct e) (sym (unused-used s m (exit-critical (h .turn) e)))))
@@ -268,7 +268,7 @@ module _ (s : State) (size : length (s .processes) ≡ 96) (act p m : ℕ) where
     named-unused : act ≢ critAct → stepOf s act p m .answer .process ≢ 0 → unusedTime s m ≡ 0
     named-unused c n =
         let e = simp (ne-eqb act critAct c) at others-before in
-        sym (unused-is s (taken .allowed)) ∙ simp (ne-eqb (othersFrom p 1 (s .processes)) 0 (λ z. n (e ∙ z)))
+        sym (unused-beside s (taken .allowed)) ∙ simp (ne-eqb (othersFrom p 1 (s .processes)) 0 (λ z. n (e ∙ z)))
 
     pub may-wait-not : mayWait (stepOf s act p m .answer .process) act (s .clock) m ≡ false → unusedTime s m ≡ 0
     may-wait-not h = if-lt (s .clock) m
