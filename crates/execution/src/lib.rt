@@ -9,11 +9,33 @@ use values::answer_row;
 use values::least;
 ghost use mathlib.Core.Path.{_≡_};
 ghost use Prim.Native.Nat.{_<_};
-ghost use lib.ListN.{length};
+ghost use lib.ListN.{length, replicate};
 ghost use Rattle.model.specs.Readings.{lent};
 ghost use Rattle.model.specs.Writings.{eventsOf};
 ghost use Rattle.model.specs.Executions.{startGave, startedOf, executedGave, executedOf};
 ghost use Rattle.execution.specs.Turns.{stepTurnOf};
+
+// [9.115] No recording has more steps: 65,536 bytes less those of the first lines, eight a step.
+pub const MOST_STEPS: usize = 8187;
+
+// How many steps are taken at a time where the answers to all are looked at; more did not make it faster.
+pub const ROWS: usize = 64;
+
+// Room for the steps of any recording, all zeros.
+pub fn step_list() -> [u64; 8187]
+    ensures size { λ r. ⌜ 8187 ≡ length r ⌝ }
+    ensures zeros { λ r. ⌜ r ≡ replicate 8187 0 ⌝ }
+{
+    [0; MOST_STEPS]
+}
+
+// Room for the answers to as many steps as are taken at a time, all zeros.
+pub fn answer_rows() -> [[u64; 3]; 64]
+    ensures size { λ r. ⌜ 64 ≡ length r ⌝ }
+    ensures zeros { λ r. ⌜ r ≡ replicate 64 (replicate 3 0) ⌝ }
+{
+    [[0; 3]; ROWS]
+}
 
 // [7.46] What was found of a text, and the state that its first step is taken in.
 pub struct Started {

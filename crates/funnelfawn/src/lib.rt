@@ -1,6 +1,7 @@
 // The box for callers in C: each function takes numbers and lists of numbers, any at all, and gives back what its definition says, the
 // lent numbers included. include/funnelfawn.h says the same in C.
 
+use intervals::write_intervals;
 use model::Answer;
 use model::Parameters;
 use model::Reading;
@@ -12,6 +13,7 @@ ghost use Rattle.model.specs.States.{parametersOf};
 ghost use Rattle.model.specs.Readings.{lent, readGave, readOf};
 ghost use Rattle.model.specs.Writings.{eventsOf, writeGave, writeOf};
 ghost use Rattle.model.specs.Reports.{reportOf};
+ghost use Rattle.intervals.specs.Intervals.{writeIntervalsOf};
 ghost use Rattle.layout.specs.Layouts.{layoutNumber};
 ghost use Rattle.layout.specs.Interface.{lentGave, lentFresh, lentStep, recordGave, lentRecord, summaryGave, lentSummary};
 ghost use Rattle.recent.specs.Encodings.{boardGave, lentSetUp, lentAdd, lentShow};
@@ -116,6 +118,14 @@ pub extern "C" fn funnelfawn_replay(text: &[u8], out: &mut [u8]) -> Answer
     ensures { λ r. ⌜ writeGave r (now (out .exit)) ≡ reportOf (now (text .entry)) (now (out .entry)) ⌝ }
 {
     report(text, out)
+}
+
+// [9.112] [21.110] Writes the spans of selling of a recording.
+#[no_mangle]
+pub extern "C" fn funnelfawn_spans(text: &[u8], out: &mut [u8]) -> Answer
+    ensures { λ r. ⌜ writeGave r (now (out .exit)) ≡ writeIntervalsOf (now (text .entry)) (now (out .entry)) ⌝ }
+{
+    write_intervals(text, out)
 }
 
 // [10.60] [10.130] [21.110] An empty board of a width, in the lent numbers.

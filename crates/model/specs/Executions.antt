@@ -1,6 +1,6 @@
 -- Section 7 of the specification, a trace that is run: its steps from a fresh state on, and the answer to each. Assumes nothing.
 use Prim.Native.Nat.{ℕ}
-use mathlib.Core.List.{List, map}
+use mathlib.Core.List.{List, [], _∷_, map}
 use lib.ListN.{length, take}
 use Rattle.model.specs.declared.State.{State}
 use Rattle.model.specs.declared.Answer.{Answer}
@@ -10,6 +10,7 @@ use Rattle.model.specs.Answers.{answerNumbers, stepOf, freshOf}
 use Rattle.model.specs.Folds.{endBy, resultsBy}
 use Rattle.model.specs.Texts.{Event}
 use Rattle.model.specs.Readings.{Lists, over, scannedOf}
+use Rattle.model.specs.Tallies.{Attempt, attempted}
 
 -- [7.45] a step of a trace, without a summary
 abbrev pub stepBy : State → Event → Outcome
@@ -26,6 +27,20 @@ stateFrom s events = endBy stepBy stateAfter s events
 -- [7.40] [7.45] the answers to them
 abbrev pub answersFrom : State → List Event → List Answer
 answersFrom s events = map (λ (o : Outcome). o .answer) (resultsBy stepBy stateAfter s events)
+
+-- [11.10] the codes of these answers
+abbrev pub codesFrom : State → List Event → List ℕ
+codesFrom s events = map (λ (a : Answer). a .code) (answersFrom s events)
+
+-- [11.10] steps with the codes of the answers to them, the first step first; they end with the shorter list
+unfoldable pub attemptsOf : List Event → List ℕ → List Attempt
+attemptsOf [] codes = []
+attemptsOf (e ∷ es) [] = []
+attemptsOf (e ∷ es) (code ∷ codes) = attempted e code ∷ attemptsOf es codes
+
+-- [11.10] what comes of these steps, the first of which is taken in the state s
+abbrev pub attemptsFrom : State → List Event → List Attempt
+attemptsFrom s events = attemptsOf events (codesFrom s events)
 
 -- Starting a text
 

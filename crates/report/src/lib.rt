@@ -1,7 +1,10 @@
 // The whole text that `replay` prints, as a function from bytes to bytes: a recording is run, and there is a line for each of its
 // steps, or one for what is at fault.
+use execution::answer_rows;
 use execution::run_steps;
 use execution::start;
+use execution::step_list;
+use execution::ROWS;
 use model::Answer;
 use model::State;
 use text::numbers::put_numbers;
@@ -18,28 +21,8 @@ ghost use Rattle.model.specs.Reports.{rowsText, reportText, reportOf};
 ghost use Rattle.text.specs.Puts.{Put};
 ghost use Rattle.report.specs.Runs.{runText};
 
-// [9.115] No recording has more steps: 65,536 bytes less those of the first lines, eight a step.
-const MOST_STEPS: usize = 8187;
-
-// How many steps are taken before their lines are put; more did not make it faster.
-const ROWS: usize = 64;
-
 // [7.55] No report has more bytes: the names line, and at most 84 a step.
 const MOST_BYTES: usize = 687734;
-
-// Room for the steps of any recording. Only the length is told, since a proof that writes the zeros out is dear.
-fn list() -> [u64; 8187]
-    ensures { λ r. ⌜ 8187 ≡ length r ⌝ }
-{
-    [0; MOST_STEPS]
-}
-
-// Room for the answers to some of them: they are taken as many at a time.
-fn rows() -> [[u64; 3]; 64]
-    ensures { λ r. ⌜ 64 ≡ length r ⌝ }
-{
-    [[0; 3]; ROWS]
-}
 
 // [7.25] One line of a report, which has at most 84 bytes: four numbers of at most 20 digits, and their ends.
 fn put_line(out: &mut [u8], at: u32, line: u64, row: [u64; 3]) -> usize
@@ -80,7 +63,7 @@ fn put_run(
         (runText line first (eventsOf (lent (times .entry) (processes .entry) (actions .entry)))) r ⌝ }
     ensures { λ r. ⌜ r ≤ 687708 ⌝ }
 {
-    let mut answers = rows();
+    let mut answers = answer_rows();
     let mut state = first;
     let mut size: usize = 0;
     let mut i: usize = 0;
@@ -109,9 +92,9 @@ fn put_report(text: &[u8], out: &mut [u8]) -> usize
     ensures { λ r. ⌜ Put (now (out .entry)) (now (out .exit)) 0 (reportText (now (text .entry))) r ⌝ }
     ensures { λ r. ⌜ r ≤ 687734 ⌝ }
 {
-    let mut times = list();
-    let mut processes = list();
-    let mut actions = list();
+    let mut times = step_list();
+    let mut processes = step_list();
+    let mut actions = step_list();
     let names = put_text(out, 0, b"line,answer,window,moment\n");
     let started = start(text, &mut times, &mut processes, &mut actions);
     let found = started.found;

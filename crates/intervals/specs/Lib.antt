@@ -1,0 +1,5 @@
+pub mod Intervals
+pub mod Runs
+pub mod Answers
+pub mod Cases
+pub mod Parts
