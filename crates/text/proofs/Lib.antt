@@ -1,3 +1,4 @@
 pub mod Cells
 pub mod Turns
 pub mod Putting
+pub mod Wholes

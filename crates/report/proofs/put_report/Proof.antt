@@ -9,8 +9,8 @@ use Rattle.model.specs.Executions.{startGave}
 use Rattle.model.specs.Reports.{answerNames, reportText}
 use Rattle.text.specs.Puts.{Put}
 use Rattle.text.proofs.Putting.{put-long}
-use Rattle.report.proofs.Starts.{Ready, ready, refusal}
-use Rattle.report.proofs.Wholes.{after-names}
+use Rattle.execution.proofs.Starts.{Ready, ready, refusal}
+use Rattle.text.proofs.Wholes.{after-names}
 use borrow.Author.Needs.{needs}
 use Rattle.report.proofs.put_report.Statement.{statement}
 use Rattle.report.proofs.put_report.Tie as tie
@@ -23,13 +23,13 @@ names c = c .put-text .ensures
 
 -- the lists that `list` gave
 abbrev made : tie.After-put-text → Lists
-made c = let third = c .before .before .before in lists (third .before .before .list .result) (third .before .list2 .result) (third .list3 .result)
+made c = let third = c .before .before .before in lists (third .before .before .step-list .result) (third .before .step-list2 .result) (third .step-list3 .result)
 
 length-made : (c : tie.After-put-text)
     → (length (made c .times) ≡ 8187) × (length (made c .processes) ≡ 8187) × (length (made c .actions) ≡ 8187)
 length-made c =
     let third = c .before .before .before in
-    (sym (third .before .before .list .ensures), sym (third .before .list2 .ensures), sym (third .list3 .ensures))
+    (sym (third .before .before .step-list .ensures .0), sym (third .before .step-list2 .ensures .0), sym (third .step-list3 .ensures .0))
 
 -- Where the text has been started
 
@@ -71,14 +71,14 @@ parts c =
     let l = length-left (started c) in
     (omega (arith, k, l .0), omega (arith, k, l .1), omega (arith, k, l .2))
 
-list-requires : tie.Need-list-requires
-list-requires c κs = search needs
+step-list-requires : tie.Need-step-list-requires
+step-list-requires c κs = search needs
 
-list-requires-2 : tie.Need-list-requires-2
-list-requires-2 c = search needs
+step-list-requires-2 : tie.Need-step-list-requires-2
+step-list-requires-2 c = search needs
 
-list-requires-3 : tie.Need-list-requires-3
-list-requires-3 c = search needs
+step-list-requires-3 : tie.Need-step-list-requires-3
+step-list-requires-3 c = search needs
 
 slice-aggregate-put-text : tie.Need-slice-aggregate-put-text
 slice-aggregate-put-text c = search needs
@@ -160,15 +160,15 @@ returns-2 c =
     let d = c .before .before .before .before .before .before .before in
     let n = names (named (started d)) in
     let lines = c .before .before .put-run .ensures in
-    (rw (run d .lines) (after-names n refl (lines .0)), omega (arith, n .wide, lines .1))
+    (rw (run d .is, ← run d .state) (after-names n refl (lines .0)), omega (arith, n .wide, lines .1))
 
 pub put-report-spec : {M : Type 1} → statement M
 put-report-spec =
     tie.close
     (tie.spec
-    list-requires
-    list-requires-2
-    list-requires-3
+    step-list-requires
+    step-list-requires-2
+    step-list-requires-3
     slice-aggregate-put-text
     put-text-requires
     slice-aggregate-start

@@ -14,6 +14,7 @@ use Rattle.model.specs.Folds.{resultsBy}
 use Rattle.model.proofs.Lists.{drop-end, part-is}
 use Rattle.text.proofs.Putting.{Left, left-all, left-next, left-done}
 use Rattle.model.proofs.Steps.{length-steps}
+use Rattle.execution.proofs.Blocks.{block-taken}
 use Rattle.report.specs.Runs.{runText}
 use Rattle.report.proofs.Runs.{run-next}
 use Rattle.report.proofs.put_run.Statement.{statement}
@@ -63,15 +64,16 @@ turn : (c : Block) → let line = start c .args .line in let v = head c .loop in
 turn c =
     let s = start c in
     let v = head c .loop in
-    run-next (v .state) (steps s) (v .answers) (v .i) (count c) (omega (arith, few c, s .pre .1, v .inv .2))
+    run-next (s .args .line) (v .i) (count c) (v .state) _ (left c) (eventsOf (steps s))
+    (block-taken (v .state) (steps s) (v .answers) (v .i) (count c) (omega (arith, few c, s .pre .1, v .inv .2))
     (rw (part-is (s .args .times .now) (v .i), part-is (s .args .processes .now) (v .i), part-is (s .args .actions .now) (v .i))
-    at (c .run-steps .ensures)) (s .args .line)
+    at (c .run-steps .ensures)))
 
-rows-requires : tie.Need-rows-requires Inv-loop μ-loop
-rows-requires c κs = search needs
+answer-rows-requires : tie.Need-answer-rows-requires Inv-loop μ-loop
+answer-rows-requires c κs = search needs
 
 loop-holds : tie.Need-loop-holds Inv-loop μ-loop
-loop-holds c = (omega arith, omega arith, sym (c .rows .ensures), simp add-zero left-all)
+loop-holds c = (omega arith, omega arith, sym (c .answer-rows .ensures .0), simp add-zero left-all)
 
 sub-least : tie.Need-sub-least Inv-loop μ-loop
 sub-least c = omega arith
@@ -184,7 +186,7 @@ put-run-spec =
     (tie.spec
     Inv-loop
     μ-loop
-    rows-requires
+    answer-rows-requires
     loop-holds
     sub-least
     least-requires

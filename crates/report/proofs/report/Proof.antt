@@ -12,7 +12,7 @@ use Rattle.model.specs.declared.Answer.{Answer}
 use Rattle.model.specs.Writings.{fitted}
 use Rattle.model.specs.Reports.{reportText}
 use Rattle.text.proofs.Putting.{put-long}
-use Rattle.report.proofs.Wholes.{nothing-put, put-whole}
+use Rattle.text.proofs.Wholes.{nothing-put, put-whole}
 use Rattle.report.proofs.report.Statement.{statement}
 use Rattle.report.proofs.report.Tie as tie
 

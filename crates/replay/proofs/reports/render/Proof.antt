@@ -6,7 +6,7 @@ use borrow.Author.Needs.{needs}
 use Rattle.model.specs.declared.Answer.{Answer}
 use Rattle.model.specs.Reports.{reportText}
 use Rattle.model.proofs.Given.{gave-answer, gave-out}
-use Rattle.report.proofs.Wholes.{Whole, whole}
+use Rattle.text.proofs.Wholes.{Whole, whole}
 use Rattle.replay.proofs.reports.render.Statement.{statement}
 use Rattle.replay.proofs.reports.render.Tie as tie
 

@@ -1,4 +1,4 @@
--- Laws of putting a report whole into an output: after its names line, into one of no bytes, and where there is room. Assumes nothing.
+-- Laws of putting a text whole into an output: after its names line, into one of no bytes, and where there is room. Assumes nothing.
 use Prim.Native.Nat.{ℕ, suc, _+_, _≤_}
 use mathlib.Core.Path.{_≡_, refl, _∙_, subst}
 use mathlib.Core.List.{List, [], _∷_, _++_}
@@ -11,14 +11,14 @@ use Rattle.model.specs.Answers.{answerOf}
 use Rattle.model.specs.Writings.{Written, writeGave, fitted}
 use Rattle.model.proofs.Given.{write-gave}
 use Rattle.model.proofs.Tests.{by-cond}
 use Rattle.text.specs.Puts.{Put}
 use Rattle.text.proofs.Putting.{sets-over, put-first}
 
--- the lines of a report after its names line
-pub after-names : {old mid new names text : List ℕ} {i j : ℕ}
-    → Put old mid 0 names i → length names ≡ 26 → Put mid new 26 text j → Put old new 0 (names ++ text) (i + j)
-after-names {mid = mid} {new = new} {text = text} {i = i} {j = j} p e q =
-    let at : 26 ≡ i = omega (arith, p .wide) in
+-- the lines of a text after its names line of n bytes
+pub after-names : {old mid new names text : List ℕ} {i j n : ℕ}
+    → Put old mid 0 names i → length names ≡ n → Put mid new n text j → Put old new 0 (names ++ text) (i + j)
+after-names {mid = mid} {new = new} {text = text} {i = i} {j = j} {n = n} p e q =
+    let at : n ≡ i = omega (arith, p .wide) in
     put-first p (subst (λ (k : ℕ). Put mid new k text j) at q)
 
 sets-nothing : (i : ℕ) (text : List ℕ) → sets [] i text ≡ []
@@ -29,7 +29,7 @@ sets-nothing i (x ∷ text) = sets-nothing (suc i) text
 pub nothing-put : {new text : List ℕ} {at size : ℕ} → Put [] new at text size → new ≡ []
 nothing-put {text = text} {at = at} p = p .put ∙ sets-nothing at text
 
--- a report that has room
+-- a text that has room
 pub put-whole : {old new text : List ℕ} {size : ℕ} → Put old new 0 text size → size ≤ length old
     → writeGave (answerOf 0 0 size) new ≡ fitted text old
 unfolding fitted
@@ -37,7 +37,7 @@ put-whole {old} {new} {text} {size} p h =
     let fits : length text ≤ length old = omega (arith, p .wide) in
     rw (le-ltb (length old) (length text) fits) (write-gave (rw (p .wide)) (p .put ∙ sets-over text old fits))
 
--- a report that is answered with 0 is whole
+-- a text that is answered with 0 is whole
 pub record Whole (text new : List ℕ) (size : ℕ) : Type 0 where
   pub within : size ≤ length new
   pub bytes : take size new ≡ text

@@ -1,27 +1,25 @@
 -- What is found of a text that is started with lists of 8,187 places: they have room for any trace, so it is refused exactly where the
--- text is. Assumes nothing.
+-- text is, and else the lists have its steps. Assumes nothing.
 use Prim.Native.Nat.{ℕ, _≤_}
-use mathlib.Core.Path.{_≡_, refl, sym, subst}
+use mathlib.Core.Path.{_≡_, refl, sym, subst, _∙_}
 use mathlib.Core.Logic.{_≢_}
 use mathlib.Core.Bool.{false}
-use mathlib.Core.List.{List, [], _∷_}
+use mathlib.Core.List.{List}
 use native.Mathlib.Omega.{arith}
 use lib.Dec.{ltb}
 use lib.ListN.{length, length-append}
 use borrow.Author.Tests.{le-ltb}
 use Rattle.model.specs.declared.Parameters.{Parameters}
-use Rattle.model.specs.Texts.{Event, numbersText, headText, eventsText}
+use Rattle.model.specs.Texts.{Event, headText, eventsText}
 use Rattle.model.specs.Readings.{Lists, room, Trace, refused, trace, traceOf, Scanned, into, scannedOf}
 use Rattle.model.specs.Writings.{eventsOf}
 use Rattle.model.specs.Executions.{Started, startGave, firstState, startedOf}
-use Rattle.model.specs.Reports.{reportLines}
 use Rattle.grammar.specs.RoundTrips.{firstOf}
 use Rattle.grammar.proofs.Heads.{first-line}
 use Rattle.grammar.proofs.Exact.{read-exactly, refused-exactly}
 use Rattle.grammar.proofs.Faults.{fault-some}
 use Rattle.grammar.proofs.Fits.{events-fit}
 use Rattle.grammar.proofs.RoundTrips.{events-back}
-use Rattle.report.specs.Runs.{runText}
 
 -- the line of the first step
 line-low : (text : List ℕ) (line : ℕ) (k : Parameters) (events : List Event) → traceOf text ≡ trace line k events → line ≤ 65536
@@ -29,15 +27,16 @@ line-low text line k events e =
     let says = read-exactly text line k events .0 e in
     omega (arith, says .line-is, first-line k .1, says .formed .short, length-append (headText k) (eventsText events))
 
--- what is found with code 0: the steps in the first places of the lists are to be taken from the state on
+-- what is found with code 0: the text is the trace whose steps stand in the first places of the lists, to be taken from the state on
 pub record Ready (text : List ℕ) (x : Started) : Type 0 where
   pub few : x .scan .size ≤ 8187
   pub low : x .scan .line ≤ 65536
-  pub lines : reportLines (traceOf text) ≡ runText (x .scan .line) (x .state) (eventsOf (firstOf (x .scan .size) (x .kept)))
+  pub is : traceOf text ≡ trace (x .scan .line) (x .scan .parameters) (eventsOf (firstOf (x .scan .size) (x .kept)))
+  pub state : x .state ≡ firstState (x .scan)
 
 -- a refusal, which is never 16
 abbrev pub Refusal : List ℕ → Started → Type 0
-Refusal text x = reportLines (traceOf text) ≡ numbersText (x .scan .line) (x .scan .code ∷ 0 ∷ 0 ∷ [])
+Refusal text x = traceOf text ≡ refused (x .scan .code) (x .scan .line)
 
 abbrev startFrom : Scanned → Started
 startFrom r = startGave (r .scan) (firstState (r .scan)) (r .kept)
@@ -53,11 +52,12 @@ module _ (text : List ℕ) (l : Lists) (wide : room l ≡ 8187) where
       (λ _. record {
         few = events-fit text line k events q;
         low = line-low text line k events q;
-        lines = rw (q, events-back events l);
+        is = q ∙ rw (events-back events l);
+        state = refl;
       })
 
   refusal-of : (t : Trace) → traceOf text ≡ t → into l t .scan .code ≢ 0 → Refusal text (startFrom (into l t))
-  refusal-of (refused code line) q = λ _. rw q
+  refusal-of (refused code line) q = λ _. q
   refusal-of (trace line k events) q = rw (roomy line k events q) (λ z. absurd (z refl))
 
   module _ {x : Started} (e : x ≡ startedOf text l) where
