@@ -16,8 +16,8 @@ use Rattle.model.specs.Executions.{attemptsFrom}
 
 -- [11.30] where an interval ends: nowhere yet, or at a time
 pub data End : Type 0 where
-  open : End
-  closed : ℕ → End
+  ongoing : End
+  ended : ℕ → End
 
 -- [11.20] [11.30]
 pub record Interval : Type 0 where
@@ -31,8 +31,8 @@ interval process from to = record { process = process; from = from; to = to }
 
 -- [11.30] where an interval of process p ends, by what was attempted after its crit: at the next accepted exit of p
 unfoldable pub endOf : ℕ → List Attempt → End
-endOf p [] = open
-endOf p (e ∷ es) = cond (isExit e && eqb (e .process) p) (closed (e .time)) (endOf p es)
+endOf p [] = ongoing
+endOf p (e ∷ es) = cond (isExit e && eqb (e .process) p) (ended (e .time)) (endOf p es)
 
 -- [11.20] an interval for each accepted crit, the first one first
 unfoldable pub intervalsOf : List Attempt → List Interval
@@ -51,8 +51,8 @@ intervalNames = bytes "window,from,to\n"
 
 -- [11.45] the last field of a line
 unfoldable pub endText : End → List ℕ
-endText open = bytes "-\n"
-endText (closed m) = numberText newline m
+endText ongoing = bytes "-\n"
+endText (ended m) = numberText newline m
 
 -- [11.45]
 unfoldable pub intervalText : Interval → List ℕ

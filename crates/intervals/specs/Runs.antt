@@ -13,7 +13,7 @@ use Rattle.model.specs.Summaries.{mostActs}
 use Rattle.model.specs.Tallies.{Attempt}
 use Rattle.model.specs.Executions.{stateFrom, attemptsFrom}
 use Rattle.tallies.specs.Tallies.{recordAll, startOf}
-use Rattle.intervals.specs.Intervals.{End, open, closed, Interval, intervalsOf}
+use Rattle.intervals.specs.Intervals.{End, ongoing, ended, Interval, intervalsOf}
 
 -- What was attempted
 
@@ -38,8 +38,8 @@ Quiet (e ∷ es) = (Enters e → ⊥) × (Leaves e → ⊥) × Quiet es
 -- exit of all, which is that of p and comes no earlier; or nowhere, as nobody enters or leaves any more
 pub data Ends (p from : ℕ) (after : List Attempt) : End → Type 0 where
   left : (between : List Attempt) (e : Attempt) (rest : List Attempt) → after ≡ between ++ (e ∷ rest) → Quiet between → Leaves e
-      → e .process ≡ p → from ≤ e .time → Ends p from after (closed (e .time))
-  stays : Quiet after → Ends p from after open
+      → e .process ≡ p → from ≤ e .time → Ends p from after (ended (e .time))
+  stays : Quiet after → Ends p from after ongoing
 
 -- [11.70] [11.80] i is the interval of the attempt e, a crit that was accepted, and then these attempts came
 pub record Covers (e : Attempt) (after : List Attempt) (i : Interval) : Type 0 where
@@ -61,12 +61,12 @@ pub data OneForEach : List Attempt → List Interval → Type 0 where
 pub data InTurn : List Interval → Type 0 where
   none : InTurn []
   last : (i : Interval) → InTurn (i ∷ [])
-  next : {i j : Interval} {is : List Interval} (m : ℕ) → i .to ≡ closed m → i .from ≤ m → m ≤ j .from → InTurn (j ∷ is)
+  next : {i j : Interval} {is : List Interval} (m : ℕ) → i .to ≡ ended m → i .from ≤ m → m ≤ j .from → InTurn (j ∷ is)
       → InTurn (i ∷ j ∷ is)
 
 -- [11.90] the last one is of process p, and open
 pub data OpenFor (p : ℕ) : List Interval → Type 0 where
-  here : {i : Interval} → i .process ≡ p → i .to ≡ open → OpenFor p (i ∷ [])
+  here : {i : Interval} → i .process ≡ p → i .to ≡ ongoing → OpenFor p (i ∷ [])
   later : {i : Interval} {is : List Interval} → OpenFor p is → OpenFor p (i ∷ is)
 
 -- [11.70] [11.75] [11.80] [11.85] [11.90] of these steps, the first of which is taken in the state s
