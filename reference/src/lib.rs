@@ -12,4 +12,5 @@ pub mod promises;
 pub mod reckoning;
 pub mod recording;
 pub mod replay;
+pub mod spans;
 pub mod summary;

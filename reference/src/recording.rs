@@ -170,10 +170,14 @@ pub fn read_into(text: &[u8], times: &mut [u64], windows: &mut [u64], acts: &mut
 pub fn write(values: Values, times: &[u64], windows: &[u64], acts: &[u64], output: &mut [u8]) -> Answer {
     let lists = times.iter().zip(windows).zip(acts);
     let steps: Vec<Step> = lists.map(|((&time, &window), &act)| Step { time, window, act }).collect();
-    let text = match text_of(values, &steps) {
-        Ok(text) => text,
-        Err(refusal) => return refusal,
-    };
+    match text_of(values, &steps) {
+        Ok(text) => put(&text, output),
+        Err(refusal) => refusal,
+    }
+}
+
+/// A text into lent bytes, of which those after it stay; all of them, if they are too few.
+pub fn put(text: &str, output: &mut [u8]) -> Answer {
     if text.len() > output.len() {
         return bare(SHORT_OUTPUT);
     }
@@ -181,7 +185,7 @@ pub fn write(values: Values, times: &[u64], windows: &[u64], acts: &[u64], outpu
     answer(ACCEPTED, 0, text.len() as u64)
 }
 
-/// [6.170] The whole text, or the refusal; but 16, which `write` gives.
+/// [6.170] The whole text, or the refusal; but 16, which `put` gives.
 fn text_of(values: Values, steps: &[Step]) -> Result<String, Answer> {
     if let Some(number) = values.refusal() {
         return Err(bare(number));

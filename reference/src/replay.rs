@@ -3,27 +3,43 @@
 
 use crate::answer::{bare, Answer};
 use crate::machine::{fresh, step};
-use crate::recording::{read, Recording, FIRST_STEP};
+use crate::recording::{read, Fault, Recording, Step, FIRST_STEP};
 
 const NAMES: &str = "line,answer,window,moment\n";
 
 pub fn replay(text: &[u8]) -> String {
-    let mut output = String::from(NAMES);
     match read(text) {
-        Ok(recording) => run(&recording, &mut output),
-        Err(fault) => output += &line_of(fault.line, bare(fault.number)),
+        Ok(recording) => under(NAMES, run(&recording).map(|taken| line_of(taken.line, taken.answer))),
+        Err(fault) => faulty(fault),
     }
-    output
+}
+
+/// [7.30] What is printed of a faulty recording.
+pub fn faulty(fault: Fault) -> String {
+    under(NAMES, [line_of(fault.line, bare(fault.number))])
+}
+
+/// A step as it was taken in the run of its recording.
+#[derive(Clone, Copy, Debug, PartialEq, Eq)]
+pub struct Taken {
+    pub line: u64,
+    pub step: Step,
+    pub answer: Answer,
 }
 
 /// [7.40] [7.45]
-fn run(recording: &Recording, output: &mut String) {
+pub fn run(recording: &Recording) -> impl Iterator<Item = Taken> + '_ {
     let (_, mut table) = fresh(recording.values);
-    for (line, recorded) in (FIRST_STEP..).zip(&recording.steps) {
-        let (answer, next) = step(table, recorded.act, recorded.window, recorded.time);
-        *output += &line_of(line, answer);
-        table = next;
-    }
+    (FIRST_STEP..).zip(&recording.steps).map(move |(line, &recorded)| {
+        let answer;
+        (answer, table) = step(table, recorded.act, recorded.window, recorded.time);
+        Taken { line, step: recorded, answer }
+    })
+}
+
+/// Lines under a line of names.
+pub fn under(names: &str, lines: impl IntoIterator<Item = String>) -> String {
+    [names.into()].into_iter().chain(lines).collect()
 }
 
 fn line_of(line: u64, answer: Answer) -> String {

@@ -1,14 +1,17 @@
-//! The stored steps and recorded steps of `vectors`, which a library is held to: the reference makes the same of them.
+//! The stored steps, recorded steps and readings of spans of `vectors`, which a library is held to: the reference makes the same of them.
 
 use reference::answer::{answer, Answer};
 use reference::machine::*;
+use reference::spans::spans;
 use reference::summary::{recorded_step, Summary};
 
-/// The numbers of each field of a line.
-fn fields<const COUNT: usize>(line: &str) -> [Vec<u64>; COUNT] {
-    let number = |word: &str| word.parse::<u64>().expect("a number");
-    let fields = line.split('|').map(|field| field.split_whitespace().map(number).collect());
-    fields.collect::<Vec<Vec<u64>>>().try_into().expect("as many fields as a line has")
+fn fields<const COUNT: usize>(line: &str) -> [&str; COUNT] {
+    let fields: Vec<&str> = line.split('|').map(str::trim).collect();
+    fields.try_into().expect("as many fields as a line has")
+}
+
+fn numbers(field: &str) -> Vec<u64> {
+    field.split_whitespace().map(|word| word.parse().expect("a number")).collect()
 }
 
 /// n, a, b, c, clock, word, and the entries of windows 1 to 8.
@@ -38,7 +41,7 @@ fn answered(numbers: &[u64]) -> Answer {
 #[test]
 fn steps() {
     for line in include_str!("../vectors/step.txt").lines() {
-        let [before, call, wanted, after] = fields(line);
+        let [before, call, wanted, after] = fields(line).map(numbers);
         let came = step(table(&before), call[0], call[1], call[2]);
         assert_eq!(came, (answered(&wanted), table(&after)), "{line}");
     }
@@ -47,10 +50,27 @@ fn steps() {
 #[test]
 fn recorded_steps() {
     for line in include_str!("../vectors/recorded.txt").lines() {
-        let [before, lent, call, wanted, after, left] = fields(line);
+        let [before, lent, call, wanted, after, left] = fields(line).map(numbers);
         let mut counted = summary(&lent);
         let came = recorded_step(table(&before), &mut counted, call[0], call[1], call[2]);
         assert_eq!(came, (answered(&wanted), table(&after)), "{line}");
         assert_eq!(counted, summary(&left), "{line}");
+    }
+}
+
+/// The bytes that are written in hexadecimal, two digits for each.
+fn bytes(digits: &str) -> Vec<u8> {
+    let byte = |place| u8::from_str_radix(&digits[place..place + 2], 16).expect("two digits");
+    (0..digits.len()).step_by(2).map(byte).collect()
+}
+
+#[test]
+fn readings_of_spans() {
+    for line in include_str!("../vectors/spans.txt").lines() {
+        let [text, room, wanted, after] = fields(line);
+        let mut out = vec![b'#'; numbers(room)[0] as usize];
+        assert_eq!(spans(&bytes(text), &mut out), answered(&numbers(wanted)), "{line}");
+        let after = after.trim_matches('"').replace("\\n", "\n");
+        assert_eq!(out, after.as_bytes(), "{line}");
     }
 }

@@ -1,48 +1,83 @@
-//! compare PROGRAM COUNT SEED: feeds COUNT generated recordings to PROGRAM and stops at the first difference.
-//! PROGRAM is a path, with arguments after spaces; its output has to be that of the reference's `replay`.
+//! compare NAME PROGRAM COUNT SEED: feeds COUNT generated recordings to PROGRAM and stops at the first difference.
+//! PROGRAM is a path, with arguments after spaces; its output has to be that of the reference's program NAME, `replay` or `spans`.
 
 use reference::generator::{generate, Generated};
+use reference::recording::read;
 use reference::replay::replay;
+use reference::spans::{self, spans_of, Span};
 use std::collections::BTreeMap;
 use std::io::{Result, Write};
 use std::process::{exit, Command, Output, Stdio};
 
 fn main() {
-    let Some((program, count, seed)) = arguments() else {
-        eprintln!("usage: compare PROGRAM COUNT SEED");
+    let Some(Arguments { output, program, count, seed }) = arguments() else {
+        eprintln!("usage: compare replay|spans PROGRAM COUNT SEED");
         exit(2);
     };
-    let mut families = Tally::new();
-    let mut answers = Tally::new();
+    let mut seen = Seen::default();
     for index in 0..count {
         let generated = generate(seed, index);
-        let wanted = replay(&generated.text);
-        if let Err(difference) = try_one(&program, &generated, &wanted) {
+        if let Err(difference) = try_one(&program, &generated, &output(&generated.text)) {
             println!("recording {index} of seed {seed}, family {}: {difference}", generated.family);
             exit(1);
         }
-        *families.entry(generated.family.to_string()).or_default() += 1;
-        for line in wanted.lines().skip(1) {
-            let answer = line.split(',').nth(1).unwrap_or_default();
-            *answers.entry(format!("{answer:>2}")).or_default() += 1;
-        }
+        seen.add(&generated);
     }
     println!("{count} recordings equal (seed {seed})");
-    println!("families: {}", shown(&families));
-    println!("answers: {}", shown(&answers));
+    println!("families: {}", shown(&seen.families));
+    println!("answers: {}", shown(&seen.answers));
+    println!("spans: {}", shown(&seen.spans));
 }
 
-fn arguments() -> Option<(String, u64, u64)> {
+struct Arguments {
+    output: fn(&[u8]) -> String,
+    program: String,
+    count: u64,
+    seed: u64,
+}
+
+fn arguments() -> Option<Arguments> {
     let mut words = std::env::args().skip(1);
-    Some((words.next()?, words.next()?.parse().ok()?, words.next()?.parse().ok()?))
+    let output = match words.next()?.as_str() {
+        "replay" => replay,
+        "spans" => spans::printed,
+        _ => return None,
+    };
+    let program = words.next()?;
+    Some(Arguments { output, program, count: words.next()?.parse().ok()?, seed: words.next()?.parse().ok()? })
 }
 
 /// How often each name came.
 type Tally = BTreeMap<String, u64>;
 
+fn count(tally: &mut Tally, name: impl Into<String>) {
+    *tally.entry(name.into()).or_default() += 1;
+}
+
 fn shown(tally: &Tally) -> String {
     let counts: Vec<String> = tally.iter().map(|(name, count)| format!("{}: {count}", name.trim())).collect();
     counts.join(", ")
+}
+
+/// What came up in the recordings, whichever output was compared.
+#[derive(Default)]
+struct Seen {
+    families: Tally,
+    answers: Tally,
+    spans: Tally,
+}
+
+impl Seen {
+    fn add(&mut self, generated: &Generated) {
+        count(&mut self.families, generated.family);
+        for line in replay(&generated.text).lines().skip(1) {
+            let answer = line.split(',').nth(1).unwrap_or_default();
+            count(&mut self.answers, format!("{answer:>2}"));
+        }
+        for Span { to, .. } in read(&generated.text).iter().flat_map(spans_of) {
+            count(&mut self.spans, if to.is_some() { "closed" } else { "open" });
+        }
+    }
 }
 
 /// Runs PROGRAM on one recording; on a difference leaves the three texts in files and says what differs.
