@@ -1,10 +1,10 @@
 /* Funnelfawn for C and C++: Fischer's timed lock over a table of up to 96 sales windows.
  *
  * Link with libfunnelfawn.a (x86-64 Linux) and the C library, of which only memcpy and memset are used. No function keeps state,
- * allocates, prints or blocks; each takes any numbers at all and returns. funnelfawn_replay needs about 210 KB of stack, funnelfawn_fresh
- * and funnelfawn_write less than 2 KB, the others less than 1 KB, and a step, recorded or not, less than 512 bytes. The library is proved
- * against docs/SPECIFICATION.md; numbers such as [9.50] are its clauses, and its section 1 has the words that it uses for the windows,
- * places, moments and acts of this header.
+ * allocates, prints or blocks; each takes any numbers at all and returns. funnelfawn_replay and funnelfawn_spans need about 210 KB of stack,
+ * funnelfawn_fresh and funnelfawn_write less than 2 KB, the others less than 1 KB, and a step, recorded or not, less than 512 bytes. The
+ * library is proved against docs/SPECIFICATION.md; numbers such as [9.50] are its clauses, and its section 1 has the words that it uses for
+ * the windows, places, moments and acts of this header.
  *
  * What is lent
  *   A list is a pointer and the count of its elements (not of bytes). The caller owns it; the library keeps no pointer past the call.
@@ -183,8 +183,8 @@ enum funnelfawn_number {
                                              latest moment, with the lowest window that has it: the window, that moment */
     FUNNELFAWN_REFUSED_OUT_OF_PLACE = 9,  /* the window is not in the place that the act leaves: the window, 0 */
     FUNNELFAWN_REFUSED_EARLY = 10,        /* a check comes before the window's earliest moment: the window, that moment */
-    FUNNELFAWN_REFUSED_WINDOW_COUNT = 11, /* n is outside 1 to 96 */
-    FUNNELFAWN_REFUSED_LIMITS = 12,       /* a, b, c break 1 <= a < b <= c <= 10,000,000 */
+    FUNNELFAWN_REFUSED_WINDOW_COUNT = 11, /* n is outside 1 to 96; from funnelfawn_spans: 0, its line, which is 2 */
+    FUNNELFAWN_REFUSED_LIMITS = 12,       /* a, b, c break 1 <= a < b <= c <= 10,000,000; from funnelfawn_spans: 0, its line, which is 2 */
     FUNNELFAWN_REFUSED_NAMES = 13,        /* line 1 or line 3 is not the line of names due there, or is absent: 0, its line */
     FUNNELFAWN_REFUSED_LINE = 14,         /* line 2 lacks its form or is absent, or a step lacks its form; writing: a step has no form:
                                              0, its line */
@@ -291,6 +291,20 @@ enum { FUNNELFAWN_MOST_REPORT = 687734 };
 
 struct funnelfawn_answer funnelfawn_replay(const uint8_t *FUNNELFAWN_RESTRICT text, size_t text_length,
                                            uint8_t *FUNNELFAWN_RESTRICT out, size_t out_length);
+
+/* [9.112] The spans of a recording, for accounts, which want sales and not acts: its steps are run as `replay` runs them, and out of the
+ * answers comes who sold, from when to when. The text is `window,from,to` and then a line for each accepted crit, in their order: its
+ * window, its moment, and the moment of the next accepted exit of that window, or `-` where the recording has none and the span is still
+ * open [11.20] [11.30] [11.45]. No span begins before the one before it has ended, so only the last one can be open [11.85] [11.90].
+ *   0, 0, the count of bytes, with the text in `out`, of which the bytes after it stay;
+ *   or, for a faulty recording, the number of its first fault, 0, and the line that `replay` prints: with 13 and 14 that of the fault, with
+ *   11 and 12 it is 2, where funnelfawn_read has 0, and with 15 it is 0 [11.55];
+ *   or, last, 16. Refused, `out` is as it was.
+ *   The text is never longer than the recording [11.65]: an `out` of text_length bytes always suffices, and so does one of
+ *   FUNNELFAWN_MOST_TEXT. With an `out` at least as long as the recording the steps are run once; with a shorter one twice, unless it is
+ *   refused, as they are first run to learn how long the text is. */
+struct funnelfawn_answer funnelfawn_spans(const uint8_t *FUNNELFAWN_RESTRICT text, size_t text_length,
+                                          uint8_t *FUNNELFAWN_RESTRICT out, size_t out_length);
 
 #ifdef __cplusplus
 }

@@ -49,6 +49,19 @@ static int starts(const uint8_t *bytes, const char *words)
     return memcmp(bytes, words, strlen(words)) == 0;
 }
 
+static void fill(void)
+{
+    memset(report, '#', sizeof report);
+}
+
+/* Since fill, nothing was written to the report from this place on. */
+static int is_filled(size_t from)
+{
+    while (from < sizeof report && report[from] == '#')
+        from++;
+    return from == sizeof report;
+}
+
 static void start(void)
 {
     CHECK(funnelfawn_fresh(96, 5, 8, 12, table, FUNNELFAWN_TABLE_LENGTH).number == FUNNELFAWN_OK);
@@ -261,6 +274,86 @@ static void recordings(void)
     CHECK(read.answer.number == FUNNELFAWN_REFUSED_NAMES && read.answer.moment == 1 && read.n == 0);
 }
 
+static struct funnelfawn_answer spans_of(const char *words, uint8_t *out, size_t room)
+{
+    return funnelfawn_spans((const uint8_t *)words, strlen(words), out, room);
+}
+
+#define HEAD "windows,a,b,c\n2,5,8,12\ntime,window,act\n"
+
+/* A recording and its spans: into no byte, one too few, just enough, some more, as many as the recording has, and the most there can be.
+ * Whatever the room, the bytes that the text does not need stay. */
+static void has_spans(const char *recording, const char *due)
+{
+    const size_t length = strlen(due), rooms[] = {length, length + 1, length + 9, strlen(recording), FUNNELFAWN_MOST_TEXT};
+
+    fill();
+    CHECK(says(spans_of(recording, NULL, 0), FUNNELFAWN_REFUSED_SHORT_OUTPUT, 0, 0));
+    CHECK(says(spans_of(recording, report, length - 1), FUNNELFAWN_REFUSED_SHORT_OUTPUT, 0, 0) && is_filled(0));
+    for (size_t i = 0; i < sizeof rooms / sizeof rooms[0]; i++) {
+        fill();
+        CHECK(says(spans_of(recording, report, rooms[i]), FUNNELFAWN_OK, 0, length));
+        CHECK(starts(report, due) && is_filled(length));
+    }
+}
+
+/* [11.100], [11.105], [11.110]; a span of no time at all, and acts that are refused; and the last moment that there is. */
+static void spans(void)
+{
+    has_spans(HEAD, "window,from,to\n");
+    has_spans(HEAD "0,1,try\n3,1,test\n3,2,try\n4,2,test\n8,1,set\n9,2,set\n15,1,check\n16,1,check\n18,2,check\n24,0,wait\n20,1,test\n"
+                   "20,2,crit\n19,0,wait\n",
+              "window,from,to\n2,20,-\n");
+    has_spans(HEAD "0,1,try\n1,1,test\n2,1,set\n10,1,check\n10,2,crit\n12,1,crit\n13,2,exit\n16,1,exit\n18,1,reset\n18,2,try\n20,2,test\n"
+                   "21,2,set\n22,1,rem\n29,2,check\n31,2,crit\n",
+              "window,from,to\n1,12,16\n2,31,-\n");
+    has_spans(HEAD "0,2,try\n0,2,test\n0,2,set\n8,2,check\n8,2,crit\n8,2,crit\n7,2,exit\n8,1,exit\n8,2,exit\n8,2,exit\n",
+              "window,from,to\n2,8,8\n");
+    has_spans("windows,a,b,c\n96,5,8,12\ntime,window,act\n999999999992,96,try\n999999999992,96,test\n999999999992,96,set\n"
+              "1000000000000,96,check\n1000000000000,96,crit\n1000000000001,96,exit\n1000000000000,96,exit\n",
+              "window,from,to\n96,1000000000000,1000000000000\n");
+}
+
+/* The fault comes before a short output, carries the line that `replay` prints, and leaves all bytes. */
+static int has_fault(const char *recording, uint64_t number, uint64_t line)
+{
+    fill();
+    return says(spans_of(recording, NULL, 0), number, 0, line) &&
+           says(spans_of(recording, report, sizeof report), number, 0, line) && is_filled(0);
+}
+
+static void faults_of_spans(void)
+{
+    CHECK(says(funnelfawn_spans(NULL, 0, NULL, 0), FUNNELFAWN_REFUSED_NAMES, 0, 1));
+    CHECK(has_fault("", FUNNELFAWN_REFUSED_NAMES, 1) && has_fault("window,from,to\n", FUNNELFAWN_REFUSED_NAMES, 1));
+    CHECK(has_fault("windows,a,b,c\n", FUNNELFAWN_REFUSED_LINE, 2));
+    CHECK(has_fault("windows,a,b,c\n2,5,8,012\n", FUNNELFAWN_REFUSED_LINE, 2));
+    CHECK(has_fault("windows,a,b,c\n97,5,5,12\n", FUNNELFAWN_REFUSED_WINDOW_COUNT, 2));
+    CHECK(has_fault("windows,a,b,c\n96,5,5,12\n", FUNNELFAWN_REFUSED_LIMITS, 2));
+    CHECK(has_fault("windows,a,b,c\n2,5,8,12\ntime,window\n", FUNNELFAWN_REFUSED_NAMES, 3));
+    CHECK(has_fault(HEAD "0,1,try\n1,1,test", FUNNELFAWN_REFUSED_LINE, 5));
+    CHECK(has_fault(HEAD "0,1,try\n1,1,test\n2,1,sell\n", FUNNELFAWN_REFUSED_LINE, 6));
+}
+
+/* The longest recording there is, with room for just its spans and with as much as the header tells; one byte more is too long. */
+static void longest_spans(void)
+{
+    const char *head = "windows,a,b,c\n96,5,8,12\ntime,window,act\n", *line = "0,1,try\n", *names = "window,from,to\n";
+    size_t length = strlen(head);
+
+    memcpy(text, head, length);
+    for (; length < FUNNELFAWN_MOST_TEXT; length += strlen(line))
+        memcpy(text + length, line, strlen(line));
+    CHECK(length == FUNNELFAWN_MOST_TEXT);
+    CHECK(says(funnelfawn_spans(text, length, report, 15), FUNNELFAWN_OK, 0, 15) && starts(report, names));
+    fill();
+    CHECK(says(funnelfawn_spans(text, length, report, FUNNELFAWN_MOST_TEXT), FUNNELFAWN_OK, 0, 15));
+    CHECK(starts(report, names) && is_filled(15));
+    fill();
+    CHECK(says(funnelfawn_spans(text, length + 1, report, sizeof report), FUNNELFAWN_REFUSED_LENGTH, 0, 0));
+    CHECK(says(funnelfawn_spans(text, length + 1, NULL, 0), FUNNELFAWN_REFUSED_LENGTH, 0, 0) && is_filled(0));
+}
+
 int main(void)
 {
     layout();
@@ -272,5 +365,8 @@ int main(void)
     board_refusals();
     tellings();
     recordings();
+    spans();
+    faults_of_spans();
+    longest_spans();
     return say_checks("the header");
 }

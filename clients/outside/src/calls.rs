@@ -25,6 +25,12 @@ fn held<const LISTS: usize>(
     first.map_or(Ok(()), Err)
 }
 
+/// The same of a call that writes a text into lent bytes.
+fn held_text(got: raw::Answer, lent: &Lent<u8>, wanted: (Answer, &[u8])) -> Verdict {
+    same_answer(got, wanted.0)?;
+    lent.difference("output", wanted.1).map_or(Ok(()), Err)
+}
+
 fn same_answer(got: raw::Answer, wanted: Answer) -> Verdict {
     let got = [got.number, got.window, got.moment];
     let wanted = [wanted.number, wanted.window, wanted.moment];
@@ -130,13 +136,17 @@ pub fn write(values: Values, lists: &[Vec<u64>; 3], out: &[u8], wanted: (Answer,
     let mut lent = Lent::new(out, GUARD_BYTE);
     let Values { n, a, b, c } = values;
     let got = raw::write([n, a, b, c], &lists[0], &lists[1], &lists[2], lent.list());
-    same_answer(got, wanted.0)?;
-    lent.difference("output", wanted.1).map_or(Ok(()), Err)
+    held_text(got, &lent, wanted)
 }
 
 pub fn replay(text: &[u8], out: &[u8], wanted: (Answer, &[u8])) -> Verdict {
     let mut lent = Lent::new(out, GUARD_BYTE);
     let got = raw::replay(text, lent.list());
-    same_answer(got, wanted.0)?;
-    lent.difference("output", wanted.1).map_or(Ok(()), Err)
+    held_text(got, &lent, wanted)
+}
+
+pub fn spans(text: &[u8], out: &[u8], wanted: (Answer, &[u8])) -> Verdict {
+    let mut lent = Lent::new(out, GUARD_BYTE);
+    let got = raw::spans(text, lent.list());
+    held_text(got, &lent, wanted)
 }

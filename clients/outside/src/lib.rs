@@ -10,6 +10,7 @@ pub mod expected;
 pub mod lent;
 pub mod lists;
 pub mod sights;
+pub mod spans;
 pub mod stored;
 pub mod tables;
 pub mod taken_back;

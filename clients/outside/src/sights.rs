@@ -33,12 +33,21 @@ pub enum Sight {
     // threaded lists
     Threaded,
     SoldMeanwhile,
+    // spans
+    ClosedSpan,
+    OpenSpan,
+    NoSpan,
+    JustRoom,
+    OneShort,
+    RunOnce,
+    RunTwice,
+    FaultWithoutRoom,
 }
 
 use Sight::*;
 
 /// Each with how it is told.
-const SIGHTS: [(Sight, &str); 25] = [
+const SIGHTS: [(Sight, &str); 33] = [
     (EntryTaken, "accepted crits whose entries a board took"),
     (EntryRefused, "accepted crits whose entries a board refused"),
     (ListedCall, "calls of lists on one board"),
@@ -64,6 +73,14 @@ const SIGHTS: [(Sight, &str); 25] = [
     (RefusedInUnused, "refused acts with an advance while somebody waits"),
     (Threaded, "calls of threaded lists whose summaries acts and answers come to"),
     (SoldMeanwhile, "waits of such lists in which another sold"),
+    (ClosedSpan, "closed spans that were put"),
+    (OpenSpan, "open spans that were put"),
+    (NoSpan, "recordings without a span"),
+    (JustRoom, "outputs with room for just the spans"),
+    (OneShort, "outputs that are short of the spans by one byte"),
+    (RunOnce, "spans put into an output that is as long as the recording"),
+    (RunTwice, "spans put into a shorter one"),
+    (FaultWithoutRoom, "faulty recordings with an output that is too short for any spans"),
 ];
 
 /// How often each came up.

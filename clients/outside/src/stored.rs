@@ -46,10 +46,13 @@ pub fn writer(line: &str) -> Verdict {
     let column = |number: usize| steps.iter().skip(number).step_by(3).copied().collect::<Vec<u64>>();
     // the shortest of the three lists sets the number of steps
     let lists = [column(0), [column(1), vec![FILLED]].concat(), [column(2), PAST.to_vec()].concat()];
-    let [length]: [u64; 1] = fixed(length)?;
-    let out = vec![b'#'; length as usize];
-    let after = after.trim_matches('"').replace("\\n", "\n");
-    calls::write(values_in(values)?, &lists, &out, (answer_in(answer)?, after.as_bytes()))
+    calls::write(values_in(values)?, &lists, &output(length)?, (answer_in(answer)?, &quoted(after)))
+}
+
+/// `text in hex | length of the output | answer | output after`
+pub fn spans(line: &str) -> Verdict {
+    let [text, length, answer, after] = fields(line)?;
+    calls::spans(&bytes(text)?, &output(length)?, (answer_in(answer)?, &quoted(after)))
 }
 
 /// The calls of board.txt, all on one lent list: each gets what the one before left.
@@ -153,6 +156,17 @@ fn answer_in(field: &str) -> Result<Answer, String> {
 fn values_in(field: &str) -> Result<Values, String> {
     let [n, a, b, c] = fixed(field)?;
     Ok(Values { n, a, b, c })
+}
+
+/// An output of so many bytes, as it is before the call.
+fn output(length: &str) -> Result<Vec<u8>, String> {
+    let [length]: [u64; 1] = fixed(length)?;
+    Ok(vec![b'#'; length as usize])
+}
+
+/// An output as it is after the call.
+fn quoted(field: &str) -> Vec<u8> {
+    field.trim_matches('"').replace("\\n", "\n").into_bytes()
 }
 
 fn bytes(hex: &str) -> Result<Vec<u8>, String> {

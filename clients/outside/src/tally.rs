@@ -1,4 +1,4 @@
-//! How often each answer was due from random calls, of boards apart, and what the calls came upon.
+//! How often each answer was due from random calls, of boards and of spans apart, and what the calls came upon.
 
 use crate::calls::Verdict;
 use crate::sights::{Sight, Sights};
@@ -8,25 +8,33 @@ use std::ops::RangeInclusive;
 /// Differences beyond these are only counted.
 const SHOWN: u64 = 5;
 
-/// What all but boards may answer.
+/// What all but boards and spans may answer.
 const OTHERS: RangeInclusive<u64> = ACCEPTED..=SHORT_OUTPUT;
 /// What a board may answer that is set up, told of an entry or shown.
 const OF_BOARDS: [u64; 8] =
     [ACCEPTED, NO_SUMMARY, BACKWARD, END_OF_CLOCK, NO_WINDOW, SHORT_OUTPUT, WIDTH, BOARD_FULL];
 
-/// What is due from a call, of a board, of the rest or of both, and whether it and all else came.
+/// What spans may be answered.
+const OF_SPANS: [u64; 7] = [ACCEPTED, WINDOW_COUNT, LIMITS, NAMES, LINE, LENGTH, SHORT_OUTPUT];
+
+/// What is due from a call, of a board, of spans, of the rest or of a board and the rest, and whether it and all else came.
 pub struct Outcome {
     pub other: Option<Answer>,
     pub board: Option<Answer>,
+    pub spans: Option<Answer>,
     pub verdict: Verdict,
 }
 
 pub fn of_other((answer, verdict): (Answer, Verdict)) -> Outcome {
-    Outcome { other: Some(answer), board: None, verdict }
+    Outcome { other: Some(answer), board: None, spans: None, verdict }
 }
 
 pub fn of_board((answer, verdict): (Answer, Verdict)) -> Outcome {
-    Outcome { other: None, board: Some(answer), verdict }
+    Outcome { other: None, board: Some(answer), spans: None, verdict }
+}
+
+pub fn of_spans((answer, verdict): (Answer, Verdict)) -> Outcome {
+    Outcome { other: None, board: None, spans: Some(answer), verdict }
 }
 
 #[derive(Default)]
@@ -35,16 +43,18 @@ pub struct Tally {
     differ: u64,
     others: Answers,
     boards: Answers,
+    spans: Answers,
     pub sights: Sights,
 }
 
 impl Tally {
     /// The place of a call is said where it differs.
     pub fn count(&mut self, outcome: Outcome, place: impl Fn() -> String) {
-        let Outcome { other, board, verdict } = outcome;
+        let Outcome { other, board, spans, verdict } = outcome;
         self.calls += 1;
         self.others.count(other);
         self.boards.count(board);
+        self.spans.count(spans);
         if let (Some(_), Some(board)) = (other, board) {
             let taken = board.number == ACCEPTED;
             self.sights.look(if taken { Sight::EntryTaken } else { Sight::EntryRefused }, true);
@@ -59,13 +69,15 @@ impl Tally {
 
     /// Says it all; true if nothing differs and nothing is missing.
     pub fn report(&self) -> bool {
-        let Tally { calls, differ, others, boards, sights } = self;
+        let Tally { calls, differ, others, boards, spans, sights } = self;
         println!("answers: {}", others.said(OTHERS));
         println!("answers of boards: {}", boards.said(OF_BOARDS));
+        println!("answers of spans: {}", spans.said(OF_SPANS));
         sights.say();
         let answers = [
-            (others.missing(OTHERS), "an answer of all but boards"),
+            (others.missing(OTHERS), "an answer of all but boards and spans"),
             (boards.missing(OF_BOARDS), "an answer of boards"),
+            (spans.missing(OF_SPANS), "an answer of spans"),
         ];
         let answers = answers.into_iter().filter_map(|(is_missing, what)| is_missing.then_some(what));
         let missing: Vec<&str> = answers.chain(sights.missing()).collect();

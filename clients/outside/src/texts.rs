@@ -1,20 +1,24 @@
-//! Random calls of the reader, the writer and `replay`, on generated recordings and with lists and outputs that just suffice or do not.
+//! Random calls of the reader, the writer, `replay` and spans, on generated recordings and with lists and outputs that just suffice or not.
 
 use crate::acts::any_number;
 use crate::calls::{self, Verdict};
 use crate::expected;
+use crate::sights::Sights;
+use crate::spans;
+use crate::tally::{of_other, of_spans, Outcome};
 use reference::answer::Answer;
 use reference::generator::generate;
 use reference::generator::random::Random;
 use reference::machine::Values;
 use reference::recording::{self, Recording, Step};
 
-pub fn call(random: &mut Random) -> (Answer, Verdict) {
+pub fn call(random: &mut Random, sights: &mut Sights) -> Outcome {
     let text = generate(random.below(1 << 32), 0).text;
-    match random.below(3) {
-        0 => read(random, &text),
-        1 => write(random, &text),
-        _ => replay(random, &text),
+    match random.below(5) {
+        0 => of_other(read(random, &text)),
+        1 => of_other(write(random, &text)),
+        2 => of_other(replay(random, &text)),
+        _ => of_spans(spans::call(random, &text, sights)),
     }
 }
 

@@ -26,7 +26,7 @@ impl Walk {
 
     pub fn call(&mut self) -> Outcome {
         match self.random.below(100) {
-            0 => of_other(texts::call(&mut self.random)),
+            0 => texts::call(&mut self.random, &mut self.own.sights),
             1..=3 => of_other(self.fresh()),
             4 => of_other(self.new_summary()),
             5 | 6 => of_other(self.take_back()),
@@ -112,7 +112,7 @@ impl Walk {
         }
         self.own.keep_board(board.own, &told);
         let verdict = verdict.map_err(|what| format!("record and tell {call:?} on {lists:?}: {what}"));
-        Outcome { other: Some(step), board: was_told.then_some(answer), verdict }
+        Outcome { board: was_told.then_some(answer), ..of_other((step, verdict)) }
     }
 
     fn set_up_board(&mut self) -> (Answer, Verdict) {

@@ -45,6 +45,18 @@ pub enum Refusal {
     BoardFull,
 }
 
+/// Why a recording has no spans: the refusal, and the line of the recording that [`replay`](crate::replay) names for it.
+///
+/// The line stands beside the refusal, as [`WindowCount`](Refusal::WindowCount) and [`Limits`](Refusal::Limits) carry none: they refuse
+/// fresh tables too, which have no lines. [`Names`](Refusal::Names) and [`Line`](Refusal::Line) carry the same line as stands here. Who has
+/// no use for it lets `?` turn a fault into its refusal.
+#[derive(Clone, Copy, Debug, PartialEq, Eq)]
+pub struct Fault {
+    pub refusal: Refusal,
+    /// nothing where it is none of a line: the text is too long, or a lent output too short
+    pub line: Option<u64>,
+}
+
 impl Answer {
     /// The answer itself if its number is 0, else what its number says.
     pub fn result(self) -> Result<Answer, Refusal> {
@@ -71,6 +83,13 @@ impl Answer {
             18 => Refusal::BoardFull,
             _ => panic!("the library gives no answer with the number {number}"),
         })
+    }
+
+    /// Of a call that writes a text, as [`raw::spans`](crate::raw::spans) does: how many bytes it has, or why there is none, with the line
+    /// that the answer carries.
+    pub fn written(self) -> Result<usize, Fault> {
+        let line = (self.moment != 0).then_some(self.moment);
+        self.result().map(|answer| answer.moment as usize).map_err(|refusal| Fault { refusal, line })
     }
 
     /// The answer to an act.
@@ -140,3 +159,23 @@ impl Display for Refusal {
 }
 
 impl std::error::Error for Refusal {}
+
+impl Display for Fault {
+    /// The words of the refusal; the line stands in front where they leave it out.
+    fn fmt(&self, to: &mut Formatter) -> Written {
+        match self {
+            Fault { refusal: refusal @ (Refusal::WindowCount | Refusal::Limits), line: Some(line) } => {
+                write!(to, "line {line}: {refusal}")
+            }
+            Fault { refusal, .. } => refusal.fmt(to),
+        }
+    }
+}
+
+impl std::error::Error for Fault {}
+
+impl From<Fault> for Refusal {
+    fn from(fault: Fault) -> Refusal {
+        fault.refusal
+    }
+}

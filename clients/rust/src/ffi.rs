@@ -78,4 +78,6 @@ extern "C" {
     ) -> Answer;
 
     pub fn funnelfawn_replay(text: *const u8, text_length: usize, out: *mut u8, out_length: usize) -> Answer;
+
+    pub fn funnelfawn_spans(text: *const u8, text_length: usize, out: *mut u8, out_length: usize) -> Answer;
 }

@@ -20,7 +20,8 @@
 //! # Ok::<(), Refusal>(())
 //! ```
 //!
-//! For a screen in the foyer there is [`Board`], which [`Table::record_and_tell`] tells of each window that is let in.
+//! For a screen in the foyer there is [`Board`], which [`Table::record_and_tell`] tells of each window that is let in. For accounts
+//! there is [`spans`]: out of a recording, who sold from when to when.
 //!
 //! The package and the archive have to be of one layout, [`raw::LAYOUT`]. Where a table, a summary or a board is made, an archive of another
 //! one is found out, by a panic.
@@ -36,12 +37,14 @@ mod layout;
 #[allow(unsafe_code)]
 pub mod raw;
 mod recording;
+mod spans;
 mod summary;
 mod table;
 
 pub use act::Act;
-pub use answer::{Accepted, Figures, Refusal};
+pub use answer::{Accepted, Fault, Figures, Refusal};
 pub use board::{Board, Told};
 pub use recording::{read, replay, Recording, Step};
+pub use spans::{spans, spans_text, Span};
 pub use summary::Summary;
 pub use table::{Place, Table};

@@ -151,3 +151,9 @@ pub fn write(values: [u64; 4], moments: &[u64], windows: &[u64], acts: &[u64], o
 pub fn replay(text: &[u8], out: &mut [u8]) -> Answer {
     unsafe { funnelfawn_replay(text.as_ptr(), text.len(), out.as_mut_ptr(), out.len()) }
 }
+
+/// As many bytes as the text has always suffice. A fault has its line for a moment, with 11 and 12 too, which
+/// [`Answer::written`] keeps.
+pub fn spans(text: &[u8], out: &mut [u8]) -> Answer {
+    unsafe { funnelfawn_spans(text.as_ptr(), text.len(), out.as_mut_ptr(), out.len()) }
+}

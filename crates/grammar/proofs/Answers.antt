@@ -112,7 +112,7 @@ read-refused-exactly text l code time some = (why text l code time some (traceOf
 -- Writings
 
 -- what `written` says, in plain facts
-wrote : (text out : List ℕ) → Wrote text out (written text out)
+pub wrote : (text out : List ℕ) → Wrote text out (written text out)
 wrote text out = record {
   answer = refl;
   text-is = take-at text (drop (length text) out) (length text) refl;
@@ -154,22 +154,23 @@ module _ (k : Parameters) (events : List Event) (out : List ℕ) where
 pub write-iff : WriteIff
 write-iff k events out = (write-was k events out, λ h. ap (λ (w : Written). w .answer .code) (write-is k events out (h .0) (h .1)))
 
--- Reports
+-- Texts that are put as they are, such as reports
 
-report-is : (text out : List ℕ) → length (reportText text) ≤ length out → fitted (reportText text) out ≡ written (reportText text) out
+pub fitted-is : (text out : List ℕ) → length text ≤ length out → fitted text out ≡ written text out
 unfolding fitted
-report-is text out h = rw (le-ltb (length out) (length (reportText text)) h)
-
-pub report-tells : ReportTells
-report-tells text out h = rw (report-is text out h) (wrote (reportText text) out)
+fitted-is text out h = rw (le-ltb (length out) (length text) h)
 
 module _ (text out : List ℕ) where
   abbrev Told : Written → Type 0
-  Told w = w .answer .code ≡ 0 → length (reportText text) ≤ length out
+  Told w = w .answer .code ≡ 0 → length text ≤ length out
 
-  report-was : Told (fitted (reportText text) out)
+  fitted-was : Told (fitted text out)
   unfolding fitted
-  report-was = by-cond Told (ltb (length out) (length (reportText text))) (λ _ e. absurd (omega arith)) (λ t _. ltb-false _ _ t)
+  fitted-was = by-cond Told (ltb (length out) (length text)) (λ _ e. absurd (omega arith)) (λ t _. ltb-false _ _ t)
+
+pub report-tells : ReportTells
+report-tells text out h = rw (fitted-is (reportText text) out h) (wrote (reportText text) out)
 
 pub report-iff : ReportIff
-report-iff text out = (report-was text out, λ h. ap (λ (w : Written). w .answer .code) (report-is text out h))
+report-iff text out =
+    (fitted-was (reportText text) out, λ h. ap (λ (w : Written). w .answer .code) (fitted-is (reportText text) out h))

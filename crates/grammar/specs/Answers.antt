@@ -66,11 +66,16 @@ ReadRefusedExactly = (text : List ℕ) (l : Lists) (code time : ℕ) → code �
 
 -- Writings and reports
 
--- [4.70] [6.153] [6.156] [7.50] a text was put into lent bytes: 0, 0 and how many bytes it has; they start with it, and the others stay
+-- [4.70] [6.153] [6.156] [7.50] [11.50] a text was put into lent bytes: 0, 0 and how many bytes it has; they start with it, and the others stay
 pub record Wrote (text out : List ℕ) (w : Written) : Type 0 where
   pub answer : w .answer ≡ answerOf 0 0 (length text)
   pub text-is : take (length text) (w .out) ≡ text
   pub rest-stays : drop (length text) (w .out) ≡ drop (length text) out
+
+-- [4.110] [11.55] [11.60] nothing was put: a code, 0 and a line, and the lent bytes as they were
+pub record RefusedWrite (out : List ℕ) (code line : ℕ) (w : Written) : Type 0 where
+  pub answer : w .answer ≡ answerOf code 0 line
+  pub bytes-stay : w .out ≡ out
 
 -- [4.70] [6.153] [6.156] of a trace that has a form, and lent bytes with room for its text
 abbrev pub WriteTells : Type 0

@@ -1,51 +1,93 @@
--- Section 11 of the specification, what the call answers: exactly when it writes the intervals, and what it writes; exactly why it is
--- refused; and how much room any text of intervals needs. Assumes nothing.
+-- Section 11 of the specification, what the call answers: exactly when it writes intervals, and what it writes; exactly why it is refused;
+-- that the report of the same text has the same answers and faults; and what holds of the intervals of every trace. Assumes nothing.
 use Prim.Native.Nat.{ℕ, _≤_, _<_}
 use mathlib.Core.Path.{_≡_}
 use mathlib.Core.Logic.{_≢_, _↔_}
-use mathlib.Core.List.{List}
+use mathlib.Core.List.{List, [], _∷_, _++_, map}
 use lib.ListN.{length}
 use Rattle.model.specs.declared.Parameters.{Parameters}
-use Rattle.model.specs.Answers.{answerOf, freshOf}
-use Rattle.model.specs.Texts.{Event}
-use Rattle.model.specs.Writings.{Written}
-use Rattle.model.specs.Summaries.{mostActs}
+use Rattle.model.specs.declared.Answer.{Answer}
+use Rattle.model.specs.Answers.{answerNumbers, freshOf}
+use Rattle.model.specs.Texts.{Event, numbersText}
+use Rattle.model.specs.Writings.{unwritten, fitted}
+use Rattle.model.specs.Reports.{answerNames, rowsText, reportText}
+use Rattle.model.specs.Executions.{attemptsOf}
 use Rattle.grammar.specs.Exact.{Says}
 use Rattle.grammar.specs.Faults.{Fault}
-use Rattle.grammar.specs.Answers.{Wrote}
-use Rattle.intervals.specs.Intervals.{intervalsFrom, intervalsText, writeIntervalsOf}
+use Rattle.grammar.specs.Answers.{Wrote, RefusedWrite}
+use Rattle.tallies.specs.Tallies.{recordAll, startOf}
+use Rattle.intervals.specs.Intervals.{Interval, intervalsOf, traceIntervals, intervalsText, writeIntervalsOf}
 use Rattle.intervals.specs.Runs.{RunIntervals}
 
--- [11.65] the text is no longer than the trace
+-- The text
+
+-- [11.47] it tells the intervals
+abbrev pub TextTellsAll : Type 0
+TextTellsAll = (is js : List Interval) → intervalsText is ≡ intervalsText js → is ≡ js
+
+-- [11.65] it is no longer than the trace
 abbrev pub IntervalsShort : Type 0
 IntervalsShort = (text : List ℕ) (line : ℕ) (k : Parameters) (events : List Event) → Says text line k events
-    → length (intervalsText (intervalsFrom k events)) ≤ length text
+    → length (intervalsText (traceIntervals k events)) ≤ length text
 
--- [4.70] [11.50] of a trace, and lent bytes with room for the text
+-- Where it is written
+
+-- [11.50] [11.60] a text is a trace, and the lent bytes have room for the text of its intervals
+pub record Writable (text out : List ℕ) (line : ℕ) (k : Parameters) (events : List Event) : Type 0 where
+  pub says : Says text line k events
+  pub fits : length (intervalsText (traceIntervals k events)) ≤ length out
+
+-- [4.70] [11.50]
 abbrev pub IntervalsTell : Type 0
-IntervalsTell = (text out : List ℕ) (line : ℕ) (k : Parameters) (events : List Event) → Says text line k events
-    → length (intervalsText (intervalsFrom k events)) ≤ length out
-    → Wrote (intervalsText (intervalsFrom k events)) out (writeIntervalsOf text out)
+IntervalsTell = (text out : List ℕ) (line : ℕ) (k : Parameters) (events : List Event) → Writable text out line k events
+    → Wrote (intervalsText (traceIntervals k events)) out (writeIntervalsOf text out)
+
+-- [11.50] [11.60] it is written exactly then
+abbrev pub IntervalsIff : Type 0
+IntervalsIff = (text out : List ℕ)
+    → (writeIntervalsOf text out .answer .code ≡ 0) ↔ ((line : ℕ) × (k : Parameters) × (events : List Event) × Writable text out line k events)
+
+-- Where it is refused
 
 -- [11.55] [11.60] why nothing is written: the code, and the line that is told
 pub data Unwritable (text out : List ℕ) : ℕ → ℕ → Type 0 where
-  -- [11.55] the fault for which the report has its line too
+  -- [11.55] a fault of the text, with the line that the report prints for it
   faulty : {code line : ℕ} → Fault text code line → Unwritable text out code line
   -- [11.60] [4.16] after all others: the text is faultless
   no-room : (line : ℕ) (k : Parameters) (events : List Event) → Says text line k events
-      → length out < length (intervalsText (intervalsFrom k events)) → Unwritable text out 16 0
-
--- [11.55] [11.60] [4.110] what is then given back: the code, 0 and the line, and the lent bytes as they were
-pub record Unwrote (out : List ℕ) (code line : ℕ) (w : Written) : Type 0 where
-  pub answer : w .answer ≡ answerOf code 0 line
-  pub bytes-stay : w .out ≡ out
+      → length out < length (intervalsText (traceIntervals k events)) → Unwritable text out 16 0
 
 -- [11.55] [11.60] it is refused exactly so
 abbrev pub IntervalsRefusedExactly : Type 0
 IntervalsRefusedExactly = (text out : List ℕ) (code line : ℕ) → code ≢ 0
-    → Unwrote out code line (writeIntervalsOf text out) ↔ Unwritable text out code line
+    → RefusedWrite out code line (writeIntervalsOf text out) ↔ Unwritable text out code line
 
--- [11.70] [11.75] [11.85] [11.90] of every trace: its summary cannot fill up
+-- [11.65] lent bytes that are as many as those of the text are never too few
+abbrev pub IntervalsRoom : Type 0
+IntervalsRoom = (text out : List ℕ) → length text ≤ length out → writeIntervalsOf text out .answer .code ≢ 16
+
+-- The report of the same text
+
+-- [11.10] of a trace, both come from the same answers, one to each step
+abbrev pub SameAnswers : Type 0
+SameAnswers = (text out : List ℕ) (line : ℕ) (k : Parameters) (events : List Event) → Says text line k events
+    → (given : List Answer) × (length given ≡ length events)
+    × (reportText text ≡ answerNames ++ rowsText line (map answerNumbers given))
+    × (writeIntervalsOf text out ≡ fitted (intervalsText (intervalsOf (attemptsOf events (map (λ (a : Answer). a .code) given)))) out)
+
+-- [11.55] [7.30] of a fault, both have the code and the line
+abbrev pub SameFault : Type 0
+SameFault = (text out : List ℕ) (code line : ℕ) → Fault text code line
+    → (reportText text ≡ answerNames ++ numbersText line (code ∷ 0 ∷ 0 ∷ [])) × (writeIntervalsOf text out ≡ unwritten code line out)
+
+-- Every trace
+
+-- [11.70] [11.80] [11.85] [11.90]
 abbrev pub EveryTrace : Type 0
 EveryTrace = (text : List ℕ) (line : ℕ) (k : Parameters) (events : List Event) → Says text line k events
-    → (length events ≤ mostActs) × RunIntervals (freshOf k .state) events (intervalsFrom k events)
+    → RunIntervals (freshOf k .state) events (traceIntervals k events)
+
+-- [11.75] no trace has so many steps that a summary fills up
+abbrev pub IntervalsCounted : Type 0
+IntervalsCounted = (text : List ℕ) (line : ℕ) (k : Parameters) (events : List Event) → Says text line k events
+    → length (traceIntervals k events) ≡ recordAll (startOf (freshOf k .state)) events .statistics .counts .entries

@@ -14,10 +14,10 @@ use Rattle.model.specs.Executions.{attemptsFrom}
 
 -- Intervals
 
--- [11.30] where an interval ends: nowhere yet, or at a time
+-- [11.30] where an interval ends: nowhere yet, so that it is open; or at a time
 pub data End : Type 0 where
   ongoing : End
-  ended : ℕ → End
+  until : ℕ → End
 
 -- [11.20] [11.30]
 pub record Interval : Type 0 where
@@ -32,16 +32,16 @@ interval process from to = record { process = process; from = from; to = to }
 -- [11.30] where an interval of process p ends, by what was attempted after its crit: at the next accepted exit of p
 unfoldable pub endOf : ℕ → List Attempt → End
 endOf p [] = ongoing
-endOf p (e ∷ es) = cond (isExit e && eqb (e .process) p) (ended (e .time)) (endOf p es)
+endOf p (e ∷ es) = cond (isExit e && eqb (e .process) p) (until (e .time)) (endOf p es)
 
--- [11.20] an interval for each accepted crit, the first one first
+-- [11.20] an interval for each accepted crit, in their order; the list has the first attempt first, as no log has
 unfoldable pub intervalsOf : List Attempt → List Interval
 intervalsOf [] = []
 intervalsOf (e ∷ es) = cond (isEntry e) (interval (e .process) (e .time) (endOf (e .process) es) ∷ intervalsOf es) (intervalsOf es)
 
 -- [11.10] [11.20] those of the steps of a trace with these parameters
-abbrev pub intervalsFrom : Parameters → List Event → List Interval
-intervalsFrom k events = intervalsOf (attemptsFrom (freshOf k .state) events)
+abbrev pub traceIntervals : Parameters → List Event → List Interval
+traceIntervals k events = intervalsOf (attemptsFrom (freshOf k .state) events)
 
 -- Their text
 
@@ -52,7 +52,7 @@ intervalNames = bytes "window,from,to\n"
 -- [11.45] the last field of a line
 unfoldable pub endText : End → List ℕ
 endText ongoing = bytes "-\n"
-endText (ended m) = numberText newline m
+endText (until m) = numberText newline m
 
 -- [11.45]
 unfoldable pub intervalText : Interval → List ℕ
@@ -72,7 +72,7 @@ intervalsText is = intervalNames ++ intervalLines is
 -- [11.50] [11.55] [11.60] [4.110] the text of the intervals in an output that may be too short, or the refusal with its line
 abbrev pub intervalsInto : List ℕ → Trace → Written
 intervalsInto out (refused code line) = unwritten code line out
-intervalsInto out (trace line k events) = fitted (intervalsText (intervalsFrom k events)) out
+intervalsInto out (trace line k events) = fitted (intervalsText (traceIntervals k events)) out
 
 -- [11.50] all that it gives back
 unfoldable pub writeIntervalsOf : List ℕ → List ℕ → Written

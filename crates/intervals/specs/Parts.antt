@@ -1,14 +1,11 @@
 -- The text of intervals as it is put, step by step: a crit begins a line and an exit ends it. For the proofs only. Assumes nothing.
 use Prim.Native.Nat.{ℕ}
 use mathlib.Core.Bool.{Bool, true, false, cond}
-use mathlib.Core.List.{List, [], _∷_, _++_, map}
-use lib.ListN.{getD}
+use mathlib.Core.List.{List, [], _∷_, _++_}
 use Rattle.model.specs.declared.State.{State}
 use Rattle.model.specs.Tallies.{Attempt, isEntry, isExit}
 use Rattle.model.specs.Texts.{bytes, comma, newline, numberText, Event}
-use Rattle.model.specs.Readings.{Lists}
-use Rattle.model.specs.Writings.{eventsOf}
-use Rattle.model.specs.Executions.{attemptsOf, attemptsFrom}
+use Rattle.model.specs.Executions.{attemptsFrom}
 use Rattle.intervals.specs.Intervals.{intervalNames}
 
 -- what one attempt puts: the first two fields of a line, the last one, or nothing
@@ -42,7 +39,3 @@ restText opened es = partsText es ++ lastText (openAfter opened es)
 -- all that is put for steps, the first of which is taken in the state s
 abbrev pub passText : State → List Event → List ℕ
 passText s events = intervalNames ++ restText false (attemptsFrom s events)
-
--- what was attempted, by the rows of the answers
-abbrev pub attemptsIn : Lists → List (List ℕ) → List Attempt
-attemptsIn l rows = attemptsOf (eventsOf l) (map (λ (row : List ℕ). getD row 0 0) rows)

@@ -13,37 +13,37 @@ use Rattle.model.specs.Summaries.{mostActs}
 use Rattle.model.specs.Tallies.{Attempt}
 use Rattle.model.specs.Executions.{stateFrom, attemptsFrom}
 use Rattle.tallies.specs.Tallies.{recordAll, startOf}
-use Rattle.intervals.specs.Intervals.{End, ongoing, ended, Interval, intervalsOf}
+use Rattle.intervals.specs.Intervals.{End, ongoing, until, Interval, intervalsOf}
 
 -- What was attempted
 
 -- [11.20] an accepted crit
-pub record Enters (e : Attempt) : Type 0 where
+pub record AcceptedCrit (e : Attempt) : Type 0 where
   pub accepted : e .code ≡ 0
   pub crit : e .action ≡ critAct
 
 -- [11.30] an accepted exit
-pub record Leaves (e : Attempt) : Type 0 where
+pub record AcceptedExit (e : Attempt) : Type 0 where
   pub accepted : e .code ≡ 0
   pub exit : e .action ≡ exitAct
 
 -- [11.80] no process enters or leaves by these attempts
 abbrev pub Quiet : List Attempt → Type 0
 Quiet [] = Unit {0}
-Quiet (e ∷ es) = (Enters e → ⊥) × (Leaves e → ⊥) × Quiet es
+Quiet (e ∷ es) = (AcceptedCrit e → ⊥) × (AcceptedExit e → ⊥) × Quiet es
 
 -- One interval
 
 -- [11.80] [11.90] where an interval of process p ends that began at the time `from`, by what was attempted after its crit: with the first
 -- exit of all, which is that of p and comes no earlier; or nowhere, as nobody enters or leaves any more
 pub data Ends (p from : ℕ) (after : List Attempt) : End → Type 0 where
-  left : (between : List Attempt) (e : Attempt) (rest : List Attempt) → after ≡ between ++ (e ∷ rest) → Quiet between → Leaves e
-      → e .process ≡ p → from ≤ e .time → Ends p from after (ended (e .time))
+  left : (between : List Attempt) (e : Attempt) (rest : List Attempt) → after ≡ between ++ (e ∷ rest) → Quiet between → AcceptedExit e
+      → e .process ≡ p → from ≤ e .time → Ends p from after (until (e .time))
   stays : Quiet after → Ends p from after ongoing
 
 -- [11.70] [11.80] i is the interval of the attempt e, a crit that was accepted, and then these attempts came
 pub record Covers (e : Attempt) (after : List Attempt) (i : Interval) : Type 0 where
-  pub enters : Enters e
+  pub enters : AcceptedCrit e
   pub process : i .process ≡ e .process
   pub from : i .from ≡ e .time
   pub to : Ends (e .process) (e .time) after (i .to)
@@ -53,15 +53,15 @@ pub record Covers (e : Attempt) (after : List Attempt) (i : Interval) : Type 0 w
 -- [11.70] each accepted crit has an interval and each interval an accepted crit, one for one, in the same order
 pub data OneForEach : List Attempt → List Interval → Type 0 where
   none : OneForEach [] []
-  passed : {e : Attempt} {es : List Attempt} {is : List Interval} → (Enters e → ⊥) → OneForEach es is → OneForEach (e ∷ es) is
-  entered : {e : Attempt} {es : List Attempt} {i : Interval} {is : List Interval} → Covers e es i → OneForEach es is
+  skipped : {e : Attempt} {es : List Attempt} {is : List Interval} → (AcceptedCrit e → ⊥) → OneForEach es is → OneForEach (e ∷ es) is
+  covered : {e : Attempt} {es : List Attempt} {i : Interval} {is : List Interval} → Covers e es i → OneForEach es is
       → OneForEach (e ∷ es) (i ∷ is)
 
 -- [11.85] [11.90] each but the last ends, and the next begins no earlier; so only the last may be open
 pub data InTurn : List Interval → Type 0 where
   none : InTurn []
   last : (i : Interval) → InTurn (i ∷ [])
-  next : {i j : Interval} {is : List Interval} (m : ℕ) → i .to ≡ ended m → i .from ≤ m → m ≤ j .from → InTurn (j ∷ is)
+  next : {i j : Interval} {is : List Interval} (m : ℕ) → i .to ≡ until m → i .from ≤ m → m ≤ j .from → InTurn (j ∷ is)
       → InTurn (i ∷ j ∷ is)
 
 -- [11.90] the last one is of process p, and open

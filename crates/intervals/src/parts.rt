@@ -1,8 +1,8 @@
 // The text of intervals, put step by step: what one step puts, a block of steps, all steps of a run, and the whole text.
 // Whether a line is begun is handed on, since a line that no exit has ended gets a dash at the end.
+use execution::ROWS;
 use execution::answer_rows;
 use execution::run_steps;
-use execution::ROWS;
 use model::State;
 use rules::actions::CRIT;
 use rules::actions::EXIT;
@@ -10,6 +10,7 @@ use text::puts::put_number;
 use text::puts::put_text;
 use values::least;
 ghost use mathlib.Core.Path.{_≡_};
+ghost use mathlib.Core.Bool.{false};
 ghost use Prim.Native.Nat.{_+_, _*_, _≤_};
 ghost use lib.ListN.{length};
 ghost use Rattle.model.specs.Tallies.{attempt};
@@ -17,7 +18,8 @@ ghost use Rattle.model.specs.Readings.{lent};
 ghost use Rattle.model.specs.Writings.{eventsOf};
 ghost use Rattle.model.specs.Executions.{attemptsFrom};
 ghost use Rattle.text.specs.Puts.{Put};
-ghost use Rattle.intervals.specs.Parts.{partText, partsText, openWith, openAfter, passText, attemptsIn};
+ghost use Rattle.execution.specs.Turns.{attemptsByRows};
+ghost use Rattle.intervals.specs.Parts.{partText, partsText, openWith, openAfter, passText};
 
 // How many bytes some steps put, and whether a line is begun after them.
 pub(crate) struct Progress {
@@ -45,9 +47,9 @@ fn put_part(out: &mut [u8], at: u32, code: u64, action: u64, process: u64, time:
     0
 }
 
-// [11.45] Whether a line is begun after such a step.
-fn open_with(opened: bool, code: u64, action: u64, process: u64, time: u64) -> bool
-    ensures { λ r. ⌜ r ≡ openWith opened (attempt action process time code) ⌝ }
+// [11.45] Whether a line is begun after such a step, whosever it is and whenever it comes.
+fn open_with(opened: bool, code: u64, action: u64) -> bool
+    ensures { λ r. ⌜ r ≡ openWith opened (attempt action 0 0 code) ⌝ }
 {
     if code != 0 {
         return opened;
@@ -75,8 +77,8 @@ fn put_block(
     requires { ⌜ (length (now answers) ≤ length (now times)) × (length (now answers) ≤ length (now processes))
         × (length (now answers) ≤ length (now actions)) ⌝ }
     ensures { λ r. ⌜ Put (now (out .entry)) (now (out .exit)) at
-        (partsText (attemptsIn (lent (times .entry) (processes .entry) (actions .entry)) (now (answers .entry)))) (r .size) ⌝ }
-    ensures { λ r. ⌜ r .opened ≡ openAfter opened (attemptsIn (lent (times .entry) (processes .entry) (actions .entry)) (now (answers .entry))) ⌝ }
+        (partsText (attemptsByRows (lent (times .entry) (processes .entry) (actions .entry)) (now (answers .entry)))) (r .size) ⌝ }
+    ensures { λ r. ⌜ r .opened ≡ openAfter opened (attemptsByRows (lent (times .entry) (processes .entry) (actions .entry)) (now (answers .entry))) ⌝ }
     ensures { λ r. ⌜ r .size ≤ 42 * length (now (answers .entry)) ⌝ }
 {
     let mut size: usize = 0;
@@ -90,7 +92,7 @@ fn put_block(
         let time = times[i];
         let place = (at as usize) + size;
         size += put_part(out, place as u32, code, action, process, time);
-        begun = open_with(begun, code, action, process, time);
+        begun = open_with(begun, code, action);
         i += 1;
     }
     Progress {
@@ -121,20 +123,23 @@ fn put_steps(
     let mut i: usize = 0;
     while i < times.len() {
         let count = least(ROWS, times.len() - i);
+        let next_times = &times[i..];
+        let next_processes = &processes[i..];
+        let next_actions = &actions[i..];
         state = run_steps(
             state,
-            &times[i..],
-            &processes[i..],
-            &actions[i..],
+            next_times,
+            next_processes,
+            next_actions,
             &mut answers,
         );
         let block = put_block(
             out,
             (15 + size) as u32,
             opened,
-            &times[i..],
-            &processes[i..],
-            &actions[i..],
+            next_times,
+            next_processes,
+            next_actions,
             &answers[..count],
         );
         size += block.size;

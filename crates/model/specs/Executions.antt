@@ -1,4 +1,5 @@
--- Section 7 of the specification, a trace that is run: its steps from a fresh state on, and the answer to each. Assumes nothing.
+-- Sections 7 and 11 of the specification, a trace that is run: its steps from a fresh state on, the answer to each, and what was attempted.
+-- Assumes nothing.
 use Prim.Native.Nat.{ℕ}
 use mathlib.Core.List.{List, [], _∷_, map}
 use lib.ListN.{length, take}

@@ -1,10 +1,10 @@
 // The whole text that `replay` prints, as a function from bytes to bytes: a recording is run, and there is a line for each of its
 // steps, or one for what is at fault.
+use execution::ROWS;
 use execution::answer_rows;
 use execution::run_steps;
 use execution::start;
 use execution::step_list;
-use execution::ROWS;
 use model::Answer;
 use model::State;
 use text::numbers::put_numbers;

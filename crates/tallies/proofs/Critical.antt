@@ -1,5 +1,5 @@
--- Who is critical after an accepted act, in tables where at most one process is: its own process after a crit, nobody after an exit, and
--- whoever was before after another. Assumes nothing.
+-- Who is critical before and after an accepted act, in tables where at most one process is: nobody before a crit and its own process after
+-- it, that of an exit before it and nobody after it, and after another act whoever was before. Assumes nothing.
 use Prim.Native.Nat.{ℕ, _≤_}
 use mathlib.Core.Path.{_≡_, sym, ap, _∙_}
 use mathlib.Core.Logic.{_≢_, _↔_}
@@ -23,7 +23,7 @@ use Rattle.tallies.proofs.ActKinds.{Kind}
 
 -- One table
 
-the-critical : {s : State} → OneCritical s → (i : ℕ) → IsCritical s i → criticalOf s ≡ i
+pub the-critical : {s : State} → OneCritical s → (i : ℕ) → IsCritical s i → criticalOf s ≡ i
 the-critical {s} one i c = one (criticalOf s) i (somebody-critical s (λ e. nobody-critical s .0 e i c) .critical) c
 
 -- Two tables
@@ -59,6 +59,23 @@ module _ (s s′ : State) (p : ℕ) (others : (i : ℕ) → 1 ≤ i → i ≢ p 
 
   none-critical : OneCritical s → IsCritical s p → entryOf s′ p .location ≢ Critical → (i : ℕ) → IsCritical s′ i → ⊥
   none-critical one c out i h = if-eq i p (λ e. out (rw e at (h .at))) (λ n. n (one i p (other-same i n .0 h) c))
+
+  none-before : OneCritical s′ → IsCritical s′ p → entryOf s p .location ≢ Critical → (i : ℕ) → IsCritical s i → ⊥
+  none-before one′ c out i h = if-eq i p (λ e. out (rw e at (h .at))) (λ n. n (one′ i p (other-same i n .1 h) c))
+
+  pub critical-before : {act m : ℕ} {l l′ : Location} → Kind m act l l′ → entryOf s p .location ≡ l → entryOf s′ p .location ≡ l′
+      → (act ≢ waitAct → 1 ≤ p) → OneCritical s → OneCritical s′
+      → (act ≡ critAct → criticalOf s ≡ 0) × (act ≡ exitAct → criticalOf s ≡ p)
+  critical-before Kind.try e e′ some one one′ = (λ q. absurd (omega arith), λ q. absurd (omega arith))
+  critical-before Kind.crit e e′ some one one′ = (
+    λ _. nobody-critical s .1
+        (none-before one′ (record { from = some (omega arith); at = e′ }) (λ c. omega (arith, ap stageOf (sym e ∙ c)))),
+    λ q. absurd (omega arith),
+  )
+  critical-before Kind.exit e e′ some one one′ =
+      (λ q. absurd (omega arith), λ _. the-critical one p (record { from = some (omega arith); at = e }))
+  critical-before Kind.withdraw e e′ some one one′ = (λ q. absurd (omega arith), λ q. absurd (omega arith))
+  critical-before (Kind.other k a) e e′ some one one′ = (λ q. absurd (k .not-crit q), λ q. absurd (k .not-exit q))
 
   pub critical-after : {act m : ℕ} {l l′ : Location} → Kind m act l l′ → entryOf s p .location ≡ l → entryOf s′ p .location ≡ l′
       → (act ≢ waitAct → 1 ≤ p) → OneCritical s → OneCritical s′

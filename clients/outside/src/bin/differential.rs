@@ -1,6 +1,6 @@
 //! differential [COUNT [SEED]]: makes COUNT random calls of the library and compares all that comes of them with the reference.
 //! Exit status 0 only if the archive has the layout that is written out here, none differs, each number of an answer came up, from boards
-//! too, and so did all that `sights` names.
+//! and from spans too, and so did all that `sights` names.
 
 use outside::boards;
 use outside::calls::{self, Verdict};

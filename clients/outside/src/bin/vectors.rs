@@ -1,4 +1,4 @@
-//! vectors DIRECTORY: makes the stored calls of the five files in DIRECTORY (reference/vectors) and compares all that comes of them.
+//! vectors DIRECTORY: makes the stored calls of the six files in DIRECTORY (reference/vectors) and compares all that comes of them.
 //! Exit status 0 only if the archive has the layout that is written out here, each file has its calls, all of them, and none differs.
 
 use outside::calls::{same_layout, Verdict};
@@ -10,13 +10,14 @@ use std::process::exit;
 type Call = Box<dyn FnMut(&str) -> Verdict>;
 
 /// The lines of each.
-fn files() -> [(&'static str, usize, Call); 5] {
+fn files() -> [(&'static str, usize, Call); 6] {
     let mut board = stored::Board::new();
     [
         ("step.txt", 340, Box::new(stored::step)),
         ("recorded.txt", 400, Box::new(stored::recorded)),
         ("reader.txt", 110, Box::new(stored::reader)),
         ("writer.txt", 160, Box::new(stored::writer)),
+        ("spans.txt", 84, Box::new(stored::spans)),
         ("board.txt", 141, Box::new(move |line| board.call(line))),
     ]
 }
