@@ -4,3 +4,4 @@ pub mod Turns
 pub mod Counts
 pub mod Runs
 pub mod Passes
+pub mod Traces

@@ -83,6 +83,7 @@ puts {p} (Alternate.turned {es = es} (Turn.passes n m same on) a) = record {
 }
 
 pub pass-text : {s : State} → IsFresh s → (events : List Event) → passText s events ≡ intervalsText (intervalsOf (attemptsFrom s events))
+unfolding passText
 pass-text fresh events = ap (λ (text : List ℕ). intervalNames ++ text) (puts (takes-turns fresh events) .free refl)
 
 -- Room
@@ -117,7 +118,8 @@ last-short true = omega arith
 last-short false = omega arith
 
 -- the names line and a dash have fewer bytes than the first lines of a trace
-pass-short : (s : State) (k : Parameters) (events : List Event) → length (passText s events) ≤ length (traceText k events)
+pub pass-short : (s : State) (k : Parameters) (events : List Event) → length (passText s events) ≤ length (traceText k events)
+unfolding passText
 pass-short s k events =
     let es = attemptsFrom s events in
     omega (

@@ -37,5 +37,5 @@ abbrev pub restText : Bool → List Attempt → List ℕ
 restText opened es = partsText es ++ lastText (openAfter opened es)
 
 -- all that is put for steps, the first of which is taken in the state s
-abbrev pub passText : State → List Event → List ℕ
+unfoldable pub passText : State → List Event → List ℕ
 passText s events = intervalNames ++ restText false (attemptsFrom s events)

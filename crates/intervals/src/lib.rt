@@ -6,13 +6,43 @@ use crate::parts::put_run;
 use execution::start;
 use execution::step_list;
 use model::Answer;
+use model::State;
 use values::answer_with;
 ghost use mathlib.Core.Path.{_≡_};
-ghost use Rattle.model.specs.Writings.{writeGave};
+ghost use Prim.Native.Nat.{_≤_};
+ghost use lib.ListN.{length};
+ghost use Rattle.model.specs.Readings.{lent};
+ghost use Rattle.model.specs.Writings.{eventsOf, writeGave, fitted};
 ghost use Rattle.intervals.specs.Intervals.{writeIntervalsOf};
+ghost use Rattle.intervals.specs.Parts.{passText};
 
-// [11.50] [11.55] [11.60] [11.65] [21.110] Writes the intervals of a recording. The text is never longer than the recording, so that only
-// a shorter output is measured first.
+// [11.50] [11.60] Writes the text for the steps in the lists, at most 8,187, from a state on. As `enough` bytes have room for it, only a
+// shorter output is measured first, so that it stays where it is too short.
+fn write_run(
+    out: &mut [u8],
+    enough: usize,
+    first: State,
+    times: &[u64],
+    processes: &[u64],
+    actions: &[u64],
+) -> Answer
+    requires { ⌜ length (now times) ≤ 8187 ⌝ }
+    requires { ⌜ (length (now processes) ≡ length (now times)) × (length (now actions) ≡ length (now times)) ⌝ }
+    requires { ⌜ length (passText first (eventsOf (lent times processes actions))) ≤ enough ⌝ }
+    ensures { λ r. ⌜ writeGave r (now (out .exit))
+        ≡ fitted (passText first (eventsOf (lent (times .entry) (processes .entry) (actions .entry)))) (now (out .entry)) ⌝ }
+{
+    if out.len() < enough {
+        let needed = put_run(&mut out[..0], first, times, processes, actions);
+        if out.len() < needed {
+            return answer_with(16, 0, 0);
+        }
+    }
+    let size = put_run(out, first, times, processes, actions);
+    answer_with(0, 0, size as u64)
+}
+
+// [11.50] [11.55] [11.60] [11.65] [21.110] Writes the intervals of a recording. Their text is never longer than the recording.
 pub fn write_intervals(text: &[u8], out: &mut [u8]) -> Answer
     ensures { λ r. ⌜ writeGave r (now (out .exit)) ≡ writeIntervalsOf (now (text .entry)) (now (out .entry)) ⌝ }
 {
@@ -25,25 +55,12 @@ pub fn write_intervals(text: &[u8], out: &mut [u8]) -> Answer
         return answer_with(found.code, 0, found.line);
     }
     let count = found.size;
-    let first = started.state;
-    if out.len() < text.len() {
-        let needed = put_run(
-            &mut out[..0],
-            first,
-            &times[..count],
-            &processes[..count],
-            &actions[..count],
-        );
-        if out.len() < needed {
-            return answer_with(16, 0, 0);
-        }
-    }
-    let size = put_run(
+    write_run(
         out,
-        first,
+        text.len(),
+        started.state,
         &times[..count],
         &processes[..count],
         &actions[..count],
-    );
-    answer_with(0, 0, size as u64)
+    )
 }

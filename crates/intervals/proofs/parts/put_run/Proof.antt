@@ -13,7 +13,7 @@ use Rattle.text.specs.Puts.{Put}
 use Rattle.text.proofs.Putting.{put-first}
 use Rattle.text.proofs.Wholes.{after-names}
 use Rattle.intervals.specs.Intervals.{intervalNames}
-use Rattle.intervals.specs.Parts.{partsText, openAfter}
+use Rattle.intervals.specs.Parts.{partsText, openAfter, passText}
 use Rattle.intervals.proofs.parts.put_run.Statement.{statement}
 use Rattle.intervals.proofs.parts.put_run.Tie as tie
 
@@ -60,6 +60,7 @@ same-length : tie.Need-same-length
 same-length c = search needs
 
 returns : tie.Need-returns
+unfolding passText
 returns c =
     let t = c .before .before .before .before .before in
     let d = t .before .before .before .before in
@@ -69,6 +70,7 @@ same-length-2 : tie.Need-same-length-2
 same-length-2 c = search needs
 
 returns-2 : tie.Need-returns-2
+unfolding passText
 returns-2 c = let d = c .before .before .before .before in rw (opened d (c .if1 .left), append-nil) (so-far d)
 
 pub put-run-spec : {M : Type 1} → statement M
