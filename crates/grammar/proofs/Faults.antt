@@ -11,7 +11,7 @@ use Rattle.grammar.specs.Faults.{Differs, Fault, long, names, values, co
 use Rattle.grammar.proofs.Fields.{starts-here, starts-took}
 
 -- a refusal has a number that is not 0
-pub fault-some : {text : List ℕ} {code line : ℕ} → Fault text code line → 0 < code
+pub fault-some : {text : List ℕ} {code line : ℕ} → Fault text code line → (0 < code) × (code < 16)
 fault-some (long h) = omega arith
 fault-some (names h d) = omega arith
 fault-some (values rest h e d) = omega arith

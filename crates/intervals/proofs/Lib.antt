@@ -5,3 +5,5 @@ pub mod Counts
 pub mod Runs
 pub mod Passes
 pub mod Traces
+pub mod Answers
+pub mod Cases

@@ -83,7 +83,7 @@ puts {p} (Alternate.turned {es = es} (Turn.passes n m same on) a) = record {
 }
 
 pub pass-text : {s : State} → IsFresh s → (events : List Event) → passText s events ≡ intervalsText (intervalsOf (attemptsFrom s events))
-unfolding passText
+unfolding intervalsText passText
 pass-text fresh events = ap (λ (text : List ℕ). intervalNames ++ text) (puts (takes-turns fresh events) .free refl)
 
 -- Room

@@ -64,7 +64,7 @@ intervalLines [] = []
 intervalLines (i ∷ is) = intervalText i ++ intervalLines is
 
 -- [11.40] [11.45] the whole
-abbrev pub intervalsText : List Interval → List ℕ
+unfoldable pub intervalsText : List Interval → List ℕ
 intervalsText is = intervalNames ++ intervalLines is
 
 -- The call
