@@ -1,18 +1,11 @@
 // Printing the report of a text on standard output.
 // That the bytes made ready are the report is a contract, `render`'s; that they are handed on, and arrive, no contract can say.
 use libc::STDOUT_FILENO;
+use streams::output;
 ghost use mathlib.Core.Path.{_≡_};
-ghost use lib.ListN.{length, take, replicate};
+ghost use lib.ListN.{length, take};
 ghost use Rattle.io.specs.Counts.{Counts};
 ghost use Rattle.model.specs.Reports.{reportText};
-
-// Room for any report, all zeros.
-fn output() -> [u8; 687734]
-    ensures size { λ r. ⌜ 687734 ≡ length r ⌝ }
-    ensures zeros { λ r. ⌜ r ≡ replicate 687734 0 ⌝ }
-{
-    [0; 687734]
-}
 
 // [7.10] [7.55] Puts the report of a text into an output with room for any, and answers how many bytes it has.
 fn render(text: &[u8], out: &mut [u8]) -> usize

@@ -1,4 +1,4 @@
-// What the programs share: opening a file that an argument names, and reading a text.
+// What the programs share: opening a file that an argument names, reading a text, and room for what is printed.
 // Whether a read fails is told apart from the end of the input.
 ghost use mathlib.Core.Bool.{true};
 ghost use mathlib.Core.Path.{_≡_};
@@ -47,6 +47,14 @@ pub fn kept() -> [u8; 65537]
     ensures zeros { λ r. ⌜ r ≡ replicate 65537 0 ⌝ }
 {
     [0; 65537]
+}
+
+// [7.55] Room for what a program prints, all zeros: the longest is a report.
+pub fn output() -> [u8; 687734]
+    ensures size { λ r. ⌜ 687734 ≡ length r ⌝ }
+    ensures zeros { λ r. ⌜ r ≡ replicate 687734 0 ⌝ }
+{
+    [0; 687734]
 }
 
 // One read, to place `at` on; what stands before it stays. A negative answer is a failed read; one that a signal interrupts
