@@ -1,13 +1,14 @@
 -- What is written for a field is read back, and what is read was so written. Assumes nothing.
 use Prim.Native.Nat.{ℕ, zero, suc, _+_, _-_, _*_, _/_, _%_, _≤_, _<_}
 use mathlib.Core.Path.{_≡_, refl, sym, ap, _∙_, subst}
+use mathlib.Core.Logic.{_≢_}
 use mathlib.Core.Bool.{Bool, true, false, cond, not, _&&_, _||_, true≢false, false≢true}
 use mathlib.Core.List.{List, [], _∷_, _++_}
 use native.Mathlib.Omega.{arith}
 use native.Mathlib.Nat.{add-zero, zero-add}
 use lib.Dec.{leb, ltb, eqb}
 use lib.ListN.{length, getD, drop, length-append}
-use lib.Seq.{drop-at, append-snoc}
+use lib.Seq.{drop-at, drop-append-seam, append-snoc}
 use borrow.Author.Tests.{lt-leb, eq-eqb, ne-eqb, eqb-true, leb-false}
 use Rattle.model.specs.declared.Field.{Field}
 use Rattle.model.specs.declared.Field.the-variants.{Value, Bad}
@@ -66,6 +67,26 @@ module _ (bound end : ℕ) (small : end < 48) where
       let some : eqb (length (decimal v)) 0 ≡ false = ne-eqb _ _ (λ (z : length (decimal v) ≡ 0). omega (arith, some-digit v)) in
       rw (append-snoc (decimal v) end s, digits-taken (suc v) v (end ∷ s) (omega arith) l)
       (simp (eq-eqb end end refl, some, length-append))
+
+-- So its bytes tell it, whatever follows
+
+module _ (end : ℕ) (small : end < 48) where
+  -- a text starts with one number at most
+  pub number-first : (v w : ℕ) (s t : List ℕ) → numberText end v ++ s ≡ numberText end w ++ t → (v ≡ w) × (s ≡ t)
+  number-first v w s t e =
+      let bound : ℕ = suc (v + w) in
+      let read =
+      sym (number-reads bound end small v s (omega arith)) ∙ (ap (numberAt bound end) e ∙ number-reads bound end small w t (omega arith)) in
+      let same : v ≡ w = cc in
+      let text : List ℕ = numberText end w in
+      (same, sym (drop-append-seam text s) ∙ (ap (drop (length text)) (rw same at e) ∙ drop-append-seam text t))
+
+  -- and with none where none is read
+  pub number-none : (v : ℕ) (s t : List ℕ) → ((bound : ℕ) → numberAt bound end t ≡ Bad) → numberText end v ++ s ≢ t
+  number-none v s t none e =
+      let read = sym (number-reads (suc v) end small v s (omega arith)) ∙ (ap (numberAt (suc v) end) e ∙ none (suc v)) in
+      let z : _≡_ {A = ℕ} 0 1 = cc in
+      absurd (omega arith)
 
 -- A number that is read was written
 

@@ -9,7 +9,7 @@ use borrow.Author.Tests.{eq-eqb, ne-eqb}
 use Rattle.model.specs.declared.Parameters.{Parameters}
 use Rattle.model.specs.declared.State.{State}
 use Rattle.model.specs.Acts.{critAct, exitAct}
-use Rattle.model.specs.Answers.{criticalOf, stepOf}
+use Rattle.model.specs.Answers.{criticalOf}
 use Rattle.model.specs.Facts.{Accepted}
 use Rattle.model.specs.Folds.{endBy, resultsBy}
 use Rattle.model.specs.Tallies.{Attempt, attempted}

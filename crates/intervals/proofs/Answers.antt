@@ -1,7 +1,7 @@
 -- The intervals of a text are written exactly where it is a trace and there is room for them, and refused exactly for a fault or for want of
 -- room; its report has the same answers and faults. Assumes nothing.
 use Prim.Native.Nat.{ℕ, _≤_}
-use mathlib.Core.Path.{_≡_, refl, sym, ap, _∙_, subst₂}
+use mathlib.Core.Path.{_≡_, refl, sym, ap, subst₂}
 use mathlib.Core.Logic.{_≢_}
 use mathlib.Core.List.{List}
 use native.Mathlib.Omega.{arith}

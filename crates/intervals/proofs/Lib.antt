@@ -5,5 +5,6 @@ pub mod Counts
 pub mod Runs
 pub mod Passes
 pub mod Traces
+pub mod Injective
 pub mod Answers
 pub mod Cases

@@ -1,8 +1,7 @@
 -- The tests by which the definitions know an accepted crit and an accepted exit, and what they say. Assumes nothing.
 use mathlib.Core.Path.{_≡_}
-use mathlib.Core.Bool.{true, false, _&&_}
+use mathlib.Core.Bool.{true, false}
 use native.Mathlib.Omega.{arith}
-use lib.Dec.{eqb}
 use borrow.Author.Tests.{eq-eqb}
 use Rattle.model.specs.Acts.{critAct, exitAct}
 use Rattle.model.specs.Tallies.{Attempt, isEntry, isExit}

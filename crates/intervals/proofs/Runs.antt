@@ -1,6 +1,6 @@
 -- What holds of the intervals of every run from a fresh state: the attempts of the run take turns, and what that says. Assumes nothing.
 use Prim.Native.Nat.{ℕ, _≤_}
-use mathlib.Core.Path.{_≡_, refl, subst}
+use mathlib.Core.Path.{_≡_, subst}
 use mathlib.Core.Logic.{_↔_}
 use mathlib.Core.List.{List}
 use native.Mathlib.Omega.{arith}
@@ -11,12 +11,11 @@ use Rattle.model.specs.Facts.{IsFresh, IsCritical}
 use Rattle.model.specs.Tallies.{criticalAfter}
 use Rattle.model.specs.Executions.{stateFrom, attemptsFrom}
 use Rattle.lists.specs.Demand3.{OneCritical}
-use Rattle.theory.proofs.Lowest.{nobody-critical, somebody-critical}
+use Rattle.theory.proofs.Lowest.{somebody-critical}
 use Rattle.lists.proofs.Guarded.{fresh-guarded}
 use Rattle.lists.proofs.Demand3.{one-critical}
 use Rattle.tallies.proofs.States.{state-start}
 use Rattle.tallies.proofs.Critical.{the-critical}
-use Rattle.intervals.specs.Intervals.{intervalsOf}
 use Rattle.intervals.specs.Runs.{EveryRun}
 use Rattle.intervals.proofs.Alternation.{Alternate, run-alternates, run-guarded}
 use Rattle.intervals.proofs.Turns.{one-for-each, in-turn, open-at-end}

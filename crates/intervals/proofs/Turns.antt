@@ -4,12 +4,12 @@ use Prim.Native.Nat.{ℕ, _≤_}
 use mathlib.Core.Path.{_≡_, refl, sym, ap, _∙_}
 use mathlib.Core.Logic.{_↔_}
 use mathlib.Core.Bool.{Bool, true, false, true≢false}
-use mathlib.Core.List.{List, [], _∷_, _++_}
+use mathlib.Core.List.{List, [], _∷_}
 use native.Mathlib.Omega.{arith}
 use borrow.Author.Tests.{eq-eqb}
 use Rattle.model.specs.Tallies.{Attempt}
 use Rattle.intervals.specs.Intervals.{End, ongoing, until, Interval, interval, endOf, intervalsOf}
-use Rattle.intervals.specs.Runs.{AcceptedCrit, AcceptedExit, Quiet, Ends, Covers, OneForEach, InTurn, OpenFor}
+use Rattle.intervals.specs.Runs.{AcceptedCrit, AcceptedExit, Ends, OneForEach, InTurn, OpenFor}
 use Rattle.intervals.proofs.Marks.{entry-true, exit-true, entry-false, exit-false, leaves-not-enters}
 use Rattle.intervals.proofs.Alternation.{Turn, Alternate}
 
