@@ -18,9 +18,9 @@ compile() {
 }
 
 # the proved programs and the library
-quietly "${RT:-rt}" check bench bench_apart bench_recorded replay
+quietly "${RT:-rt}" check bench bench_apart bench_recorded replay spans
 quietly "${RT:-rt}" staticlib funnelfawn
-for made in bin/bench bin/bench_apart bin/bench_recorded bin/replay staticlib/libfunnelfawn.a; do
+for made in bin/bench bin/bench_apart bin/bench_recorded bin/replay bin/spans staticlib/libfunnelfawn.a; do
     [ -f "target/$made" ] || fail "there is no target/$made"
 done
 

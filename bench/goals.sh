@@ -68,6 +68,8 @@ goals() {
             judge("recorded_within accepted", 11, 0.60, "a recorded step within Rattle, accepted while nobody sells, every n, of the reference")
             judge("recorded_within with moments", 14, 1.15, "the same, somebody selling or not, of what it took with a moment for each try")
             judge("replay", 3, 0.8, "replay, of the reference")
+            judge("spans", 3, 0.8, "spans, of the reference")
+            judge("spans_beside_replay", 3, 1.05, "spans, of replay on the same recording")
             judge("board", 8, 1.0, "a board through the C library, in every row, of the reference")
             judge_number(dearest, empty == 2 && dearest < 200, "an empty board, adding or showing: less than 200 instructions")
             # 22,870 with steps that made a state of the numbers; the waits of a summary, looked at and added to in a row, take some 1,000

@@ -1,4 +1,4 @@
-# The three recordings on which bench/run measures `replay`. Sourced by it.
+# The three recordings on which bench/run measures `replay` and `spans`. Sourced by it.
 
 # the shortest steps there are, 8,187 of them: a try that is accepted, and tries that are out of place
 tries() {
@@ -29,10 +29,10 @@ withdrawals() {
     }'
 }
 
-# replay_rows: the whole program
-replay_rows() {
-    ours=target/bin/replay beside=reference/target/release/replay
-    echo 'replay, the whole program; the reference'
+# program_rows PROGRAM: the whole program beside the reference's, on each recording
+program_rows() {
+    ours=target/bin/$1 beside=reference/target/release/$1
+    echo "$1, the whole program; the reference"
     for name in tries sales withdrawals; do
         text=target/bench/$name
         $name >"$text"
@@ -42,6 +42,18 @@ replay_rows() {
         count=$(instructions "$text" "$ours")
         count_beside=$(instructions "$text" "$beside")
         times=$(target/bench/timer "${RUNS:-100}" "$text" "$ours" -- "$beside")
-        row replay $name "$name: $(wc -c <"$text") bytes, $(($(wc -l <"$text") - 3)) steps" 1 "$count" "$count_beside" $times
+        row "$1" $name "$name: $(wc -c <"$text") bytes, $(($(wc -l <"$text") - 3)) steps" 1 "$count" "$count_beside" $times
+    done
+}
+
+# spans_beside_replay: the same steps are run, and fewer lines are put; the counts are those of the rows above
+spans_beside_replay() {
+    echo 'spans, the whole program; replay, on the same recording'
+    for name in tries sales withdrawals; do
+        count=$(awk -v name=$name '$1 == "spans" && $2 == name { print $3 }' "$work/rows")
+        count_beside=$(awk -v name=$name '$1 == "replay" && $2 == name { print $3 }' "$work/rows")
+        text=target/bench/$name
+        times=$(target/bench/timer "${RUNS:-100}" "$text" target/bin/spans -- target/bin/replay)
+        row spans_beside_replay $name "$name" 1 "$count" "$count_beside" $times
     done
 }
