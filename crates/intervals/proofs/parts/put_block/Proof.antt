@@ -1,8 +1,8 @@
 -- `intervals::parts::put_block` meets its contract. The loop's invariant says what is left to put, and what is left of the answers tells
 -- whether a line is begun at the end. Assumes nothing.
-use Prim.Native.Nat.{_+_, _*_, _-_, _≤_}
+use Prim.Native.Nat.{ℕ, _+_, _*_, _-_, _≤_}
 use mathlib.Core.Path.{_≡_, refl}
-use mathlib.Core.List.{[]}
+use mathlib.Core.List.{List, []}
 use native.Mathlib.Omega.{arith}
 use native.Mathlib.Nat.{add-zero}
 use lib.ListN.{length, drop}
@@ -91,10 +91,11 @@ loop-again c =
     let s = c .before .before .before .before .before .before .before .before .before .before .before .before .before .before .before in
     let part = c .before .before .before .put-part in
     let next = attempts-next (steps s) (s .args .answers .now) (v .i) [] (omega arith) (omega arith) in
+    let left : List ℕ = partsText (attemptsByRows (from (v .i + 1) (steps s)) (drop (v .i + 1) (s .args .answers .now))) in
     let moved : s .args .at + v .size + part .result ≡ s .args .at + (v .size + part .result) = omega arith in (
       omega arith,
       omega (arith, part .ensures .1),
-      rw moved at (left-next (rw next at (v .inv .2)) (part .ensures .0)),
+      rw moved at (left-next {y = left} (rw next at (v .inv .2)) (part .ensures .0)),
       rw (c .open-with .ensures) (rw next at (v .inv .3)),
     )
 
