@@ -292,10 +292,10 @@ enum { FUNNELFAWN_MOST_REPORT = 687734 };
 struct funnelfawn_answer funnelfawn_replay(const uint8_t *FUNNELFAWN_RESTRICT text, size_t text_length,
                                            uint8_t *FUNNELFAWN_RESTRICT out, size_t out_length);
 
-/* [9.112] The spans of a recording, for accounts, which want sales and not acts: its steps are run as `replay` runs them, and out of the
- * answers comes who sold, from when to when. The text is `window,from,to` and then a line for each accepted crit, in their order: its
- * window, its moment, and the moment of the next accepted exit of that window, or `-` where the recording has none and the span is still
- * open [11.20] [11.30] [11.45]. No span begins before the one before it has ended, so only the last one can be open [11.85] [11.90].
+/* [9.112] The spans of a recording, for whoever keeps the accounts: its steps are run as `replay` runs them, and out of the answers comes
+ * who sold, from when to when. The text is `window,from,to` and then a line for each accepted crit, in their order: its window, its
+ * moment, and the moment of the next accepted exit of that window, or `-` where the recording has none and the span is still open
+ * [11.20] [11.30] [11.45]. No span begins before the one before it has ended, so only the last one can be open [11.85] [11.90].
  *   0, 0, the count of bytes, with the text in `out`, of which the bytes after it stay;
  *   or, for a faulty recording, the number of its first fault, 0, and the line that `replay` prints: with 13 and 14 that of the fault, with
  *   11 and 12 it is 2, where funnelfawn_read has 0, and with 15 it is 0 [11.55];

@@ -1,5 +1,5 @@
 -- Section 11 of the specification, what holds of the intervals of every run, in plain facts: each is that of one accepted crit, it ends with
--- the exit of its own process, and no two of them meet. Assumes nothing.
+-- the exit of its own process, and none begins before the one before it has ended. Assumes nothing.
 use Prim.Native.Nat.{ℕ, _≤_}
 use mathlib.Core.Path.{_≡_}
 use mathlib.Core.Logic.{_↔_}
