@@ -16,7 +16,7 @@ ghost use Rattle.model.specs.Executions.{startGave, startedOf, executedGave, ex
 ghost use Rattle.execution.specs.Turns.{stepTurnOf};
 
 // [9.115] No recording has more steps: 65,536 bytes less those of the first lines, eight a step.
-pub const MOST_STEPS: usize = 8187;
+const MOST_STEPS: usize = 8187;
 
 // How many steps are taken at a time where the answers to all are looked at; more did not make it faster.
 pub const ROWS: usize = 64;

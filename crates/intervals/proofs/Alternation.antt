@@ -1,5 +1,5 @@
--- The attempts of a run take turns: who is critical enters when nobody is, and leaves before another enters. What the step of the lock
--- tells of a run is taken from here alone. Assumes nothing.
+-- The attempts of a run take turns: a process enters when nobody is critical, and leaves before another enters. That the lock excludes is
+-- used here. Assumes nothing.
 use Prim.Native.Nat.{ℕ, _≤_}
 use mathlib.Core.Path.{_≡_, refl, sym, _∙_}
 use mathlib.Core.Logic.{_≢_}

@@ -1,16 +1,46 @@
--- The text of intervals tells them: the bytes of a field tell it and where it ends, so a line is told and then all of them.
--- Assumes nothing.
-use Prim.Native.Nat.{ℕ}
+-- The text of intervals tells them: its fields are read back, and the bytes of a field tell it and where it ends, so a line is told and
+-- then all of them. Assumes nothing.
+use Prim.Native.Nat.{ℕ, _<_}
 use mathlib.Core.Path.{_≡_, refl, sym, ap, ap₂}
 use mathlib.Core.Logic.{_≢_}
 use mathlib.Core.List.{List, [], _∷_, _++_, append-assoc}
 use native.Mathlib.Omega.{arith}
 use lib.ListN.{length, drop}
-use Rattle.model.specs.Texts.{comma, newline}
+use lib.Seq.{drop-append-seam}
+use Rattle.model.specs.Texts.{comma, newline, numberText}
 use Rattle.model.specs.Readings.{numberFrom}
-use Rattle.grammar.proofs.Fields.{number-first, number-none}
+use Rattle.grammar.proofs.Fields.{number-reads, number-first, number-none}
 use Rattle.intervals.specs.Intervals.{End, ongoing, until, Interval, intervalNames, endText, intervalText, intervalLines, intervalsText}
-use Rattle.intervals.specs.Answers.{TextTellsAll}
+use Rattle.intervals.specs.Answers.{ReadsNumber, ReadsEnd, LineReads, TextTellsAll}
+
+-- Fields are read back
+
+number-starts : (end v : ℕ) (t : List ℕ) → end < 48 → ReadsNumber end v (numberText end v ++ t) t
+number-starts end v t small = record {
+  size = length (numberText end v);
+  reads = λ bound h. number-reads bound end small v t h;
+  then = drop-append-seam (numberText end v) t;
+}
+
+end-starts : (x : End) (t : List ℕ) → ReadsEnd x (endText x ++ t) t
+unfolding endText
+end-starts ongoing t = refl
+end-starts (until m) t = number-starts newline m t (omega arith)
+
+pub line-reads : LineReads
+unfolding intervalText
+line-reads i rest =
+    let last : List ℕ = endText (i .to) ++ rest in
+    let second : List ℕ = numberText comma (i .from) ++ last in
+    (
+      second,
+      last,
+      simp append-assoc (number-starts comma (i .process) second (omega arith)),
+      number-starts comma (i .from) last (omega arith),
+      end-starts (i .to) rest,
+    )
+
+-- So they tell all
 
 -- the last field: no number starts with a dash
 end-first : (x y : End) (s t : List ℕ) → endText x ++ s ≡ endText y ++ t → (x ≡ y) × (s ≡ t)

@@ -1,6 +1,6 @@
 pub mod Marks
 pub mod Alternation
-pub mod Turns
+pub mod Alternating
 pub mod Counts
 pub mod Runs
 pub mod Passes

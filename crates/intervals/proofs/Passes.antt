@@ -20,7 +20,7 @@ use Rattle.intervals.specs.Runs.{AcceptedCrit, AcceptedExit}
 use Rattle.intervals.specs.Parts.{partText, partsText, openWith, openAfter, lastText, restText, passText}
 use Rattle.intervals.proofs.Marks.{entry-true, exit-true, entry-false, exit-false, leaves-not-enters}
 use Rattle.intervals.proofs.Alternation.{Turn, Alternate}
-use Rattle.intervals.proofs.Turns.{entered-intervals, same-intervals, ended-there, same-end}
+use Rattle.intervals.proofs.Alternating.{entered-intervals, same-intervals, ended-there, same-end}
 use Rattle.intervals.proofs.Runs.{takes-turns}
 
 -- Attempts one after the other
@@ -37,8 +37,8 @@ open-append opened (x ∷ xs) ys = open-append (openWith opened x) xs ys
 
 -- What one attempt puts
 
-seam : (a b c d : List ℕ) → (a ++ b) ++ (c ++ d) ≡ (a ++ (b ++ c)) ++ d
-seam a b c d = sym (append-assoc (a ++ b) c d) ∙ ap (λ (x : List ℕ). x ++ d) (append-assoc a b c)
+regroup : (a b c d : List ℕ) → (a ++ b) ++ (c ++ d) ≡ (a ++ (b ++ c)) ++ d
+regroup a b c d = sym (append-assoc (a ++ b) c d) ∙ ap (λ (x : List ℕ). x ++ d) (append-assoc a b c)
 
 module _ {e : Attempt} (es : List Attempt) (opened : Bool) where
   entered-rest : AcceptedCrit e → restText opened (e ∷ es) ≡ (numberText comma (e .process) ++ numberText comma (e .time)) ++ restText true es
@@ -70,7 +70,7 @@ puts (Alternate.turned {e = e} {es = es} (Turn.enters h none own some at on) a) 
   free = λ _.
       entered-rest es false h
       ∙ rw (entered-intervals es h, rw own at (puts a .taken some))
-      (seam (numberText comma (e .process)) (numberText comma (e .time)) (endText (endOf (e .process) es)) (intervalLines (intervalsOf es)));
+      (regroup (numberText comma (e .process)) (numberText comma (e .time)) (endText (endOf (e .process) es)) (intervalLines (intervalsOf es)));
   taken = λ some′. absurd (omega arith);
 }
 puts (Alternate.turned {e = e} {es = es} (Turn.leaves l own some none at on) a) = record {

@@ -18,7 +18,7 @@ use Rattle.tallies.proofs.States.{state-start}
 use Rattle.tallies.proofs.Critical.{the-critical}
 use Rattle.intervals.specs.Runs.{EveryRun}
 use Rattle.intervals.proofs.Alternation.{Alternate, run-alternates, run-guarded}
-use Rattle.intervals.proofs.Turns.{one-for-each, in-turn, open-at-end}
+use Rattle.intervals.proofs.Alternating.{one-for-each, in-turn, open-at-end}
 use Rattle.intervals.proofs.Counts.{entries-counted}
 
 -- where at most one process is critical, the one that is named is, and no other

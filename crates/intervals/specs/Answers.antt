@@ -4,11 +4,13 @@ use Prim.Native.Nat.{ℕ, _≤_, _<_}
 use mathlib.Core.Path.{_≡_}
 use mathlib.Core.Logic.{_≢_, _↔_}
 use mathlib.Core.List.{List, [], _∷_, _++_, map}
-use lib.ListN.{length}
+use lib.ListN.{length, drop}
+use Rattle.model.specs.declared.Field.the-variants.{Value}
 use Rattle.model.specs.declared.Parameters.{Parameters}
 use Rattle.model.specs.declared.Answer.{Answer}
 use Rattle.model.specs.Answers.{answerNumbers, freshOf}
-use Rattle.model.specs.Texts.{Event, numbersText}
+use Rattle.model.specs.Texts.{bytes, comma, newline, Event, numbersText}
+use Rattle.model.specs.Readings.{numberAt}
 use Rattle.model.specs.Writings.{unwritten, fitted}
 use Rattle.model.specs.Reports.{answerNames, rowsText, reportText}
 use Rattle.model.specs.Executions.{attemptsOf}
@@ -16,10 +18,26 @@ use Rattle.grammar.specs.Exact.{Says}
 use Rattle.grammar.specs.Faults.{Fault}
 use Rattle.grammar.specs.Answers.{Wrote, RefusedWrite}
 use Rattle.tallies.specs.Tallies.{recordAll, startOf}
-use Rattle.intervals.specs.Intervals.{Interval, intervalsOf, traceIntervals, intervalsText, writeIntervalsOf}
+use Rattle.intervals.specs.Intervals.{End, ongoing, until, Interval, intervalsOf, traceIntervals, intervalText, intervalsText, writeIntervalsOf}
 use Rattle.intervals.specs.Runs.{RunIntervals}
 
 -- The text
+
+-- [11.47] [6.60] read as the numbers of a trace are, a text s starts with the number v and the byte `end`, and then comes the text t
+pub record ReadsNumber (end v : ℕ) (s t : List ℕ) : Type 0 where
+  pub size : ℕ
+  pub reads : (bound : ℕ) → v < bound → numberAt bound end s ≡ Value v size
+  pub then : drop size s ≡ t
+
+-- [11.47] [11.45] and so with what stands for the end of an interval
+abbrev pub ReadsEnd : End → List ℕ → List ℕ → Type 0
+ReadsEnd ongoing s t = s ≡ bytes "-\n" ++ t
+ReadsEnd (until m) s t = ReadsNumber newline m s t
+
+-- [11.47] [11.45] a line is read, field by field, as its interval, whatever follows it
+abbrev pub LineReads : Type 0
+LineReads = (i : Interval) (rest : List ℕ) → (s t : List ℕ)
+    × ReadsNumber comma (i .process) (intervalText i ++ rest) s × ReadsNumber comma (i .from) s t × ReadsEnd (i .to) t rest
 
 -- [11.47] it tells the intervals
 abbrev pub TextTellsAll : Type 0

@@ -34,7 +34,7 @@ unfoldable pub endOf : ℕ → List Attempt → End
 endOf p [] = ongoing
 endOf p (e ∷ es) = cond (isExit e && eqb (e .process) p) (until (e .time)) (endOf p es)
 
--- [11.20] an interval for each accepted crit, in their order; the list has the first attempt first, as no log has
+-- [11.20] an interval for each accepted crit, in their order; the list has the first attempt first, where a log of `Tallies` has the last first
 unfoldable pub intervalsOf : List Attempt → List Interval
 intervalsOf [] = []
 intervalsOf (e ∷ es) = cond (isEntry e) (interval (e .process) (e .time) (endOf (e .process) es) ∷ intervalsOf es) (intervalsOf es)

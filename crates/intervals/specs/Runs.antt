@@ -27,19 +27,19 @@ pub record AcceptedExit (e : Attempt) : Type 0 where
   pub accepted : e .code ≡ 0
   pub exit : e .action ≡ exitAct
 
--- [11.80] no process enters or leaves by these attempts
-abbrev pub Quiet : List Attempt → Type 0
-Quiet [] = Unit {0}
-Quiet (e ∷ es) = (AcceptedCrit e → ⊥) × (AcceptedExit e → ⊥) × Quiet es
+-- [11.80] none of these attempts is an accepted crit or exit, of whichever process
+abbrev pub NoCritNorExit : List Attempt → Type 0
+NoCritNorExit [] = Unit {0}
+NoCritNorExit (e ∷ es) = (AcceptedCrit e → ⊥) × (AcceptedExit e → ⊥) × NoCritNorExit es
 
 -- One interval
 
 -- [11.80] [11.90] where an interval of process p ends that began at the time `from`, by what was attempted after its crit: with the first
 -- exit of all, which is that of p and comes no earlier; or nowhere, as nobody enters or leaves any more
 pub data Ends (p from : ℕ) (after : List Attempt) : End → Type 0 where
-  left : (between : List Attempt) (e : Attempt) (rest : List Attempt) → after ≡ between ++ (e ∷ rest) → Quiet between → AcceptedExit e
+  exited : (between : List Attempt) (e : Attempt) (rest : List Attempt) → after ≡ between ++ (e ∷ rest) → NoCritNorExit between → AcceptedExit e
       → e .process ≡ p → from ≤ e .time → Ends p from after (until (e .time))
-  stays : Quiet after → Ends p from after ongoing
+  stays : NoCritNorExit after → Ends p from after ongoing
 
 -- [11.70] [11.80] i is the interval of the attempt e, a crit that was accepted, and then these attempts came
 pub record Covers (e : Attempt) (after : List Attempt) (i : Interval) : Type 0 where

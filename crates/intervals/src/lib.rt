@@ -16,8 +16,8 @@ ghost use Rattle.model.specs.Writings.{eventsOf, writeGave, fitted};
 ghost use Rattle.intervals.specs.Intervals.{writeIntervalsOf};
 ghost use Rattle.intervals.specs.Parts.{passText};
 
-// [11.50] [11.60] Writes the text for the steps in the lists, at most 8,187, from a state on. As `enough` bytes have room for it, only a
-// shorter output is measured first, so that it stays where it is too short.
+// [11.50] [11.60] Writes the text for the steps in the lists, at most 8,187, from a state on. `enough` bytes have room for the text; for a
+// shorter output it is measured first, by a run that puts nothing, so that an output that is too short stays as it was.
 fn write_run(
     out: &mut [u8],
     enough: usize,

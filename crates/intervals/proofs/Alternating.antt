@@ -1,5 +1,5 @@
--- Intervals of attempts that take turns: each is that of its crit and ends with its own exit, none meets the next, and the last one is open
--- where a process is critical at the end. Assumes nothing.
+-- Intervals of attempts that take turns: each is that of its crit and ends with its own exit, none begins before the one before it has
+-- ended, and the last one is open where a process is critical at the end. Assumes nothing.
 use Prim.Native.Nat.{ℕ, _≤_}
 use mathlib.Core.Path.{_≡_, refl, sym, ap, _∙_}
 use mathlib.Core.Logic.{_↔_}
@@ -27,7 +27,7 @@ module _ {e : Attempt} (es : List Attempt) where
 
   pub ended-there : {p : ℕ} → AcceptedExit e → e .process ≡ p → endOf p (e ∷ es) ≡ until (e .time)
   unfolding endOf
-  ended-there {p} h own = rw (exit-true h, eq-eqb _ p own)
+  ended-there {p} h own = simp (exit-true h, own, eq-eqb p p refl)
 
   pub same-end : (p : ℕ) → (AcceptedExit e → ⊥) → endOf p (e ∷ es) ≡ endOf p es
   unfolding endOf
@@ -36,8 +36,8 @@ module _ {e : Attempt} (es : List Attempt) where
 -- Where an interval ends
 
 ends-later : {p from : ℕ} {e : Attempt} {es : List Attempt} {x : End} → (AcceptedCrit e → ⊥) → (AcceptedExit e → ⊥) → Ends p from es x → Ends p from (e ∷ es) x
-ends-later {e = e} n m (Ends.left between l rest is quiet leaves own after) =
-    Ends.left (e ∷ between) l rest (λ i. e ∷ is i) (n, m, quiet) leaves own after
+ends-later {e = e} n m (Ends.exited between l rest is quiet leaves own after) =
+    Ends.exited (e ∷ between) l rest (λ i. e ∷ is i) (n, m, quiet) leaves own after
 ends-later n m (Ends.stays quiet) = Ends.stays (n, m, quiet)
 
 pub ends-own : {p t r from : ℕ} {es : List Attempt} → Alternate p t es r → 1 ≤ p → from ≤ t → Ends p from es (endOf p es)
@@ -45,7 +45,7 @@ unfolding endOf
 ends-own Alternate.ended some h = Ends.stays tt
 ends-own (Alternate.turned (Turn.enters _ none _ _ _ _) _) some h = absurd (omega arith)
 ends-own (Alternate.turned {e = e} {es = es} (Turn.leaves l own _ _ at on) _) some h =
-    rw (ended-there es l own) (Ends.left [] e es refl tt l own (omega (arith, at, on)))
+    rw (ended-there es l own) (Ends.exited [] e es refl tt l own (omega (arith, at, on)))
 ends-own {p} {from = from} (Alternate.turned {es = es} (Turn.passes n m same on) a) some h =
     rw (same-end es p m) (ends-later n m (rw same at (ends-own {from = from} a (omega (arith, same)) (omega arith))))
 
