@@ -34,7 +34,7 @@ for name in reference board_reference; do
 done
 compile reference_told reference --extern reference=reference/target/release/libreference.rlib --cfg told
 
-for name in library board_library stack; do
+for name in library board_library recording_library stack; do
     compile $name $name -L native=target/staticlib -l static=funnelfawn
 done
 for way in recorded told; do

@@ -70,6 +70,8 @@ goals() {
             judge("replay", 3, 0.8, "replay, of the reference")
             judge("spans", 3, 0.8, "spans, of the reference")
             judge("spans_beside_replay", 3, 1.05, "spans, of replay on the same recording")
+            # it is 1.5 where the steps are run twice, in one byte less
+            judge("spans_call", 2, 1.05, "funnelfawn_spans in as many bytes as the recording has, of funnelfawn_replay")
             judge("board", 8, 1.0, "a board through the C library, in every row, of the reference")
             judge_number(dearest, empty == 2 && dearest < 200, "an empty board, adding or showing: less than 200 instructions")
             # 23,180 while `replay` alone ran a recording, and the compiler set all of that into it

@@ -1,4 +1,4 @@
-# The three recordings on which bench/run measures `replay` and `spans`. Sourced by it.
+# The three recordings on which bench/run measures `replay` and `spans`, the programs and the calls. Sourced by it.
 
 # the shortest steps there are, 8,187 of them: a try that is accepted, and tries that are out of place
 tries() {
@@ -55,5 +55,26 @@ spans_beside_replay() {
         text=target/bench/$name
         times=$(target/bench/timer "${RUNS:-100}" "$text" target/bin/spans -- target/bin/replay)
         row spans_beside_replay $name "$name" 1 "$count" "$count_beside" $times
+    done
+}
+
+# call_counted CALL: its instructions on the recording `$text`, less what the program costs without a call
+call_counted() {
+    with=$(instructions "$text" target/bench/recording_library "$1")
+    without=$(instructions "$text" target/bench/recording_library none)
+    echo $((with - without))
+}
+
+# spans_calls: with an output that is as long as the recording the steps are run once, as those of a report are
+spans_calls() {
+    echo 'spans through the C library, output as long as the recording; replay'
+    library=target/bench/recording_library
+    for name in tries sales; do
+        text=target/bench/$name
+        [ "$($library spans <"$text")" = "$(target/bin/spans <"$text" | wc -c)" ] || fail "the recording $text: the library puts other spans"
+        count=$(call_counted spans)
+        count_beside=$(call_counted replay)
+        times=$(target/bench/timer "${RUNS:-100}" "$text" $library spans -- $library none -- $library replay -- $library none)
+        row spans_call $name "$name" 1 "$count" "$count_beside" $(echo $times | awk '{ print $1 - $2, $3 - $4 }')
     done
 }

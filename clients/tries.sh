@@ -1,4 +1,5 @@
 # What try_replay and try_spans have in common, which is all but the name of the program and the ending of what the corpus has stored of it.
+# Each sets `name` and `ending` and sources this, which makes the runs, tells of each that differs, and has the exit status at its end.
 [ $# -ge 1 ] && [ $# -le 2 ] || { echo "usage: try_$name DIRECTORY [PROVED]" >&2; exit 2; }
 directory=$1 proved=$2 corpus=reference/corpus
 
@@ -29,28 +30,36 @@ due() {
     cat "$directory/told"
 }
 
+# both FAULTY FAILED STACK: what the program in C and the proved one are to do alike, but for the status with which each ends where a
+# recording is faulty and where a read or a write fails, and the KiB of stack on which it runs
+both() {
+    due 0 "$printed" quiet '$program <$recording'
+    due 0 "$printed" quiet '{ dd bs=7 count=1; sleep 0.1; dd bs=50 count=1; sleep 0.1; cat; } <$recording 2>/dev/null | $program'
+    due 0 "$printed_long" quiet "ulimit -s $3; env -i \$program <\$long"
+    # an input without end
+    due "$1" "$printed_too_long" quiet '$program </dev/zero'
+    due "$1" "$printed_too_long" quiet 'yes 2>/dev/null | $program'
+    # what cannot be read, and what cannot be written
+    due "$2" /dev/null told '$program <.'
+    due "$2" /dev/null told '$program <&-'
+    due "$2" /dev/null told '$program <$recording >&-'
+    due "$2" /dev/null told '$program <$recording >/dev/full'
+}
+
 program=$directory/$name
 for each in "$corpus"/*.in; do
     each=$(basename "$each" .in)
     due "$(ends_with "$each")" "$(stored "$each")" quiet "\$program <$corpus/$each.in"
 done
+both 1 2 256
+# nowhere to tell why
 due 0 "$printed" quiet '$program <$recording 2>&-'
-due 0 "$printed" quiet '{ dd bs=7 count=1; sleep 0.1; dd bs=50 count=1; sleep 0.1; cat; } <$recording 2>/dev/null | $program'
-due 0 "$printed_long" quiet 'ulimit -s 256; env -i $program <$long'
-# an input without end
-due 1 "$printed_too_long" quiet '$program </dev/zero'
-due 1 "$printed_too_long" quiet 'yes 2>/dev/null | $program'
-# what cannot be read
-due 2 /dev/null told '$program <.'
-due 2 /dev/null told '$program <&-'
 due 2 /dev/null quiet '$program <&- 2>&-'
 due 2 /dev/null quiet '$program <&- >&- 2>&-'
-# what cannot be written, be the recording faulty or not: nothing of it, or a part
-due 2 /dev/null told '$program <$recording >&-'
 due 2 /dev/null quiet '$program <$recording >&- 2>&-'
-due 2 /dev/null told '$program <$recording >/dev/full'
-due 2 /dev/null told '$program </dev/null >/dev/full'
 due 2 /dev/null quiet '$program <$recording >/dev/full 2>&-'
+# a report that cannot be written, and a text of which a part can
+due 2 /dev/null told '$program </dev/null >/dev/full'
 due 2 /dev/null told 'ulimit -f 1; $program <$long >$directory/part'
 # a reader that has gone before it is written; or, of more than a pipe holds, on the way
 rm -f "$directory/gone"
@@ -69,15 +78,8 @@ due 2 "$printed_long" told 'FAULT=close $program <$long'
 beside=
 if [ -n "$proved" ]; then
     beside=" and the proved one" program=$proved
-    due 0 "$printed" quiet '$program <$recording'
-    due 0 "$printed" quiet '{ dd bs=7 count=1; sleep 0.1; dd bs=50 count=1; sleep 0.1; cat; } <$recording 2>/dev/null | $program'
-    due 0 "$printed_long" quiet 'ulimit -s 1024; env -i $program <$long'
-    due 0 "$printed_too_long" quiet '$program </dev/zero'
-    due 0 "$printed_too_long" quiet 'yes 2>/dev/null | $program'
-    due 0 /dev/null told '$program <.'
-    due 0 /dev/null told '$program <&-'
-    due 0 /dev/null told '$program <$recording >&-'
-    due 0 /dev/null told '$program <$recording >/dev/full'
+    # it has only 0 to end with
+    both 0 0 1024
 fi
 echo "the program $name in C$beside: $runs runs, $differ differ"
 [ "$differ" -eq 0 ]

@@ -1,6 +1,6 @@
-/* replay.c, or the program that PROGRAM names when this is compiled, on a system that misbehaves, as a real one seldom does when it is tried:
- * every other call is interrupted, none moves more than a few bytes, and the call that the environment variable FAULT names fails, a read
- * not before the second. */
+/* The program that PROGRAM names when this is compiled, on a system that misbehaves, as a real one seldom does when it is tried: every other
+ * call is interrupted, none moves more than a few bytes, and the call that the environment variable FAULT names fails, a read not before the
+ * second. */
 #define _POSIX_C_SOURCE 200809L
 
 #include <errno.h>
@@ -51,7 +51,4 @@ static int faulty_close(int descriptor)
 #define write(descriptor, bytes, length) faulty_write(descriptor, bytes, length)
 #define close(descriptor) faulty_close(descriptor)
 
-#ifndef PROGRAM
-#define PROGRAM "replay.c"
-#endif
 #include PROGRAM

@@ -304,8 +304,8 @@ static void spans(void)
     has_spans(HEAD "0,1,try\n3,1,test\n3,2,try\n4,2,test\n8,1,set\n9,2,set\n15,1,check\n16,1,check\n18,2,check\n24,0,wait\n20,1,test\n"
                    "20,2,crit\n19,0,wait\n",
               "window,from,to\n2,20,-\n");
-    has_spans(HEAD "0,1,try\n1,1,test\n2,1,set\n10,1,check\n10,2,crit\n12,1,crit\n13,2,exit\n16,1,exit\n18,1,reset\n18,2,try\n20,2,test\n"
-                   "21,2,set\n22,1,rem\n29,2,check\n31,2,crit\n",
+    has_spans(HEAD "0,1,try\n1,1,test\n2,1,set\n10,1,check\n10,2,crit\n12,1,crit\n11,1,exit\n13,2,exit\n16,1,exit\n18,1,reset\n18,2,try\n"
+                   "20,2,test\n21,2,set\n22,1,rem\n29,2,check\n31,2,crit\n",
               "window,from,to\n1,12,16\n2,31,-\n");
     has_spans(HEAD "0,2,try\n0,2,test\n0,2,set\n8,2,check\n8,2,crit\n8,2,crit\n7,2,exit\n8,1,exit\n8,2,exit\n8,2,exit\n",
               "window,from,to\n2,8,8\n");

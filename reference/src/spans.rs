@@ -1,5 +1,5 @@
-//! The ledger's reading of a recording, and what the program `spans` prints: section 11 of the specification.
-//! Who sold from when to when, by the run whose answers `replay` prints.
+//! The spans in which windows sell, and what the program `spans` prints: section 11 of the specification.
+//! They are put together in one pass over the run whose answers `replay` prints.
 
 use crate::answer::{answer, Answer, ACCEPTED};
 use crate::machine::{CRIT, EXIT};
@@ -20,16 +20,25 @@ pub struct Span {
 /// [11.20] One for each accepted crit, in their order.
 pub fn spans_of(recording: &Recording) -> Vec<Span> {
     let accepted = run(recording).filter(|taken| taken.answer.number == ACCEPTED);
-    let steps: Vec<Step> = accepted.map(|taken| taken.step).collect();
-    let crits = (0..steps.len()).filter(|&place| steps[place].act == CRIT);
-    crits.map(|place| span_from(&steps[place..])).collect()
+    let mut spans = Vec::new();
+    accepted.for_each(|taken| note(&mut spans, taken.step));
+    spans
 }
 
-/// [11.30] The span that begins with the first of these accepted steps.
-fn span_from(steps: &[Step]) -> Span {
-    let Step { window, time: from, .. } = steps[0];
-    let exit = steps.iter().find(|step| step.act == EXIT && step.window == window);
-    Span { window, from, to: exit.map(|exit| exit.time) }
+/// [11.30] What an accepted step makes of the spans so far: a crit opens one, an exit closes one.
+fn note(spans: &mut Vec<Span>, step: Step) {
+    let Step { time, window, act } = step;
+    match act {
+        CRIT => spans.push(Span { window, from: time, to: None }),
+        EXIT => last_open(spans, window).to = Some(time),
+        _ => {}
+    }
+}
+
+/// The last open span of a window whose exit is accepted.
+fn last_open(spans: &mut [Span], window: u64) -> &mut Span {
+    let mut backwards = spans.iter_mut().rev();
+    backwards.find(|span| span.window == window && span.to.is_none()).expect("a window that sells")
 }
 
 /// [11.40] The whole text, or why there is none.

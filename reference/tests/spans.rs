@@ -1,5 +1,6 @@
-//! The spans of a recording, over the corpus and generated recordings: those that `replay` tells of, by what it prints; one for each entry
-//! that a summary counts; and, as a call, in outputs of every length and with every fault.
+//! The spans of a recording, over the corpus and generated recordings: those that `replay` tells of, by what it prints; those from each
+//! accepted crit to the next exit of its window; one for each entry that a summary counts; and, as a call, in outputs of every length and
+//! with every fault.
 
 use reference::answer::*;
 use reference::generator::generate;
@@ -49,7 +50,7 @@ fn the_whole_case_ends_with_an_open_span() {
 /// [11.105]
 #[test]
 fn refused_acts_between_are_none() {
-    let text = include_bytes!("../corpus/spans-refused-between.in");
+    let text = include_bytes!("../../examples/spans.csv");
     assert_eq!(printed(text), "window,from,to\n1,12,16\n2,31,-\n");
 }
 
@@ -102,6 +103,26 @@ fn recorded(recording: &Recording) -> Recorded {
         }
     }
     recorded
+}
+
+/// [11.20] [11.30] As the clauses say it: for each crit the next exit of its window.
+fn looked_for(passages: &[Step]) -> Vec<Span> {
+    let crits = (0..passages.len()).filter(|&place| passages[place].act == CRIT);
+    crits.map(|place| span_from(&passages[place..])).collect()
+}
+
+/// The span that begins with the first of these.
+fn span_from(passages: &[Step]) -> Span {
+    let Step { window, time: from, .. } = passages[0];
+    let exit = passages.iter().find(|step| step.act == EXIT && step.window == window);
+    Span { window, from, to: exit.map(|exit| exit.time) }
+}
+
+#[test]
+fn each_crit_has_the_next_exit_of_its_window() {
+    for recording in recordings() {
+        assert_eq!(spans_of(&recording), looked_for(&recorded(&recording).passages));
+    }
 }
 
 fn ends(span: &Span) -> impl Iterator<Item = Step> {

@@ -39,8 +39,8 @@ pub enum Sight {
     NoSpan,
     JustRoom,
     OneShort,
-    RunOnce,
-    RunTwice,
+    OutputAsLong,
+    OutputShorter,
     FaultWithoutRoom,
 }
 
@@ -78,8 +78,8 @@ const SIGHTS: [(Sight, &str); 33] = [
     (NoSpan, "recordings without a span"),
     (JustRoom, "outputs with room for just the spans"),
     (OneShort, "outputs that are short of the spans by one byte"),
-    (RunOnce, "spans put into an output that is as long as the recording"),
-    (RunTwice, "spans put into a shorter one"),
+    (OutputAsLong, "spans put into an output that is at least as long as the recording"),
+    (OutputShorter, "spans put into an output that is shorter than the recording"),
     (FaultWithoutRoom, "faulty recordings with an output that is too short for any spans"),
 ];
 

@@ -1,4 +1,5 @@
 //! Random calls of spans, on recordings that are generated, faulty ones among them, and with outputs of any length and any bytes.
+//! Each is held to what the reference makes of it; what it came upon, of spans and of room for them, is counted.
 
 use crate::calls::{self, Verdict};
 use crate::sights::{Sight, Sights};
@@ -66,7 +67,7 @@ impl Asked<'_> {
         sights.look(Sight::OpenSpan, is_open);
         sights.look(Sight::NoSpan, spans == 0);
         sights.look(Sight::JustRoom, self.room == self.text.len());
-        sights.look(Sight::RunTwice, self.room < self.recording.len());
-        sights.look(Sight::RunOnce, self.room >= self.recording.len());
+        sights.look(Sight::OutputAsLong, self.room >= self.recording.len());
+        sights.look(Sight::OutputShorter, self.room < self.recording.len());
     }
 }

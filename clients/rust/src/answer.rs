@@ -21,8 +21,9 @@ pub struct Figures {
     pub longest_wait: u64,
 }
 
-/// Why nothing was done: [4.1] to [4.18] in their order, each with what the answer carries. A board that is not sound is a
-/// [`NoSummary`](Refusal::NoSummary), and for a board the clock of [`Backward`](Refusal::Backward) is the last moment that it was told.
+/// Why nothing was done: [4.1] to [4.18] in their order, each with what the answer carries, but for the line with 11 and 12, which a
+/// [`Fault`] has. A board that is not sound is a [`NoSummary`](Refusal::NoSummary), and for a board the clock of
+/// [`Backward`](Refusal::Backward) is the last moment that it was told.
 #[derive(Clone, Copy, Debug, PartialEq, Eq)]
 pub enum Refusal {
     NoTable,
@@ -53,7 +54,7 @@ pub enum Refusal {
 #[derive(Clone, Copy, Debug, PartialEq, Eq)]
 pub struct Fault {
     pub refusal: Refusal,
-    /// nothing where it is none of a line: the text is too long, or a lent output too short
+    /// nothing where the text is too long, which is the fault of no line
     pub line: Option<u64>,
 }
 
@@ -85,9 +86,8 @@ impl Answer {
         })
     }
 
-    /// Of a call that writes a text, as [`raw::spans`](crate::raw::spans) does: how many bytes it has, or why there is none, with the line
-    /// that the answer carries.
-    pub fn written(self) -> Result<usize, Fault> {
+    /// The answer of spans: how many bytes their text has, or why there is none, with the line that the answer carries.
+    pub(crate) fn written(self) -> Result<usize, Fault> {
         let line = (self.moment != 0).then_some(self.moment);
         self.result().map(|answer| answer.moment as usize).map_err(|refusal| Fault { refusal, line })
     }

@@ -152,8 +152,8 @@ pub fn replay(text: &[u8], out: &mut [u8]) -> Answer {
     unsafe { funnelfawn_replay(text.as_ptr(), text.len(), out.as_mut_ptr(), out.len()) }
 }
 
-/// As many bytes as the text has always suffice. A fault has its line for a moment, with 11 and 12 too, which
-/// [`Answer::written`] keeps.
+/// As many bytes as the text has always suffice. A fault has its line for a moment, with 11 and 12 too, whose [`Refusal`](crate::Refusal)
+/// has none; [`spans_text`](crate::spans_text) keeps it.
 pub fn spans(text: &[u8], out: &mut [u8]) -> Answer {
     unsafe { funnelfawn_spans(text.as_ptr(), text.len(), out.as_mut_ptr(), out.len()) }
 }

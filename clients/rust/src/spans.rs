@@ -1,4 +1,5 @@
-//! The spans of a recording: section 11 of docs/SPECIFICATION.md, which calls them intervals. Who sold, from when to when.
+//! The spans of a recording, who sold from when to when: section 11 of docs/SPECIFICATION.md, which calls them intervals.
+//! The library writes them as a text; the list is read off it, and a faulty recording gives its fault in place of either.
 
 use crate::answer::Fault;
 use crate::raw;

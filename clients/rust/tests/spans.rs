@@ -1,19 +1,16 @@
 //! The spans of recordings: who sold from when to when, and what a faulty recording gives.
+//! They are looked at as a list, as a text, beside the report of the same run, and in outputs of many lengths.
 
 use funnelfawn::raw::{self, Answer};
 use funnelfawn::{read, replay, spans, spans_text, Fault, Refusal, Span};
 
-/// The whole case [7.60], and the sale of the README's longest wait.
+/// The whole case [7.60], the sale of the README's longest wait, and that of its accounts, in which acts are refused between [11.105].
 const WHOLE_CASE: &[u8] = include_bytes!("../../../examples/two-windows.csv");
 const WAITS: &[u8] = include_bytes!("../../c/waits.csv");
+const REFUSED_BETWEEN: &[u8] = include_bytes!("../../../examples/spans.csv");
 
 const HEAD: &str = "windows,a,b,c\n2,5,8,12\ntime,window,act\n";
 const NAMES: &str = "window,from,to\n";
-
-/// Window 1 sells from 12 to 16, and window 2 from 31 on; a crit and an exit of window 2 before that are refused [11.105].
-const REFUSED_BETWEEN: &str =
-    "0,1,try\n1,1,test\n2,1,set\n10,1,check\n10,2,crit\n12,1,crit\n13,2,exit\n16,1,exit\n18,1,reset\n\
-     18,2,try\n20,2,test\n21,2,set\n22,1,rem\n29,2,check\n31,2,crit\n";
 
 /// Three sales of one window, of which the second takes no time; nothing that another window does or that is refused ends one.
 const THREE: &str = "0,1,try\n0,1,test\n0,1,set\n8,1,check\n8,1,crit\n7,1,exit\n8,2,try\n9,2,exit\n13,2,withdraw\n14,2,try\n15,1,exit\n\
@@ -41,10 +38,19 @@ fn assert_spans(recording: &[u8], list: &[Span], lines: &str) {
 #[test]
 fn open_and_closed() {
     assert_spans(WHOLE_CASE, &[open(2, 20)], "2,20,-\n");
-    assert_spans(&recording(REFUSED_BETWEEN), &[closed(1, 12, 16), open(2, 31)], "1,12,16\n2,31,-\n");
+    assert_spans(REFUSED_BETWEEN, &[closed(1, 12, 16), open(2, 31)], "1,12,16\n2,31,-\n");
     assert_spans(WAITS, &[closed(1, 150, 900), open(2, 1000)], "1,150,900\n2,1000,-\n");
     let three = [closed(1, 8, 15), closed(1, 25, 25), closed(1, 34, 40)];
     assert_spans(&recording(THREE), &three, "1,8,15\n1,25,25\n1,34,40\n");
+}
+
+/// The lines that the README's table under "Sales for the accounts" shows of the report, and that of the other exit which it tells of.
+#[test]
+fn the_report_in_the_readme() {
+    let report = String::from_utf8(replay(REFUSED_BETWEEN)).unwrap();
+    for line in ["8,9,2,0", "9,0,1,12", "10,4,0,12", "11,9,2,0", "12,0,0,16", "19,0,2,31"] {
+        assert!(report.lines().any(|reported| reported == line), "{line}");
+    }
 }
 
 #[test]
@@ -133,18 +139,16 @@ fn what_becomes_of_a_fault() {
 /// Of a text that has so many bytes: an output with less stays, and of one with more the rest.
 #[test]
 fn outputs() {
-    let recording = recording(REFUSED_BETWEEN);
-    let text = spans_text(&recording).unwrap();
-    for room in (0..text.len()).chain([text.len(), text.len() + 1, recording.len(), recording.len() + 3]) {
+    let text = spans_text(REFUSED_BETWEEN).unwrap();
+    let as_long = REFUSED_BETWEEN.len();
+    for room in (0..text.len() + 2).chain(as_long - 1..as_long + 3) {
         let mut out = vec![b'~'; room];
-        let answer = raw::spans(&recording, &mut out);
+        let answer = raw::spans(REFUSED_BETWEEN, &mut out);
         if room < text.len() {
             assert_eq!(answer, Answer { number: 16, window: 0, moment: 0 });
-            assert_eq!(answer.written(), Err(Fault { refusal: Refusal::ShortOutput, line: None }));
             assert_eq!(out, vec![b'~'; room]);
         } else {
             assert_eq!(answer, Answer { number: 0, window: 0, moment: text.len() as u64 });
-            assert_eq!(answer.written(), Ok(text.len()));
             assert_eq!(out, [&text[..], &vec![b'~'; room - text.len()]].concat());
         }
     }
@@ -161,7 +165,7 @@ fn a_fault_and_no_room() {
     }
 }
 
-/// As many sales as a recording has room for, each at the moment at which the one before has ended.
+/// As many sales as a recording has room for, each tried for at the moment at which the one before has ended.
 #[test]
 fn the_longest_recording() {
     let mut text = String::from("windows,a,b,c\n1,1,2,2\ntime,window,act\n");
@@ -177,6 +181,6 @@ fn the_longest_recording() {
         text += &round;
         list.push(closed(1, to, to));
     }
-    assert!(list.len() > 600);
+    assert_eq!(list.len(), 736);
     assert_eq!(spans(text.as_bytes()), Ok(list));
 }

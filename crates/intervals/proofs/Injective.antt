@@ -31,8 +31,7 @@ pub line-reads : LineReads
 unfolding intervalText
 line-reads i rest =
     let last : List ℕ = endText (i .to) ++ rest in
-    let second : List ℕ = numberText comma (i .from) ++ last in
-    (
+    let second : List ℕ = numberText comma (i .from) ++ last in (
       second,
       last,
       simp append-assoc (number-starts comma (i .process) second (omega arith)),

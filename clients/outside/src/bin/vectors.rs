@@ -17,7 +17,7 @@ fn files() -> [(&'static str, usize, Call); 6] {
         ("recorded.txt", 400, Box::new(stored::recorded)),
         ("reader.txt", 110, Box::new(stored::reader)),
         ("writer.txt", 160, Box::new(stored::writer)),
-        ("spans.txt", 84, Box::new(stored::spans)),
+        ("spans.txt", 90, Box::new(stored::spans)),
         ("board.txt", 141, Box::new(move |line| board.call(line))),
     ]
 }
