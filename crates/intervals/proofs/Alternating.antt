@@ -35,7 +35,8 @@ module _ {e : Attempt} (es : List Attempt) where
 
 -- Where an interval ends
 
-ends-later : {p from : ℕ} {e : Attempt} {es : List Attempt} {x : End} → (AcceptedCrit e → ⊥) → (AcceptedExit e → ⊥) → Ends p from es x → Ends p from (e ∷ es) x
+ends-later : {p from : ℕ} {e : Attempt} {es : List Attempt} {x : End} → (AcceptedCrit e → ⊥) → (AcceptedExit e → ⊥) → Ends p from es x
+    → Ends p from (e ∷ es) x
 ends-later {e = e} n m (Ends.exited between l rest is quiet leaves own after) =
     Ends.exited (e ∷ between) l rest (λ i. e ∷ is i) (n, m, quiet) leaves own after
 ends-later n m (Ends.stays quiet) = Ends.stays (n, m, quiet)

@@ -80,4 +80,9 @@ unfolding countOf
 entries-counted {s} f events room =
     let codes = same-codes [] (startOf s) events (along-start f) (omega arith) in
     let told = ap (λ (k : Counts). k .entries) (every-tally s f events .counts) in
-    omega (arith, told, entries-logged [] events (map codeOf (recordsOf (startOf s) events)), ap (λ (l : List ℕ). length (intervalsOf (attemptsOf events l))) codes)
+    omega (
+      arith,
+      told,
+      entries-logged [] events (map codeOf (recordsOf (startOf s) events)),
+      ap (λ (l : List ℕ). length (intervalsOf (attemptsOf events l))) codes,
+    )

@@ -21,9 +21,11 @@ names : (c : tie.After-put-text)
     → Put (c .before .before .before .before .before .before .before .before .args .out .now) (c .put-text .last .0) 0 answerNames (c .put-text .result)
 names c = c .put-text .ensures
 
--- the lists that `list` gave
+-- the lists that `step_list` gave
 abbrev made : tie.After-put-text → Lists
-made c = let third = c .before .before .before in lists (third .before .before .step-list .result) (third .before .step-list2 .result) (third .step-list3 .result)
+made c =
+    let third = c .before .before .before in
+    lists (third .before .before .step-list .result) (third .before .step-list2 .result) (third .step-list3 .result)
 
 length-made : (c : tie.After-put-text)
     → (length (made c .times) ≡ 8187) × (length (made c .processes) ≡ 8187) × (length (made c .actions) ≡ 8187)
