@@ -7,3 +7,4 @@ pub mod Waits
 pub mod Countings
 pub mod Tallies
 pub mod Cases
+pub mod Codes
