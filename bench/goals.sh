@@ -74,7 +74,7 @@ goals() {
             judge("spans_call", 2, 1.05, "funnelfawn_spans in as many bytes as the recording has, of funnelfawn_replay")
             judge("board", 8, 1.0, "a board through the C library, in every row, of the reference")
             judge_number(dearest, empty == 2 && dearest < 200, "an empty board, adding or showing: less than 200 instructions")
-            # 23,180 while `replay` alone ran a recording, and the compiler set all of that into it
+            # 23,180 while `replay` alone took the steps of a recording, and the compiler set these into it
             judge_number(archive, archive > 0 && archive <= 17000, "the archive: at most 17,000 bytes of code and constants")
             judge_number(step, step > 0 && step < 1024, "a step through the C library: less than 1,024 bytes of stack")
             judge_number(record, record > 0 && record < 1024, "a recorded step through the C library: less than 1,024 bytes of stack")
