@@ -1,8 +1,9 @@
-//! Seeded recordings for `compare`: walks that follow the machine and hit its edges, damaged texts, long texts; and lists of calls, of
-//! steps and of boards. The same seed and index always give the same recording, and the same list.
+//! Seeded recordings for `compare`: walks that follow the machine and hit its edges, damaged texts, long texts; lists of calls, of steps
+//! and of boards; and pairs of tables for the two engines. The same seed and index always give the same recording, list or pair.
 
 pub mod boards;
 mod damage;
+pub mod deadlines;
 mod length;
 pub mod lists;
 pub mod random;

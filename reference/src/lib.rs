@@ -5,6 +5,7 @@
 pub mod answer;
 pub mod board;
 pub mod board_list;
+pub mod deadline;
 pub mod generator;
 pub mod list;
 pub mod machine;

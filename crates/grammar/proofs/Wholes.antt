@@ -3,7 +3,7 @@ use mathlib.Core.Path.{refl}
 use Rattle.model.specs.Acts.{leaves}
 use Rattle.model.specs.States.{limitIn, entriesSound, soundOf, entryOf}
 use Rattle.model.specs.Actions.{transitionOf, effect}
-use Rattle.model.specs.Answers.{firstFrom, firstDeadline, criticalFrom, criticalOf, stepOf, freshOf}
+use Rattle.model.specs.Answers.{firstBy, firstDeadline, criticalBy, criticalOf, stepOf, freshOf}
 use Rattle.model.specs.Folds.{resultsBy}
 use Rattle.model.specs.Texts.{decimalIn, decimal, numberText, numbersText, firstLine}
 use Rattle.model.specs.Readings.{startsWith, numberFrom, wordFrom, eventAt, numbersFrom, headOf, bodyIn, bodyOf, traceOf}
@@ -11,7 +11,7 @@ use Rattle.model.specs.Reports.{rowsText, reportText}
 use Rattle.grammar.specs.Wholes.{WholeCase, NamesCase, EmptyCase}
 
 pub whole-case : WholeCase
-unfolding leaves limitIn entriesSound soundOf entryOf transitionOf effect firstFrom firstDeadline criticalFrom criticalOf stepOf freshOf
+unfolding leaves limitIn entriesSound soundOf entryOf transitionOf effect firstBy firstDeadline criticalBy criticalOf stepOf freshOf
     resultsBy decimalIn decimal numberText numbersText firstLine startsWith numberFrom wordFrom
     eventAt numbersFrom headOf bodyIn bodyOf traceOf rowsText reportText
 whole-case = refl

@@ -3,7 +3,7 @@ use mathlib.Core.Path.{refl}
 use Rattle.model.specs.Acts.{leaves}
 use Rattle.model.specs.States.{limitIn, entriesSound, soundOf, entryOf}
 use Rattle.model.specs.Actions.{transitionOf, effect}
-use Rattle.model.specs.Answers.{firstFrom, firstDeadline, criticalFrom, criticalOf, stepOf, freshOf}
+use Rattle.model.specs.Answers.{firstBy, firstDeadline, criticalBy, criticalOf, stepOf, freshOf}
 use Rattle.model.specs.Folds.{resultsBy}
 use Rattle.model.specs.Texts.{decimalIn, decimal, numberText, firstLine}
 use Rattle.model.specs.Readings.{startsWith, numberFrom, wordFrom, eventAt, numbersFrom, headOf, bodyIn, bodyOf, traceOf}
@@ -12,13 +12,13 @@ use Rattle.intervals.specs.Intervals.{endOf, intervalsOf, endText, inter
 use Rattle.intervals.specs.Cases.{WholeIntervals, TwoIntervals, NoIntervals, OwnExit}
 
 pub whole-intervals : WholeIntervals
-unfolding leaves limitIn entriesSound soundOf entryOf transitionOf effect firstFrom firstDeadline criticalFrom criticalOf stepOf freshOf
+unfolding leaves limitIn entriesSound soundOf entryOf transitionOf effect firstBy firstDeadline criticalBy criticalOf stepOf freshOf
     resultsBy decimalIn decimal numberText firstLine startsWith numberFrom wordFrom eventAt numbersFrom headOf bodyIn bodyOf traceOf
     attemptsOf endOf intervalsOf endText intervalText intervalLines intervalsText writeIntervalsOf
 whole-intervals out = refl
 
 pub two-intervals : TwoIntervals
-unfolding leaves limitIn entriesSound soundOf entryOf transitionOf effect firstFrom firstDeadline criticalFrom criticalOf stepOf freshOf
+unfolding leaves limitIn entriesSound soundOf entryOf transitionOf effect firstBy firstDeadline criticalBy criticalOf stepOf freshOf
     resultsBy decimalIn decimal numberText firstLine startsWith numberFrom wordFrom eventAt numbersFrom headOf bodyIn bodyOf traceOf
     attemptsOf endOf intervalsOf endText intervalText intervalLines intervalsText writeIntervalsOf
 two-intervals out = refl

@@ -12,7 +12,7 @@ use borrow.Author.Tests.{eqb-true}
 use Rattle.model.specs.declared.Process.{Process}
 use Rattle.model.specs.declared.State.{State}
 use Rattle.model.specs.States.{limitIn, limitOf, deadline, entrySound, entriesSound, soundOf}
-use Rattle.model.specs.Answers.{Due, due, noneDue, sooner, firstFrom, firstDeadline}
+use Rattle.model.specs.Answers.{Due, due, noneDue, sooner, firstFrom, firstBy, firstDeadline}
 use Rattle.rules.specs.declared.survey.Survey.{Survey}
 use Rattle.rules.specs.Survey.{sceneOf, numbersStand, nothing, noted}
 use Rattle.model.proofs.Tests.{by-test, tests}
@@ -102,7 +102,7 @@ module _ (s : State) (acting i k : ℕ) (f : Survey) (passed : Passed s acting i
   due-next = cond (sooner s (i + 1) q (passed .due-yet)) (due (i + 1) (deadline s (i + 1) q)) (passed .due-yet)
 
   due-left : firstFrom s (i + 1 + 1) due-next (drop (i + 1) (s .processes)) ≡ firstDeadline s
-  unfolding firstFrom
+  unfolding firstBy
   due-left = rw next-entry at (passed .due-left)
 
   critical-left :
@@ -138,7 +138,7 @@ module _ (s : State) (acting i k : ℕ) (f : Survey) (passed : Passed s acting i
 
 -- nothing is left after 96 entries
 pub passed-whole : (s : State) (acting i : ℕ) (f : Survey) → Passed s acting i f → 96 ≤ i → Whole s acting f
-unfolding entriesSound firstFrom othersFrom
+unfolding entriesSound firstBy othersFrom
 passed-whole s acting i f passed h =
     let e : drop i (s .processes) ≡ [] = drop-end (s .processes) i (omega (arith, passed .size)) (omega (arith, passed .size, passed .most)) in
     record {

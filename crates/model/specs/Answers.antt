@@ -58,14 +58,22 @@ due process time = record { process = process; time = time }
 abbrev pub noneDue : Due
 noneDue = due 0 0
 
+-- [4.8] a deadline, if there is one, comes before the first one found so far
+abbrev pub soonerBy : Bool → ℕ → Due → Bool
+soonerBy has time first = has && (eqb (first .process) 0 || ltb time (first .time))
+
+-- [4.8] [12.50] the search of both engines: which of the entries from process i on has a deadline, and which one, is told by `has` and `time`
+unfoldable pub firstBy : {E : Type 0} → (E → Bool) → (ℕ → E → ℕ) → ℕ → Due → List E → Due
+firstBy has time i first [] = first
+firstBy has time i first (q ∷ qs) = firstBy has time (i + 1) (cond (soonerBy (has q) (time i q) first) (due i (time i q)) first) qs
+
 -- [4.8] the deadline of entry q, of process i, comes before the first one found so far
 abbrev pub sooner : State → ℕ → Process → Due → Bool
-sooner s i q first = bounded s q && (eqb (first .process) 0 || ltb (deadline s i q) (first .time))
+sooner s i q first = soonerBy (bounded s q) (deadline s i q) first
 
 -- [4.8] the first deadline of these and of the entries from process i on: the smallest, and of equal ones that of the lowest process
-unfoldable pub firstFrom : State → ℕ → Due → List Process → Due
-firstFrom s i first [] = first
-firstFrom s i first (q ∷ qs) = firstFrom s (i + 1) (cond (sooner s i q first) (due i (deadline s i q)) first) qs
+abbrev pub firstFrom : State → ℕ → Due → List Process → Due
+firstFrom s i first qs = firstBy (bounded s) (deadline s) i first qs
 
 -- [4.8] the first deadline of a state
 unfoldable pub firstDeadline : State → Due
@@ -76,19 +84,31 @@ abbrev pub missed : Due → ℕ → Bool
 missed first m = not (eqb (first .process) 0) && ltb (first .time) m
 
 -- [4.9]
+abbrev pub misplacedAt : ℕ → ℕ → Bool
+misplacedAt stage act = not (eqb act waitAct) && not (eqb stage (leaves act))
+
+-- [4.9] in a state
 abbrev pub misplaced : State → ℕ → ℕ → Bool
-misplaced s act p = not (eqb act waitAct) && not (eqb (stageOf (entryOf s p .location)) (leaves act))
+misplaced s act p = misplacedAt (stageOf (entryOf s p .location)) act
 
 -- [4.10]
+abbrev pub earlyAt : ℕ → ℕ → ℕ → Bool
+earlyAt release act m = eqb act checkAct && ltb m release
+
+-- [4.10] in a state
 abbrev pub early : State → ℕ → ℕ → ℕ → Bool
-early s act p m = eqb act checkAct && ltb m (release s (entryOf s p))
+early s act p m = earlyAt (release s (entryOf s p)) act m
 
 -- An accepted action
 
 -- [4.60] the lowest critical process from i on
-unfoldable pub criticalFrom : ℕ → List Process → ℕ
-criticalFrom i [] = 0
-criticalFrom i (q ∷ qs) = cond (eqb (stageOf (q .location)) critical) i (criticalFrom (i + 1) qs)
+unfoldable pub criticalBy : {E : Type 0} → (E → ℕ) → ℕ → List E → ℕ
+criticalBy stage i [] = 0
+criticalBy stage i (q ∷ qs) = cond (eqb (stage q) critical) i (criticalBy stage (i + 1) qs)
+
+-- [4.60] of a state
+abbrev pub criticalFrom : ℕ → List Process → ℕ
+criticalFrom i qs = criticalBy (λ q. stageOf (q .location)) i qs
 
 -- [4.60] the lowest critical process of a state
 unfoldable pub criticalOf : State → ℕ
@@ -98,27 +118,55 @@ criticalOf s = criticalFrom 1 (s .processes)
 abbrev pub accepts : State → Outcome
 accepts s = answers 0 (criticalOf s) (s .clock) s
 
--- [3.45] [4.80] [4.83] [4.110] [4.1] [4.4] [4.5] [4.6] [4.7] [4.8] [4.9] [4.10] one condition a line, with what the answer carries; a
--- refusal gives the state back
+-- The judgement
+
+-- [4.80] what the conditions look at, in a state of either engine, when a process acts: whether it is sound, n, the clock, the first deadline, the
+-- stage of the process and its release
+pub record Sight : Type 0 where
+  pub sound : Bool
+  pub n : ℕ
+  pub clock : ℕ
+  pub first : Due
+  pub stage : ℕ
+  pub release : ℕ
+
+-- [4.80] [4.83] [4.1] [4.4] [4.5] [4.6] [4.7] [4.8] [4.9] [4.10] one condition a line, with what the answer carries: what a refusal gives back, and
+-- what an acceptance does, is the engine's
+abbrev pub judgedBy : {A : Type 0} → Sight → ℕ → ℕ → ℕ → (ℕ → ℕ → ℕ → A) → A → A
+judgedBy v act p m refuses accepted =
+    cond (not (v .sound)) (refuses 1 0 0)
+    (cond (ltb m (v .clock)) (refuses 4 0 (v .clock))
+    (cond (beyond m) (refuses 5 0 0)
+    (cond (unknown act) (refuses 6 0 0)
+    (cond (misnamed (v .n) act p) (refuses 7 0 0)
+    (cond (missed (v .first) m) (refuses 8 (v .first .process) (v .first .time))
+    (cond (misplacedAt (v .stage) act) (refuses 9 p 0)
+    (cond (earlyAt (v .release) act m) (refuses 10 p (v .release))
+    accepted)))))))
+
+-- [4.80] of a state, when process p acts
+abbrev pub sightOf : State → ℕ → Sight
+sightOf s p = record {
+  sound = soundOf s;
+  n = s .parameters .n;
+  clock = s .clock;
+  first = firstDeadline s;
+  stage = stageOf (entryOf s p .location);
+  release = release s (entryOf s p);
+}
+
+-- [3.45] [4.80] [4.110] a refusal gives the state back
 unfoldable pub stepOf : State → ℕ → ℕ → ℕ → Outcome
-stepOf s act p m =
-    cond (not (soundOf s)) (answers 1 0 0 s)
-    (cond (backward s m) (answers 4 0 (s .clock) s)
-    (cond (beyond m) (answers 5 0 0 s)
-    (cond (unknown act) (answers 6 0 0 s)
-    (cond (misnamed (s .parameters .n) act p) (answers 7 0 0 s)
-    (cond (missed (firstDeadline s) m) (answers 8 (firstDeadline s .process) (firstDeadline s .time) s)
-    (cond (misplaced s act p) (answers 9 p 0 s)
-    (cond (early s act p m) (answers 10 p (release s (entryOf s p)) s)
-    (accepts (effect s act p m)))))))))
+stepOf s act p m = judgedBy (sightOf s p) act p m (λ code process time. answers code process time s) (accepts (effect s act p m))
 
 -- [4.100]
 abbrev pub blank : State
 blank = initial noParameters
 
--- [2.65] [4.90] [4.100] [4.11] [4.12] [4.70]
+-- [4.90] [4.11] [4.12] what a call for a fresh state of either engine judges
+abbrev pub freshBy : {A : Type 0} → Parameters → (ℕ → A) → A → A
+freshBy k refuses accepted = cond (not (countStands k)) (refuses 11) (cond (not (limitsStand k)) (refuses 12) accepted)
+
+-- [2.65] [4.90] [4.100] [4.70]
 unfoldable pub freshOf : Parameters → Outcome
-freshOf k =
-    cond (not (countStands k)) (answers 11 0 0 blank)
-    (cond (not (limitsStand k)) (answers 12 0 0 blank)
-    (answers 0 0 0 (initial k)))
+freshOf k = freshBy k (λ code. answers code 0 0 blank) (answers 0 0 0 (initial k))

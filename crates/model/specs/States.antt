@@ -117,13 +117,21 @@ stay limit c l = cond (eqb (stageOf l) checking) c limit
 abbrev pub bounded : State → Process → Bool
 bounded s q = timed (q .location)
 
--- [2.90] [2.95] the deadline of an entry that has one
-abbrev pub deadline : State → ℕ → Process → ℕ
-deadline s i q = sinceOf (q .location) + stay (limitOf s i) (s .parameters .c) (q .location)
+-- [2.90] [2.95] the deadline of a process in a location that has one
+abbrev pub deadlineIn : Parameters → ℕ → Location → ℕ
+deadlineIn k i l = sinceOf l + stay (limitIn k i) (k .c) l
 
--- [2.100]
+-- [2.90] of an entry
+abbrev pub deadline : State → ℕ → Process → ℕ
+deadline s i q = deadlineIn (s .parameters) i (q .location)
+
+-- [2.100] the release in a location
+abbrev pub releaseIn : Parameters → Location → ℕ
+releaseIn k l = sinceOf l + cond (eqb (stageOf l) checking) (k .b) 0
+
+-- [2.100] of an entry
 abbrev pub release : State → Process → ℕ
-release s q = sinceOf (q .location) + cond (eqb (stageOf (q .location)) checking) (s .parameters .b) 0
+release s q = releaseIn (s .parameters) (q .location)
 
 -- [2.120] the deadline, if there is one, is before the time m
 abbrev pub late : State → ℕ → ℕ → Process → Bool

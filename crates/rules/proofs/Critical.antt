@@ -12,7 +12,7 @@ use Rattle.model.specs.declared.Location.{Location}
 use Rattle.model.specs.declared.Process.{Process}
 use Rattle.model.specs.Stages.{critical}
 use Rattle.model.specs.States.{entry, idle, stageOf}
-use Rattle.model.specs.Answers.{criticalFrom}
+use Rattle.model.specs.Answers.{criticalFrom, criticalBy}
 use Rattle.rules.specs.Judging.{otherCritical, othersFrom, lowestOf}
 use Rattle.model.proofs.Lists.{drop-at}
 use Rattle.model.proofs.Tests.{by-test, if-eq}
@@ -20,13 +20,13 @@ use Rattle.model.proofs.Tests.{by-test, if-eq}
 -- those from place i on: that at i, and those from i + 1 on
 pub critical-at : (k : ℕ) (l : List Process) (i : ℕ) (d : Process) → i < length l
     → criticalFrom k (drop i l) ≡ cond (eqb (stageOf (getD l i d .location)) critical) k (criticalFrom (k + 1) (drop (i + 1) l))
-unfolding criticalFrom
+unfolding criticalBy
 critical-at k l i d h = rw (drop-at l i d h)
 
 -- where none from place i on is critical, there is no lowest of them
 pub critical-none : (k : ℕ) (l : List Process) (i : ℕ) → ((j : ℕ) → i ≤ j → stageOf (getD l j idle .location) ≢ critical)
     → criticalFrom k (drop i l) ≡ 0
-unfolding criticalFrom
+unfolding criticalBy
 critical-none k [] zero h = refl
 critical-none k [] (suc i) h = refl
 critical-none k (q ∷ qs) zero h = rw (ne-eqb _ _ (h 0 (omega arith))) (critical-none (k + 1) qs zero (λ j g. h (suc j) (omega arith)))
@@ -42,7 +42,7 @@ other-is-critical acting k q n =
 
 -- without the acting process in the list they are all the critical ones: a wait is of process 0
 pub others-all : (acting k : ℕ) (l : List Process) → acting < k → criticalFrom k l ≡ othersFrom acting k l
-unfolding criticalFrom othersFrom
+unfolding criticalBy othersFrom
 others-all acting k [] h = refl
 others-all acting k (q ∷ qs) h =
     rw (other-is-critical acting k q (λ e. omega arith), others-all acting (k + 1) qs (omega arith))
@@ -50,7 +50,7 @@ others-all acting k (q ∷ qs) h =
 -- where the acting process, which has place i in the list, is not critical, they are all the critical ones too
 pub others-not-own : (acting k : ℕ) (l : List Process) (i : ℕ) → acting ≡ k + i → stageOf (getD l i idle .location) ≢ critical
     → criticalFrom k l ≡ othersFrom acting k l
-unfolding criticalFrom othersFrom
+unfolding criticalBy othersFrom
 others-not-own acting k [] i e n = refl
 others-not-own acting k (q ∷ qs) zero e n =
     rw (own-not-other acting k q (omega arith), ne-eqb _ _ n) (others-all acting (k + 1) qs (omega arith))
@@ -86,7 +86,7 @@ module _ (acting k others : ℕ) (to : Location) where
 -- the acting process, which has place i in the list, comes to a location
 pub others-moved : (acting k : ℕ) (l : List Process) (i : ℕ) (to : Location) → acting ≡ k + i → i < length l → 1 ≤ k
     → criticalFrom k (set l i (entry to)) ≡ lowestOf (othersFrom acting k l) acting to
-unfolding criticalFrom othersFrom
+unfolding criticalBy othersFrom
 others-moved acting k [] i to e h z = absurd (omega arith)
 others-moved acting k (q ∷ qs) zero to e h z =
     rw (own-not-other acting k q (omega arith), others-all acting (k + 1) qs (omega arith))
@@ -99,7 +99,7 @@ others-moved acting k (q ∷ qs) (suc i) to e h z =
 pub others-past : (acting k : ℕ) (l : List Process) (i : ℕ) (q : Process) → acting ≡ k + i → 1 ≤ k
     → (othersFrom acting k l ≢ 0 → acting ≤ othersFrom acting k l)
     → criticalFrom (acting + 1) (drop (suc i) (set l i q)) ≡ othersFrom acting k l
-unfolding criticalFrom othersFrom
+unfolding criticalBy othersFrom
 others-past acting k [] i q e z h = refl
 others-past acting k (r ∷ qs) zero q e z h =
     let f : acting ≡ k = omega arith in

@@ -3,7 +3,7 @@ use mathlib.Core.Path.{refl}
 use Rattle.model.specs.Acts.{leaves}
 use Rattle.model.specs.States.{limitIn, entriesSound, soundOf, entryOf}
 use Rattle.model.specs.Actions.{transitionOf, effect}
-use Rattle.model.specs.Answers.{firstFrom, firstDeadline, criticalFrom, criticalOf, stepOf}
+use Rattle.model.specs.Answers.{firstBy, firstDeadline, criticalBy, criticalOf, stepOf}
 use Rattle.model.specs.Folds.{endBy, resultsBy, logBy}
 use Rattle.model.specs.Summaries.{waitedSound, statisticsSound, waitedOn, acceptedCounted, answerCounted, recordedOf}
 use Rattle.model.specs.Tallies.{countOf, clockAfter, criticalAfter, unusedSince, longestWait}
@@ -11,6 +11,6 @@ use Rattle.tallies.specs.Cases.{WaitCase}
 
 pub wait-case : WaitCase
 unfolding endBy resultsBy logBy recordedOf statisticsSound waitedSound answerCounted acceptedCounted waitedOn
-    stepOf soundOf entriesSound firstDeadline firstFrom entryOf leaves transitionOf effect criticalOf criticalFrom limitIn
+    stepOf soundOf entriesSound firstDeadline firstBy entryOf leaves transitionOf effect criticalOf criticalBy limitIn
     countOf clockAfter criticalAfter unusedSince longestWait
 wait-case = record { answered = refl; waited = refl; counted = refl; told = refl }

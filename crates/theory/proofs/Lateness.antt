@@ -10,7 +10,7 @@ use borrow.Author.Tests.{ltb-true, ne-eqb}
 use Rattle.model.specs.declared.Process.{Process}
 use Rattle.model.specs.declared.State.{State}
 use Rattle.model.specs.States.{bounded, deadline}
-use Rattle.model.specs.Answers.{Due, due, noneDue, sooner, firstFrom, firstDeadline, missed}
+use Rattle.model.specs.Answers.{Due, due, noneDue, sooner, firstFrom, firstBy, firstDeadline, missed}
 use Rattle.model.specs.Facts.{HasDeadline}
 use Rattle.theory.specs.Lateness.{IsFirst, FirstTold, FirstMissed, FirstIsFirst, NoneMissedIffAllInTime}
 use Rattle.model.proofs.Tests.{by-cond, if-eq, and-true-iff, tests}
@@ -86,7 +86,7 @@ searched-cons some (taken h b) (found f c) =
     found (first-of-rest (λ e g. omega (arith, deadline-unique h g)) f) (λ n. omega (arith, b n))
 
 searched : (s : State) (i : ℕ) (first : Due) (qs : List Process) → 1 ≤ i → Searched s i first qs (firstFrom s i first qs)
-unfolding firstFrom
+unfolding firstBy
 searched s i first [] some = none (λ j q a. elim a [ ])
 searched s i first (q ∷ qs) some = searched-cons some (picked s i q first) (searched s (i + 1) _ qs (omega arith))
 

@@ -13,7 +13,7 @@ use Rattle.model.specs.declared.State.{State}
 use Rattle.model.specs.Stages.{critical}
 use Rattle.model.specs.States.{stageOf}
 use Rattle.model.specs.Actions.{effect}
-use Rattle.model.specs.Answers.{criticalFrom, criticalOf, accepts}
+use Rattle.model.specs.Answers.{criticalFrom, criticalBy, criticalOf, accepts}
 use Rattle.model.specs.Facts.{IsCritical}
 use Rattle.theory.specs.Lowest.{LowestCritical, Tells, AcceptedTells}
 use Rattle.model.proofs.Tests.{by-cond}
@@ -44,7 +44,7 @@ searched-cons h (found f) = found (record {
 })
 
 searched : (i : ℕ) (qs : List Process) → Searched i qs (criticalFrom i qs)
-unfolding criticalFrom
+unfolding criticalBy
 searched i [] = none (λ j q a. elim a [ ])
 searched i (q ∷ qs) = by-cond (Searched i (q ∷ qs)) (eqb (stageOf (q .location)) critical)
     (λ e. found (record {

@@ -4,7 +4,7 @@ use mathlib.Core.Path.{refl}
 use Rattle.model.specs.Acts.{leaves}
 use Rattle.model.specs.States.{limitIn, entriesSound, soundOf, entryOf}
 use Rattle.model.specs.Actions.{transitionOf, effect}
-use Rattle.model.specs.Answers.{firstFrom, firstDeadline, criticalFrom, criticalOf, stepOf, freshOf}
+use Rattle.model.specs.Answers.{firstBy, firstDeadline, criticalBy, criticalOf, stepOf, freshOf}
 use Rattle.run_cases.specs.Cases.{calledOf, expectedOf}
 use Rattle.run_cases.proofs.Cases.{sameAnswer, sameParameters, sameEntry, sameEntries, sameState, sameOutcome, passes, hold}
 use Rattle.run_cases.proofs.rows.table.Statement.{statement}
@@ -12,7 +12,7 @@ use Rattle.run_cases.proofs.rows.table.Tie as tie
 
 returns : tie.Need-returns
 unfolding passes sameOutcome sameState sameEntries sameEntry sameParameters sameAnswer calledOf expectedOf freshOf stepOf soundOf entriesSound
-    firstDeadline firstFrom entryOf leaves transitionOf effect criticalOf criticalFrom limitIn
+    firstDeadline firstBy entryOf leaves transitionOf effect criticalOf criticalBy limitIn
 returns c = hold _ _ refl
 
 pub table-spec : {M : Type 1} → statement M

@@ -1,0 +1,195 @@
+//! Pairs of tables that match, one with arrivals and one with deadlines: sound ones, those that no list of calls reaches too, and damaged
+//! ones, among them tables of deadlines that match no table at all.
+
+use super::random::Random;
+use super::walk::small_values;
+use crate::deadline::*;
+use crate::list::number_of;
+use crate::machine::*;
+
+/// The numbers of the places that have moments, and of checking among them.
+const TIMED: [u64; 6] = [1, 2, CHECKING, 4, 6, 7];
+const CHECKING: u64 = 3;
+
+/// A sound table, with any places at any clock, and the table of deadlines that it matches.
+pub fn sound_pair(random: &mut Random) -> (Table, DeadlineTable) {
+    let table = sound_table(random);
+    (table, deadlines_of(&table))
+}
+
+fn sound_table(random: &mut Random) -> Table {
+    let (_, mut table) = fresh(values(random));
+    table.clock = match random.below(5) {
+        0 => random.below(40),
+        1 => random.below(CLOCK_END),
+        2 => CLOCK_END - random.below(40),
+        3 => CLOCK_END,
+        _ => 0,
+    };
+    table.word = random.between(0, table.values.n);
+    let percent = random.pick(&[20, 60, 100]);
+    for entry in 0..table.values.n as usize {
+        if random.chance(percent) {
+            table.places[entry] = sound_place(random, &table);
+        }
+    }
+    table
+}
+
+fn values(random: &mut Random) -> Values {
+    match random.below(4) {
+        0 => Values { a: 9_999_999, b: LIMIT_END, c: LIMIT_END, ..small_values(random, 1, 4) },
+        1 => small_values(random, 90, 96),
+        _ => small_values(random, 1, 5),
+    }
+}
+
+/// Any place, with an arrival that is sound, as early and as late as may be now and then.
+fn sound_place(random: &mut Random, table: &Table) -> Place {
+    let number = random.below(8);
+    let (_, limit) = limits(&table.values, number);
+    let soonest = table.clock.saturating_sub(limit);
+    let any = random.between(soonest, table.clock);
+    let arrival = random.pick(&[soonest, any, any, table.clock]);
+    Place::numbered(number, arrival).expect("one of the eight")
+}
+
+/// How long after its arrival a window may act at the place of that number, and how long after it the window has to.
+fn limits(values: &Values, number: u64) -> (u64, u64) {
+    if number == CHECKING {
+        (values.b, values.c)
+    } else {
+        (0, values.a)
+    }
+}
+
+/// The table of deadlines that a table matches; past 2^64 a moment starts at 0 again, and then they do not match.
+fn deadlines_of(table: &Table) -> DeadlineTable {
+    let &Table { values, clock, word, places } = table;
+    let held = |place| {
+        let number = number_of(place);
+        let moments = moments_from(limits(&values, number), place.arrival().unwrap_or(0));
+        DeadlinePlace::numbered(number, moments).expect("one of the eight")
+    };
+    DeadlineTable { values, clock, word, places: places.map(held) }
+}
+
+fn moments_from((least, most): (u64, u64), arrival: u64) -> Moments {
+    Moments { first: arrival.wrapping_add(least), last: arrival.wrapping_add(most) }
+}
+
+/// What is wrong with a table.
+#[derive(Clone, Copy, Debug, PartialEq, Eq)]
+pub enum Damage {
+    /// the number of windows or the limits do not stand
+    Values,
+    /// the clock is past its end
+    Clock,
+    /// the word names a window above n
+    Word,
+    /// a window above n is not in remainder
+    AboveN,
+    /// an arrival is after the clock
+    Later,
+    /// a last moment is before the clock
+    Past,
+    /// an arrival is near 2^64, and so are the moments, or they are small again
+    Huge,
+    /// the two moments are of different arrivals
+    Apart,
+    /// a check has its first moment before b, so that it would have come before moment 0
+    BelowB,
+}
+
+impl Damage {
+    pub const ALL: [Damage; 9] = [
+        Damage::Values,
+        Damage::Clock,
+        Damage::Word,
+        Damage::AboveN,
+        Damage::Later,
+        Damage::Past,
+        Damage::Huge,
+        Damage::Apart,
+        Damage::BelowB,
+    ];
+}
+
+/// A table of deadlines that is not sound, with the table that it matches, if there is one.
+pub fn damaged_pair(random: &mut Random, damage: Damage) -> (Option<Table>, DeadlineTable) {
+    let mut table = sound_table(random);
+    // a window in a timed place, which some of the damage is done to
+    let number = if damage == Damage::BelowB { CHECKING } else { random.pick(&TIMED) };
+    let entry = random.index(table.values.n as usize);
+    let (_, limit) = limits(&table.values, number);
+    let arrival = damage_table(random, &mut table, damage, limit);
+    table.places[entry] = Place::numbered(number, arrival).expect("one of the eight");
+    let mut deadlines = deadlines_of(&table);
+    damage_moments(random, &mut deadlines, damage, entry);
+    (matching(&table, &deadlines).then_some(table), deadlines)
+}
+
+/// Does what a table of arrivals can show, and gives the arrival of the picked window, which has to act so long after it.
+fn damage_table(random: &mut Random, table: &mut Table, damage: Damage, limit: u64) -> u64 {
+    match damage {
+        Damage::Values => damage_values(random, &mut table.values),
+        Damage::Clock => table.clock = random.pick(&[CLOCK_END + 1, 1 << 63, u64::MAX]),
+        Damage::Word => table.word = random.pick(&[table.values.n + 1, 97, u64::MAX]),
+        Damage::AboveN => place_above_n(random, table),
+        Damage::Later => return table.clock + random.between(1, 3),
+        Damage::Past => {
+            table.clock = table.clock.max(limit + 3);
+            return table.clock - limit - random.between(1, 3);
+        }
+        Damage::Huge => return u64::MAX - random.below(2 * limit),
+        Damage::Apart | Damage::BelowB => {}
+    }
+    table.clock
+}
+
+fn damage_values(random: &mut Random, values: &mut Values) {
+    match random.below(6) {
+        0 => values.n = random.pick(&[0, 97, u64::MAX]),
+        1 => values.a = 0,
+        2 => values.a = values.b,
+        3 => values.b = values.c + 1,
+        4 => values.c = random.pick(&[LIMIT_END + 1, u64::MAX]),
+        _ => values.a = u64::MAX,
+    }
+}
+
+fn place_above_n(random: &mut Random, table: &mut Table) {
+    table.values.n = table.values.n.min(WINDOWS as u64 - 1);
+    table.word = table.word.min(table.values.n);
+    let above = random.between(table.values.n + 1, WINDOWS as u64);
+    let number = random.between(1, 7);
+    table.places[above as usize - 1] = Place::numbered(number, table.clock).expect("one of the eight");
+}
+
+/// Does what only a table of deadlines can show to the moments of a window.
+fn damage_moments(random: &mut Random, deadlines: &mut DeadlineTable, damage: Damage, entry: usize) {
+    let place = &mut deadlines.places[entry];
+    let Values { b, c, .. } = deadlines.values;
+    let moments = match (damage, place.moments()) {
+        (Damage::Apart, Some(moments)) => drawn_apart(random, moments),
+        (Damage::BelowB, Some(_)) => {
+            let before = random.between(1, b);
+            Moments { first: b - before, last: c - before }
+        }
+        _ => return,
+    };
+    *place = DeadlinePlace::numbered(place.number(), moments).expect("one of the eight");
+}
+
+/// One of the two moments is another than it was.
+fn drawn_apart(random: &mut Random, moments: Moments) -> Moments {
+    let Moments { first, last } = moments;
+    let off = random.between(1, 3);
+    match random.below(5) {
+        0 => Moments { first: first + off, last },
+        1 => Moments { first: first.wrapping_sub(off), last },
+        2 => Moments { first, last: last + off },
+        3 => Moments { first, last: last.wrapping_sub(off) },
+        _ => Moments { first, last: u64::MAX },
+    }
+}
