@@ -29,8 +29,8 @@ use Rattle.rules.specs.declared.survey.Survey.{Survey}
 use Rattle.rules.specs.Judging.{slotOf, checkFrom, rowOf, judged}
 use Rattle.rules.proofs.Rows.{row-is}
 use Rattle.rules.proofs.Slots.{slot-in}
-use Rattle.machine.proofs.Pass.{Whole, Surveyed}
-use Rattle.machine.proofs.Judged.{Goes, refuses, waits, moves, goes}
+use Rattle.rules.proofs.Pass.{Whole, Surveyed}
+use Rattle.rules.proofs.Judged.{Goes, refuses, waits, moves, goes}
 use Rattle.layout.specs.Steps.{sceneIn, rowIn, answerIn, actionPut, actedIn, surveyIn}
 use Rattle.layout.proofs.Entries.{entry-in, entries-size}
 use Rattle.layout.proofs.Surveys.{tellSound, Found, faulty, whole, survey-found}

@@ -26,7 +26,7 @@ use Rattle.rules.specs.declared.survey.Scene.{Scene}
 use Rattle.rules.specs.declared.survey.Survey.{Survey}
 use Rattle.rules.specs.Survey.{numbersStand, sceneOf, nothing, unsound, noted, numbersNoted}
 use Rattle.layout.proofs.Looks.{numbers-noted, numbers-faulty}
-use Rattle.machine.proofs.Pass.{standing, sound-parts, Passed, nothing-passed, turn-fault, turn-passed, passed-whole, Whole}
+use Rattle.rules.proofs.Pass.{standing, sound-parts, Passed, nothing-passed, turn-fault, turn-passed, passed-whole, Whole}
 use Rattle.layout.specs.Steps.{entriesNoted, sceneIn, passIn, surveyIn}
 
 -- Whether the numbers of a table tell a sound one

@@ -2,7 +2,7 @@
 -- process p and a time m. Assumes nothing.
 use Prim.Native.Nat.{ℕ, _-_}
 use mathlib.Core.Bool.{cond}
-use mathlib.Core.List.{List}
+use mathlib.Core.List.{List, []}
 use lib.ListN.{set}
 use lib.Dec.{eqb}
 use Rattle.model.specs.declared.Location.{Location}
@@ -11,7 +11,7 @@ use Rattle.model.specs.declared.Process.{Process}
 use Rattle.model.specs.declared.State.{State}
 use Rattle.model.specs.declared.Transition.{Transition}
 use Rattle.model.specs.Acts.{waitAct, tryAct, testAct, setAct, checkAct, critAct, exitAct, resetAct, remAct, withdrawAct, leaves}
-use Rattle.model.specs.States.{entry}
+use Rattle.model.specs.States.{noParameters, entry}
 
 -- The table, row by row
 
@@ -75,6 +75,14 @@ transitionOf s act p m =
     (cond (eqb act resetAct) (resetRow s p m)
     (cond (eqb act remAct) (remRow s p m)
     (withdrawRow s p m))))))))
+
+-- helper: a state with this word, and nothing else
+abbrev pub worded : ℕ → State
+worded word = record { parameters = noParameters; clock = 0; word = word; processes = [] }
+
+-- [3.40] the row, by the word: of a state the rows look at nothing else
+abbrev pub transitionAt : ℕ → ℕ → ℕ → ℕ → Transition
+transitionAt word act p m = transitionOf (worded word) act p m
 
 -- What an accepted action makes of the state
 

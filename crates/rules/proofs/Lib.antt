@@ -3,3 +3,5 @@ pub mod Entries
 pub mod Notes
 pub mod Rows
 pub mod Slots
+pub mod Pass
+pub mod Judged

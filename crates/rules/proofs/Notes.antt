@@ -16,7 +16,7 @@ use Rattle.model.specs.Stages.{remainder, checking, critical}
 use Rattle.model.specs.States.{entry, stageOf, sinceOf, timed, limitOf, deadline, entrySound}
 use Rattle.model.specs.Answers.{Due, due, noneDue, sooner}
 use Rattle.rules.specs.declared.survey.Survey.{Survey}
-use Rattle.rules.specs.Survey.{sceneOf, endless, faulted, criticalAt, firstAt, dueFrom, timedNoted, criticalNoted, noted}
+use Rattle.rules.specs.Survey.{sceneOf, endless, faulted, criticalAt, firstAt, dueFrom, dueNoted, timedNoted, criticalNoted, noted}
 use Rattle.model.proofs.Tests.{by-cond}
 use Rattle.rules.specs.Judging.{otherCritical}
 use Rattle.rules.proofs.Entries.{stayOf, idle-sound, past-unsound, critical-sound, timed-sound}
@@ -100,7 +100,7 @@ module _ (s : State) (acting k : ℕ) (f : Survey) (so-far : f .faulty ≡ 0) (a
           next (none z e) = rw t (one (λ z. omega arith))
           next (one n) = rw (t, ne-eqb (f .process) 0 n, lt-ltb time (f .due) a) (one (λ z. omega arith))
 
-      came-noted : NotedAs l (cond (leb (f .due) time) f (cond (ltb time (s .clock)) (faulted f) (firstAt k time f)))
+      came-noted : NotedAs l (dueNoted (s .clock) k time f)
       came-noted =
           by-cond (NotedAs l) (leb (f .due) time)
           (λ a. later (leb-true (f .due) time a))

@@ -7,30 +7,25 @@ use lib.Dec.{ltb, eqb}
 use Rattle.model.specs.declared.Location.{Location}
 use Rattle.model.specs.declared.Location.the-variants.{Remainder}
 use Rattle.model.specs.declared.Process.{Process}
-use Rattle.model.specs.declared.State.{State}
 use Rattle.model.specs.declared.Transition.{Transition}
 use Rattle.model.specs.declared.Answer.{Answer}
 use Rattle.model.specs.Stages.{remainder, critical}
 use Rattle.model.specs.Acts.{waitAct, checkAct}
-use Rattle.model.specs.States.{noParameters, stageOf, sinceOf}
-use Rattle.model.specs.Actions.{row, transitionOf}
+use Rattle.model.specs.States.{stageOf, sinceOf}
+use Rattle.model.specs.Actions.{row, transitionAt}
 use Rattle.model.specs.Answers.{answerOf, beyond, unknown, misnamed}
 use Rattle.rules.specs.declared.survey.Scene.{Scene}
 use Rattle.rules.specs.declared.survey.Survey.{Survey}
 
--- The row of an action: of a state it depends on the word alone
+-- The row of an action
 
 -- helper: of an action that has no row: a wait, which leaves no place, or one that is unknown and refused
 abbrev pub noRow : ℕ → Transition
 noRow word = row remainder Remainder word
 
--- helper: a state with this word, and nothing else
-abbrev pub worded : ℕ → State
-worded word = record { parameters = noParameters; clock = 0; word = word; processes = [] }
-
 -- [3.40] of any action
 unfoldable pub rowOf : ℕ → ℕ → ℕ → ℕ → Transition
-rowOf act p m word = cond (eqb act waitAct || unknown act) (noRow word) (transitionOf (worded word) act p m)
+rowOf act p m word = cond (eqb act waitAct || unknown act) (noRow word) (transitionAt word act p m)
 
 -- Who is critical besides the acting process
 

@@ -52,12 +52,13 @@ criticalNoted acting k f = cond (eqb k acting) f (cond (not (eqb (f .critical) 0
 abbrev pub dueFrom : ℕ → ℕ → ℕ
 dueFrom since limit = (since + limit) % 2 ^ 64
 
+-- helper: it has a deadline, which is held against the first so far
+abbrev pub dueNoted : ℕ → ℕ → ℕ → Survey → Survey
+dueNoted clock k due f = cond (leb (f .due) due) f (cond (ltb due clock) unsound (firstAt k due f))
+
 -- helper: it came at `since` and may stay for `limit`
 abbrev pub timedNoted : ℕ → ℕ → ℕ → ℕ → Survey → Survey
-timedNoted clock k since limit f =
-    cond (ltb clock since) (faulted f)
-    (cond (leb (f .due) (dueFrom since limit)) f
-    (cond (ltb (dueFrom since limit) clock) (faulted f) (firstAt k (dueFrom since limit) f)))
+timedNoted clock k since limit f = cond (ltb clock since) (faulted f) (dueNoted clock k (dueFrom since limit) f)
 
 -- helper: the whole of a turn; `limit` is the bound of its stay outside checking
 unfoldable pub noted : Scene → ℕ → Location → ℕ → Survey → Survey

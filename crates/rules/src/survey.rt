@@ -9,7 +9,7 @@ use model::Location;
 use model::Parameters;
 use std::num::wrapping_add_u64;
 ghost use mathlib.Core.Path.{_≡_};
-ghost use Rattle.rules.specs.Survey.{sceneOf, nothing, unsound, faulted, criticalNoted, timedNoted, noted, laterNoted, numbersNoted};
+ghost use Rattle.rules.specs.Survey.{sceneOf, nothing, unsound, faulted, criticalNoted, dueNoted, timedNoted, noted, laterNoted, numbersNoted};
 
 // What a look at an entry, and the judgement after all of them, need besides: the numbers that all entries share, and who acts.
 pub struct Scene {
@@ -72,7 +72,7 @@ pub fn fault() -> Survey
 }
 
 // A critical process: the lowest of them counts, besides the acting one.
-fn note_critical(found: Survey, acting: u64, process: u64) -> Survey
+pub fn note_critical(found: Survey, acting: u64, process: u64) -> Survey
     ensures { λ r. ⌜ r ≡ criticalNoted acting process found ⌝ }
 {
     if process == acting {
@@ -89,20 +89,16 @@ fn note_critical(found: Survey, acting: u64, process: u64) -> Survey
     }
 }
 
-// A process that may stay for `limit`. A deadline that is not sooner than the first so far is done with after two tests: the first is
-// not before the clock, so neither is this one.
-fn note_timed(found: Survey, clock: u64, process: u64, since: u64, limit: u64) -> Survey
-    ensures { λ r. ⌜ r ≡ timedNoted clock process since limit found ⌝ }
+// [4.8] The search for the first deadline: one that is not sooner than the first so far is done with after one test, as the first is not
+// before the clock, so neither is this one. A fault is another value than what was found: so that stays in registers.
+pub fn note_due(found: Survey, clock: u64, process: u64, due: u64) -> Survey
+    ensures { λ r. ⌜ r ≡ dueNoted clock process due found ⌝ }
 {
-    if clock < since {
-        return with_fault(found);
-    }
-    let due = wrapping_add_u64(since, limit);
     if found.due <= due {
         return found;
     }
     if due < clock {
-        return with_fault(found);
+        return fault();
     }
     Survey {
         faulty: found.faulty,
@@ -110,6 +106,16 @@ fn note_timed(found: Survey, clock: u64, process: u64, since: u64, limit: u64) -
         due: due,
         critical: found.critical,
     }
+}
+
+// A process that may stay for `limit`.
+fn note_timed(found: Survey, clock: u64, process: u64, since: u64, limit: u64) -> Survey
+    ensures { λ r. ⌜ r ≡ timedNoted clock process since limit found ⌝ }
+{
+    if clock < since {
+        return with_fault(found);
+    }
+    note_due(found, clock, process, wrapping_add_u64(since, limit))
 }
 
 // What is found once the entry of a process is looked at too: its location, and the bound of its stay outside checking. The test on n

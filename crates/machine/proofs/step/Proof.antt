@@ -15,9 +15,9 @@ use Rattle.model.specs.Answers.{stepOf}
 use Rattle.rules.proofs.Rows.{row-is}
 use Rattle.rules.proofs.Slots.{slot-in, slot-fits}
 use Rattle.model.proofs.Lists.{length-mapped}
-use Rattle.machine.proofs.Pass.{Passed, numbers-fault, nothing-passed, turn-fault, turn-passed, passed-whole}
-use Rattle.machine.proofs.Pass.{Surveyed, faulty, whole}
-use Rattle.machine.proofs.Judged.{Goes, goes, exit-unsound, exit-refused, exit-waited, exit-moved}
+use Rattle.rules.proofs.Pass.{Passed, numbers-fault, nothing-passed, turn-fault, turn-passed, passed-whole}
+use Rattle.rules.proofs.Pass.{Surveyed, faulty, whole}
+use Rattle.rules.proofs.Judged.{Goes, goes, exit-unsound, exit-refused, exit-waited, exit-moved}
 use Rattle.machine.proofs.step.Statement.{statement}
 use Rattle.machine.proofs.step.Tie as tie
 

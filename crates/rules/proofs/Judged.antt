@@ -20,16 +20,16 @@ use Rattle.model.specs.States.{lastTime, entry, stageOf, sinceOf, release, soun
 use Rattle.model.specs.Actions.{transitionOf, changed, waited, moved, effect}
 use Rattle.model.specs.Answers.{answerOf, answers, backward, beyond, unknown, misnamed, Due, firstDeadline, missed, misplaced, early}
 use Rattle.model.specs.Answers.{criticalOf, accepts, stepOf}
 use Rattle.rules.specs.declared.survey.Scene.{Scene}
 use Rattle.rules.specs.declared.survey.Survey.{Survey}
 use Rattle.rules.specs.Survey.{sceneOf}
 use Rattle.rules.specs.Judging.{lowestOf, checkFrom, turnJudged, judged}
 use Rattle.model.proofs.Soundness.{sound-numbers, sound-past}
 use Rattle.model.proofs.Tests.{by-test, if-eq, tests}
 use Rattle.model.proofs.Rows.{row-leaves}
 use Rattle.rules.proofs.Critical.{others-all, others-moved}
 use Rattle.rules.proofs.Notes.{Finds, none, one}
-use Rattle.machine.proofs.Pass.{Whole, Surveyed, faulty, whole}
+use Rattle.rules.proofs.Pass.{Whole, Surveyed, faulty, whole}
 
 -- The outcome o of the model goes with the answer j of the code
 pub data Goes (s : State) (act p m : ℕ) (o : Outcome) (j : Answer) : Type 0 where

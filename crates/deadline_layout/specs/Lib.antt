@@ -1,0 +1,5 @@
+pub mod Encodings
+pub mod Interface
+pub mod Numbers
+pub mod Places
+pub mod Steps

@@ -1,0 +1,18 @@
+-- Section 12 of the specification: a deadline table comes back from its numbers, and numbers from what they tell. Assumes nothing.
+use Prim.Native.Nat.{ℕ}
+use mathlib.Core.Path.{_≡_}
+use mathlib.Core.Bool.{true}
+use mathlib.Core.List.{List, _++_}
+use lib.ListN.{length}
+use Rattle.model.specs.Readings.{over}
+use Rattle.deadlines.specs.declared.DeadlineState.{DeadlineState}
+use Rattle.deadline_layout.specs.Encodings.{stateNumbersWith, isDeadlineTable, deadlineTableIn}
+
+-- [12.112] of 96 entries, as each of the code is: the numbers of a state of deadlines, whatever stands after them, tell that one
+abbrev pub DeadlinesComeBack : Type 0
+DeadlinesComeBack = (d : DeadlineState) → length (d .processes) ≡ 96 → (rest : List ℕ)
+    → (isDeadlineTable (stateNumbersWith d ++ rest) ≡ true) × (deadlineTableIn (stateNumbersWith d ++ rest) ≡ d)
+
+-- [12.112] numbers that tell a state of deadlines are its numbers, whatever stands after them
+abbrev pub DeadlineNumbersComeBack : Type 0
+DeadlineNumbersComeBack = (l : List ℕ) → isDeadlineTable l ≡ true → over (stateNumbersWith (deadlineTableIn l)) l ≡ l

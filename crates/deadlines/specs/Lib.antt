@@ -1,0 +1,3 @@
+pub mod Deadlines
+pub mod Matching
+pub mod Looks

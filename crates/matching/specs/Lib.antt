@@ -1,0 +1,3 @@
+pub mod Facts
+pub mod Engines
+pub mod Lists
