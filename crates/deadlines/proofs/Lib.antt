@@ -1,2 +1,3 @@
 pub mod Matched
 pub mod Passing
+pub mod Judging

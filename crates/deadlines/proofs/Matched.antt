@@ -237,7 +237,7 @@ module _ (s : State) where
       rw e at (dated-set k 1 (s .processes) (p - 1) (t .to)) in
       λ j. record { parameters = k; clock = m; word = t .word; processes = f j }
 
-  row-same : (act p m : ℕ) → transitionAt (s .word) act p m ≡ transitionOf s act p m
+  pub row-same : (act p m : ℕ) → transitionAt (s .word) act p m ≡ transitionOf s act p m
   unfolding transitionOf
   row-same act p m = refl
 

@@ -3,7 +3,7 @@
 use Prim.Native.Nat.{ℕ, _+_, _-_, _%_, _^_, _≤_, _<_}
 use mathlib.Core.Path.{_≡_, refl, sym, ap, _∙_}
 use mathlib.Core.Logic.{_≢_}
-use mathlib.Core.Bool.{Bool, true, false, cond, not, _&&_, _||_}
+use mathlib.Core.Bool.{Bool, true, false, cond, not, _&&_, _||_, false≢true}
 use mathlib.Core.List.{List, [], _∷_}
 use native.Mathlib.Omega.{arith}
 use native.Mathlib.Nat.{mod-eq-of-lt}
@@ -174,6 +174,17 @@ module _ (d : DeadlineState) (acting i : ℕ) (f : Survey) (stand : standingWith
       let due : dueFrom (backFrom last closes) closes ≡ last = mod-eq-of-lt (omega (arith, h .0 .1, small d stand .clock)) ∙ back in
       rw (le-ltb first opens (omega arith), came, le-ltb (d .clock) (backFrom last closes) (h .0 .1), due, eq-eqb last last refl, le-leb (f .due) last (h .0 .0))
 
+  -- a location that is settled, of a process up to n
+  pub settled-noted : (q : DeadlineLocation) → i ≤ k .n → lastOf q < 2 ^ 64 → settledAt (f .due) (d .clock) (limitIn k i) q ≡ true
+      → locationNoted scene i q (k .b) (limitIn k i) f ≡ f
+  unfolding locationNoted
+  settled-noted q h fit e =
+      by-test (eqb (stageWith q) remainder || eqb (stageWith q) checking || eqb (stageWith q) critical)
+      (λ t. absurd (false≢true (rw t at e)))
+      (λ t. let none = simp tests at t in
+      rw (ne-eqb _ _ (none .0 .0), le-ltb (k .n) i h, ne-eqb _ _ (none .1), ne-eqb _ _ (none .0 .1))
+      (settled-bounds (firstOf q) (lastOf q) 0 (limitIn k i) (omega arith) (small d stand .limit i) fit (rw t at e)))
+
 -- The pass
 
 -- after i entries: f is found, and what is left of the entries is sound just where all of them are
@@ -236,10 +247,30 @@ module _ (d : DeadlineState) (acting i j : ℕ) (f : Survey) (so-far : PassedWit
         sound = rw t at sound-left;
       }
 
+pub size-with : (d : DeadlineState) (acting i : ℕ) (f : Survey) → PassedWith d acting i f → length (d .processes) ≡ 96
+size-with d acting i f so-far = sym (length-arrived (d .parameters) (d .processes)) ∙ so-far .passed .size
+
 -- nothing is left after 96 entries
 pub passed-whole-with : (d : DeadlineState) (acting i : ℕ) (f : Survey) → PassedWith d acting i f → 96 ≤ i → SurveyedWith d acting f
 unfolding entriesSoundWith
 passed-whole-with d acting i f so-far h =
-    let size : length (d .processes) ≡ 96 = sym (length-arrived (d .parameters) (d .processes)) ∙ so-far .passed .size in
+    let size = size-with d acting i f so-far in
     let e : drop i (d .processes) ≡ [] = drop-end (d .processes) i (omega (arith, size)) (omega (arith, size, so-far .passed .most)) in
     whole (sound-parts-with d ∙ rw (so-far .passed .stand, ← rw e at (so-far .sound))) (passed-whole (arrived d) acting i f (so-far .passed) h)
+
+-- Entries that are passed without a look in full
+
+module _ (d : DeadlineState) (acting i : ℕ) (f : Survey) (so-far : PassedWith d acting i f) (more : i < 96) (other : DeadlineProcess) where
+  -- in the remainder
+  pub idle-passed-with : stageWith (getD (d .processes) i other .location) ≡ remainder → PassedWith d acting (i + 1) f
+  unfolding locationNoted
+  idle-passed-with e =
+      turn-passed-with d acting i (i + 1) f so-far more refl other f (sym (rw (eq-eqb _ remainder e))) (so-far .passed .faultless)
+
+  -- up to n, where nothing new would be found
+  pub settled-passed-with : i + 1 ≤ d .parameters .n → lastOf (getD (d .processes) i other .location) < 2 ^ 64
+      → settledAt (f .due) (d .clock) (limitIn (d .parameters) (i + 1)) (getD (d .processes) i other .location) ≡ true → PassedWith d acting (i + 1) f
+  settled-passed-with h fit e =
+      turn-passed-with d acting i (i + 1) f so-far more refl other f
+      (sym (settled-noted d acting (i + 1) f (so-far .passed .stand) (so-far .passed .faultless) (so-far .passed .ahead)
+      (getD (d .processes) i other .location) h fit e)) (so-far .passed .faultless)
