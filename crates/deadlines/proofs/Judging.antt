@@ -216,5 +216,9 @@ pub exit-moved-with : (d : DeadlineState) (act p m slot : ℕ) (t : Transition) 
 exit-moved-with d act p m slot t o j slot-is t-is last few (refuse e n) h a = absurd (n h)
 exit-moved-with d act p m slot t o j slot-is t-is last few (wait a′ z e h′) h a = absurd (a a′)
 exit-moved-with d act p m slot t o j slot-is t-is last few (move some known from to e h′) h a =
-    rw (slot-is to, t-is some known, dated-fits (d .parameters) p (transitionAt (d .word) act p m .to)
-    (omega (arith, row-since (d .word) act p m)) (few .opens) (few .closes) (few .limit p)) (sym e)
+    rw (
+      slot-is to,
+      t-is some known,
+      dated-fits (d .parameters) p (transitionAt (d .word) act p m .to)
+          (omega (arith, row-since (d .word) act p m)) (few .opens) (few .closes) (few .limit p),
+    ) (sym e)

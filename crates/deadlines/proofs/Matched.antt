@@ -224,7 +224,7 @@ module _ (s : State) where
     sound = sound-same j;
     n = k .n;
     clock = s .clock;
-    first = first-last-same j;
+    due = first-last-same j;
     stage = (ap (λ (q : DeadlineProcess). stageWith (q .location)) (entry-in p) ∙ dated-is k (1 + (p - 1)) (entryOf s p .location) .stage) j;
     release = (ap (λ (q : DeadlineProcess). firstOf (q .location)) (entry-in p) ∙ dated-is k (1 + (p - 1)) (entryOf s p .location) .first) j;
   }
@@ -260,7 +260,7 @@ judged-map : {A B : Type 0} (f : A → B) (v : Sight) (act p m : ℕ) (refuses :
 judged-map f v act p m refuses accepted others g =
     cond-map f (not (v .sound)) refl (λ _. cond-map f (ltb m (v .clock)) refl (λ _. cond-map f (beyond m) refl (λ _.
     cond-map f (unknown act) refl (λ _. cond-map f (misnamed (v .n) act p) refl (λ named.
-    cond-map f (missed (v .first) m) refl (λ _. cond-map f (misplacedAt (v .stage) act) refl (λ _.
+    cond-map f (missed (v .due) m) refl (λ _. cond-map f (misplacedAt (v .stage) act) refl (λ _.
     cond-map f (earlyAt (v .release) act m) refl (λ _. g named))))))))
 
 -- One step

@@ -160,7 +160,7 @@ sightWith d p = record {
   sound = soundWith d;
   n = d .parameters .n;
   clock = d .clock;
-  first = firstLast d;
+  due = firstLast d;
   stage = stageWith (entryIn d p .location);
   release = firstOf (entryIn d p .location);
 }

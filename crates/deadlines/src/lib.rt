@@ -1,22 +1,16 @@
 // The second engine: the lock over entries that hold the first and the last time at which a process may act. `fresh` makes a state of
-// deadlines, `step` takes one action in it; `to_deadlines` and `to_arrivals` lead from the states of the machine to these, and back.
+// deadlines, and `step` takes one action in it. The rows of the acts and the judgement are those of `rules`; the first engine is not used.
 pub mod bounds;
 pub mod locations;
 
 use crate::bounds::are_zero;
 use crate::bounds::is_settled_at;
 use crate::bounds::note;
-use crate::locations::arrived;
 use crate::locations::dated;
 use crate::locations::first_of;
 use crate::locations::stage_with;
-use machine::entry_at;
 use model::Answer;
-use model::Location;
-use model::Outcome;
 use model::Parameters;
-use model::Process;
-use model::State;
 use rules::actions::WAIT;
 use rules::actions::transition_of;
 use rules::answers::judge;
@@ -35,7 +29,6 @@ ghost use Prim.Native.Nat.{ℕ, _<_};
 ghost use lib.ListN.{getD};
 ghost use Rattle.deadlines.specs.declared.DeadlineProcess.{DeadlineProcess};
 ghost use Rattle.deadlines.specs.Deadlines.{entryWith, idleWith, initialWith, answersWith, blankWith, freshWith, stepWith};
-ghost use Rattle.deadlines.specs.Matching.{toDeadlines, toArrivals};
 
 // [12.10] Where a process is; the timed locations carry the first and the last time at which it may act.
 pub enum DeadlineLocation {
@@ -195,72 +188,5 @@ pub fn step(mut state: DeadlineState, action: u64, process: u64, time: u64) -> D
     DeadlineOutcome {
         answer: answer,
         state: state,
-    }
-}
-
-// [12.100] [21.110] The state of deadlines that matches a sound state. A wait at its own clock changes nothing, and is accepted just where it is sound.
-pub fn to_deadlines(state: State) -> DeadlineOutcome
-    ensures { λ r. ⌜ r ≡ toDeadlines state ⌝ }
-{
-    let looked = machine::step(state, WAIT, 0, state.clock);
-    let answer = looked.answer;
-    if answer.code != 0 {
-        return refused(1);
-    }
-    let parameters = state.parameters;
-    let mut processes = [DeadlineProcess {
-        location: DeadlineLocation::Remainder,
-    }; 96];
-    let mut i: usize = 0;
-    while i < 96 {
-        let entry = state.processes[i];
-        let location = entry.location;
-        processes[i] = entry_with(dated(parameters, (i as u64) + 1, location));
-        i += 1;
-    }
-    DeadlineOutcome {
-        answer: answer_with(0, 0, 0),
-        state: DeadlineState {
-            parameters: parameters,
-            clock: state.clock,
-            word: state.word,
-            processes: processes,
-        },
-    }
-}
-
-// [12.100] [21.110] The state that matches a sound state of deadlines.
-pub fn to_arrivals(state: DeadlineState) -> Outcome
-    ensures { λ r. ⌜ r ≡ toArrivals state ⌝ }
-{
-    let looked = step(state, WAIT, 0, state.clock);
-    let answer = looked.answer;
-    if answer.code != 0 {
-        let none = machine::fresh(no_parameters());
-        let blank = none.state;
-        return Outcome {
-            answer: answer_with(1, 0, 0),
-            state: blank,
-        };
-    }
-    let parameters = state.parameters;
-    let mut processes = [Process {
-        location: Location::Remainder,
-    }; 96];
-    let mut i: usize = 0;
-    while i < 96 {
-        let entry = state.processes[i];
-        let location = entry.location;
-        processes[i] = entry_at(arrived(parameters, location));
-        i += 1;
-    }
-    Outcome {
-        answer: answer_with(0, 0, 0),
-        state: State {
-            parameters: parameters,
-            clock: state.clock,
-            word: state.word,
-            processes: processes,
-        },
     }
 }

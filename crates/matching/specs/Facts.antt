@@ -1,10 +1,11 @@
 -- Section 12 of the specification, a state of deadlines in plain facts: which processes are where, their times, and which actions are allowed. None of
 -- the tests that the second engine is defined by are used, so that the theorems check those from a second side. Assumes nothing.
-use Prim.Native.Nat.{ℕ, _≤_}
+use Prim.Native.Nat.{ℕ, _+_, _≤_}
 use mathlib.Core.Path.{_≡_}
-use mathlib.Core.Logic.{_⊎_, _↔_}
+use mathlib.Core.Logic.{_⊎_, _≢_, _↔_}
 use mathlib.Core.Bool.{true}
-use Rattle.model.specs.Acts.{tryAct, testAct, setAct, checkAct, critAct, exitAct, resetAct, remAct, withdrawAct}
+use lib.ListN.{length}
+use Rattle.model.specs.Acts.{waitAct, tryAct, testAct, setAct, checkAct, critAct, exitAct, resetAct, remAct, withdrawAct}
 use Rattle.model.specs.States.{lastTime}
 use Rattle.theory.specs.Acceptance.{Waits}
 use Rattle.deadlines.specs.declared.DeadlineLocation.{DeadlineLocation}
@@ -77,3 +78,39 @@ pub record AllowedWith (d : DeadlineState) (act p m : ℕ) : Type 0 where
 -- [12.70]
 abbrev pub AcceptedIffAllowedWith : Type 0
 AcceptedIffAllowedWith = (d : DeadlineState) → soundWith d ≡ true → (act p m : ℕ) → AcceptedWith (stepWith d act p m) ↔ AllowedWith d act p m
+
+-- What an accepted action changes
+
+-- [12.60] where an action of process p at the time m leads at the word w, and the word after it, with the limits a, b and c
+pub data EffectWith (a b c p m : ℕ) : ℕ → ℕ → DeadlineLocation → ℕ → Type 0 where
+  try : {w : ℕ} → EffectWith a b c p m tryAct w (Testing m (m + a)) w
+  test-free : EffectWith a b c p m testAct 0 (Setting m (m + a)) 0
+  test-taken : {w : ℕ} → w ≢ 0 → EffectWith a b c p m testAct w (Testing m (m + a)) w
+  set : {w : ℕ} → EffectWith a b c p m setAct w (Checking (m + b) (m + c)) p
+  check-own : EffectWith a b c p m checkAct p (Entering m (m + a)) p
+  check-other : {w : ℕ} → w ≢ p → EffectWith a b c p m checkAct w (Testing m (m + a)) w
+  crit : {w : ℕ} → EffectWith a b c p m critAct w Critical w
+  exit : {w : ℕ} → EffectWith a b c p m exitAct w (Resetting m (m + a)) w
+  reset : {w : ℕ} → EffectWith a b c p m resetAct w (Leaving m (m + a)) 0
+  rem : {w : ℕ} → EffectWith a b c p m remAct w Remainder w
+  withdraw : {w : ℕ} → EffectWith a b c p m withdrawAct w Remainder w
+
+-- [12.60] e is d after the action of process p at the time m: it differs in the clock, in p's entry and in the word only
+pub record ChangedWith (d : DeadlineState) (act p m : ℕ) (e : DeadlineState) : Type 0 where
+  pub parameters-stay : e .parameters ≡ d .parameters
+  pub size-stays : length (e .processes) ≡ length (d .processes)
+  pub clock-is : e .clock ≡ m
+  pub others-stay : (i : ℕ) → 1 ≤ i → i ≢ p → entryIn e i ≡ entryIn d i
+  -- and `others-stay` keeps every entry, as none is of process 0
+  pub wait-keeps : act ≡ waitAct → e .word ≡ d .word
+  pub effect : act ≢ waitAct
+      → EffectWith (d .parameters .a) (d .parameters .b) (d .parameters .c) p m act (d .word) (entryIn e p .location) (e .word)
+
+-- [12.60] for a state of 96 entries, as each of the code is
+abbrev pub NextIsChangedWith : Type 0
+NextIsChangedWith = (d : DeadlineState) → length (d .processes) ≡ 96 → (act p m : ℕ) → AcceptedWith (stepWith d act p m)
+    → ChangedWith d act p m (stepWith d act p m .state)
+
+-- [12.50] a refused step gives the state back, whatever it is
+abbrev pub RefusedStaysWith : Type 0
+RefusedStaysWith = (d : DeadlineState) (act p m : ℕ) → stepWith d act p m .answer .code ≢ 0 → stepWith d act p m .state ≡ d

@@ -3,35 +3,29 @@
 use Prim.Native.Nat.{ℕ, _+_, _≤_, _<_}
 use mathlib.Core.Path.{_≡_}
 use mathlib.Core.Logic.{_⊎_, _≢_, _↔_}
-use mathlib.Core.List.{List, [], _∷_, _++_}
+use mathlib.Core.Bool.{true}
+use mathlib.Core.List.{List, [], _∷_, _++_, map}
 use Rattle.model.specs.declared.Parameters.{Parameters}
 use Rattle.model.specs.declared.State.{State}
 use Rattle.model.specs.declared.Outcome.{Outcome}
 use Rattle.model.specs.Acts.{waitAct, critAct, withdrawAct}
 use Rattle.model.specs.States.{lastTime}
-use Rattle.model.specs.Answers.{stepOf, freshOf}
+use Rattle.model.specs.Answers.{freshOf}
+use Rattle.model.specs.Executions.{stepBy, stateAfter, stateFrom, answersFrom}
 use Rattle.model.specs.Facts.{LeadsOn}
 use Rattle.model.specs.Folds.{endBy, resultsBy}
 use Rattle.model.specs.Texts.{Event}
 use Rattle.lists.specs.Demand3.{owedWait}
 use Rattle.deadlines.specs.declared.DeadlineState.{DeadlineState}
 use Rattle.deadlines.specs.declared.DeadlineOutcome.{DeadlineOutcome}
-use Rattle.deadlines.specs.Deadlines.{stepWith, freshWith}
+use Rattle.deadlines.specs.Deadlines.{soundWith, stepWith, freshWith}
 use Rattle.deadlines.specs.Matching.{Matches}
 use Rattle.matching.specs.Facts.{AcceptedWith, HasTimes, IsCriticalWith, IsTryingWith}
 use Rattle.matching.specs.Engines.{OutcomesMatch}
 
 -- Lists of steps
 
--- [8.20] the step of the first engine that an action asks for
-abbrev pub stepBy : State → Event → Outcome
-stepBy s e = stepOf s (e .action) (e .process) (e .time)
-
--- helper: the state that it gives back
-abbrev pub stateAfter : Outcome → State
-stateAfter o = o .state
-
--- [12.85] the step of the second
+-- [12.85] the step of the second engine that an action asks for
 abbrev pub stepByDeadlines : DeadlineState → Event → DeadlineOutcome
 stepByDeadlines d e = stepWith d (e .action) (e .process) (e .time)
 
@@ -39,11 +33,11 @@ stepByDeadlines d e = stepWith d (e .action) (e .process) (e .time)
 abbrev pub deadlinesAfter : DeadlineOutcome → DeadlineState
 deadlinesAfter o = o .state
 
--- [8.40] [12.85] what each step of a list gives back, each made on the state that the one before it gave back
+-- [8.40] [12.85] what each step of a list of the first engine gives back, each made on the state that the one before it gave back
 abbrev pub stepsOf : State → List Event → List Outcome
 stepsOf s es = resultsBy stepBy stateAfter s es
 
--- [8.40] [12.85] of the second engine
+-- [8.40] [12.85] and of the second
 abbrev pub stepsWith : DeadlineState → List Event → List DeadlineOutcome
 stepsWith d es = resultsBy stepByDeadlines deadlinesAfter d es
 
@@ -57,13 +51,19 @@ pub data EachMatches : List Outcome → List DeadlineOutcome → Type 0 where
   both : {o : Outcome} {e : DeadlineOutcome} {os : List Outcome} {es : List DeadlineOutcome}
       → OutcomesMatch o e → EachMatches os es → EachMatches (o ∷ os) (e ∷ es)
 
+-- [12.85] what comes of the list es of the first engine from s on, and of the second from d on: each call, all answers, and the states at the end
+pub record RunsMatch (s : State) (d : DeadlineState) (es : List Event) : Type 0 where
+  pub each : EachMatches (stepsOf s es) (stepsWith d es)
+  pub answers : map (λ (o : DeadlineOutcome). o .answer) (stepsWith d es) ≡ answersFrom s es
+  pub states : Matches (stateFrom s es) (runWith d es)
+
 -- [12.85] from any two that match
 abbrev pub ListsMatch : Type 0
-ListsMatch = (s : State) (d : DeadlineState) → Matches s d → (es : List Event) → EachMatches (stepsOf s es) (stepsWith d es)
+ListsMatch = (s : State) (d : DeadlineState) → Matches s d → (es : List Event) → RunsMatch s d es
 
 -- [12.85] and so from two fresh ones
 abbrev pub FreshListsMatch : Type 0
-FreshListsMatch = (k : Parameters) (es : List Event) → EachMatches (stepsOf (freshOf k .state) es) (stepsWith (freshWith k .state) es)
+FreshListsMatch = (k : Parameters) (es : List Event) → RunsMatch (freshOf k .state) (freshWith k .state) es
 
 -- Demand 3, of the second engine
 
@@ -112,24 +112,28 @@ abbrev pub EachNamesWith : List DeadlineOutcome → Type 0
 EachNamesWith [] = Unit {0}
 EachNamesWith (o ∷ os) = (AcceptedWith o → NamesTheOnlyWith o) × EachNamesWith os
 
--- [12.90] of the steps es from the fresh state of deadlines d with the parameters k: what they give back is what the first engine gives back, and the
--- owed wait, the one critical process and that nobody is stuck hold of it
-pub record Demand3With (k : Parameters) (es : List Event) : Type 0 where
-  -- [8.60] the plain state is the first engine's
-  pub results : EachMatches (stepsOf (freshOf k .state) es) (stepsWith (freshWith k .state) es)
+-- [12.90] of the steps es from the fresh state of deadlines with the parameters k, which gave back the results rs and left the state t
+pub record Demand3With (k : Parameters) (es : List Event) (rs : List DeadlineOutcome) (t : DeadlineState) : Type 0 where
+  -- [8.60] the plain state is the first engine's: each answer is the one that is due in it, and each state matches it
+  pub results : EachMatches (stepsOf (freshOf k .state) es) rs
+  -- [8.60] the state after the list
+  pub state : Matches (stateFrom (freshOf k .state) es) t
   -- [8.80]
   pub owed : OwedWithinWith (owedWait k) (freshWith k .state) es
   -- [8.90]
-  pub one : (i j : ℕ) → IsCriticalWith (runWith (freshWith k .state) es) i → IsCriticalWith (runWith (freshWith k .state) es) j → i ≡ j
+  pub one : (i j : ℕ) → IsCriticalWith t i → IsCriticalWith t j → i ≡ j
   -- [8.100]
-  pub names : EachNamesWith (stepsWith (freshWith k .state) es)
-  -- [8.110] nobody's last time is the clock
-  pub waits : (let d = runWith (freshWith k .state) es in d .clock < lastTime
-      → AcceptedWith (stepWith d waitAct 0 (d .clock + 1)) ↔ ((i f : ℕ) → HasTimes d i f (d .clock) → ⊥))
+  pub names : EachNamesWith rs
+  -- [8.110] a deadline is a last time
+  pub waits : t .clock < lastTime → AcceptedWith (stepWith t waitAct 0 (t .clock + 1)) ↔ ((i f : ℕ) → HasTimes t i f (t .clock) → ⊥)
   -- [8.120]
-  pub acts : (let d = runWith (freshWith k .state) es in (i f : ℕ) → HasTimes d i f (d .clock)
-      → (act : ℕ) × LeadsOn act × AcceptedWith (stepWith d act i (d .clock)))
+  pub acts : (i f : ℕ) → HasTimes t i f (t .clock) → (act : ℕ) × LeadsOn act × AcceptedWith (stepWith t act i (t .clock))
 
 -- [12.90] of every list from a fresh state of deadlines that was answered with 0
 abbrev pub EveryListWith : Type 0
-EveryListWith = (k : Parameters) → AcceptedWith (freshWith k) → (es : List Event) → Demand3With k es
+EveryListWith = (k : Parameters) → AcceptedWith (freshWith k) → (es : List Event)
+    → Demand3With k es (stepsWith (freshWith k .state) es) (runWith (freshWith k .state) es)
+
+-- [8.140] [12.90] and the state after it is sound
+abbrev pub EveryTableSoundWith : Type 0
+EveryTableSoundWith = (k : Parameters) → AcceptedWith (freshWith k) → (es : List Event) → soundWith (runWith (freshWith k .state) es) ≡ true

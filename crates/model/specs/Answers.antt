@@ -126,7 +126,7 @@ pub record Sight : Type 0 where
   pub sound : Bool
   pub n : ℕ
   pub clock : ℕ
-  pub first : Due
+  pub due : Due
   pub stage : ℕ
   pub release : ℕ
 
@@ -139,7 +139,7 @@ judgedBy v act p m refuses accepted =
     (cond (beyond m) (refuses 5 0 0)
     (cond (unknown act) (refuses 6 0 0)
     (cond (misnamed (v .n) act p) (refuses 7 0 0)
-    (cond (missed (v .first) m) (refuses 8 (v .first .process) (v .first .time))
+    (cond (missed (v .due) m) (refuses 8 (v .due .process) (v .due .time))
     (cond (misplacedAt (v .stage) act) (refuses 9 p 0)
     (cond (earlyAt (v .release) act m) (refuses 10 p (v .release))
     accepted)))))))
@@ -150,7 +150,7 @@ sightOf s p = record {
   sound = soundOf s;
   n = s .parameters .n;
   clock = s .clock;
-  first = firstDeadline s;
+  due = firstDeadline s;
   stage = stageOf (entryOf s p .location);
   release = release s (entryOf s p);
 }
