@@ -31,7 +31,7 @@ extern "C" {
 #define FUNNELFAWN_RESTRICT restrict
 #endif
 
-/* [9.15] The layout: one number for what stands where in all that is lent, tables, summaries and boards. It goes up whenever one of them
+/* [9.15] The layout: one number for what stands where in all that is lent, tables, deadline tables, summaries and boards. It goes up whenever one of them
  * comes to hold more numbers, or a number there to mean something else. FUNNELFAWN_LAYOUT is that of this header, and funnelfawn_layout()
  * that of the archive: a program compares the two once, at its start, so that a header and an archive of different versions are found out
  * before a list is lent. Of numbers that were stored by another program or on another day it says nothing, unless the layout is stored
@@ -85,6 +85,23 @@ enum funnelfawn_place {
     FUNNELFAWN_PLACE_SELLING,
     FUNNELFAWN_PLACE_RESETTING,
     FUNNELFAWN_PLACE_LEAVING
+};
+
+/* Deadline tables: section 12 of the specification
+ *
+ * The second engine writes deadlines out. Its tables hold in place of an arrival the first and the last moment at which a window may act: in
+ * a timed place the last is its latest moment, and the first its earliest, which is the arrival itself but for checking. They are lent as
+ * FUNNELFAWN_DEADLINES_LENGTH numbers: the six that a table begins with, and then for each of the 96 windows its place, its first and its
+ * last moment; remainder and selling have neither, and 0 stands for both [12.110]. Window w, from 1, has its place at
+ * FUNNELFAWN_HEADER_LENGTH + FUNNELFAWN_DEADLINES_STRIDE * (w - 1).
+ *
+ * A table and a deadline table match if all else is equal and each window's two moments are its earliest and its latest [12.20]. A deadline
+ * table is sound exactly if some sound table matches it; any other is refused with 1: first and last moments of different arrivals, of an
+ * arrival after the clock, or a last moment before it, however near 2^64 the numbers are [12.35]. From matching tables the two engines give
+ * the same answer to every act, and leave tables that match [12.80]; so all that is promised of lists of acts holds for both [12.90]. */
+enum {
+    FUNNELFAWN_DEADLINES_STRIDE = 3,
+    FUNNELFAWN_DEADLINES_LENGTH = FUNNELFAWN_HEADER_LENGTH + FUNNELFAWN_DEADLINES_STRIDE * FUNNELFAWN_WINDOWS
 };
 
 /* Summaries: [9.30], and section 5 of the specification
@@ -257,6 +274,24 @@ struct funnelfawn_told funnelfawn_record_and_tell(uint64_t *FUNNELFAWN_RESTRICT 
                                                   uint64_t *FUNNELFAWN_RESTRICT summary, size_t summary_length,
                                                   uint64_t *FUNNELFAWN_RESTRICT board, size_t board_length, uint64_t act, uint64_t window,
                                                   uint64_t moment);
+
+/* [12.120] A fresh deadline table, as funnelfawn_fresh makes a table: 0, 0, 0 with its numbers in `deadlines`; or 11, 12, or, last, 16. */
+struct funnelfawn_answer funnelfawn_fresh_deadlines(uint64_t n, uint64_t a, uint64_t b, uint64_t c, uint64_t *deadlines,
+                                                    size_t deadlines_length);
+
+/* [12.130] One act on a deadline table, with the answers of funnelfawn_step. Accepted, it writes the clock, the word and the three numbers of
+ * the acting window; refused, nothing. */
+struct funnelfawn_answer funnelfawn_step_deadlines(uint64_t *deadlines, size_t deadlines_length, uint64_t act, uint64_t window,
+                                                   uint64_t moment);
+
+/* [12.140] To and fro: the deadline table that matches a sound table, and the table that matches a sound deadline table. What goes both ways
+ * is the same again [12.105].
+ *   0, 0, 0 with the numbers in the second list; or 1, where the first holds no sound table, or, last, 16, where the second is too short. The
+ *   first list is only read, and refused the second stays as it was. */
+struct funnelfawn_answer funnelfawn_to_deadlines(const uint64_t *FUNNELFAWN_RESTRICT table, size_t table_length,
+                                                 uint64_t *FUNNELFAWN_RESTRICT deadlines, size_t deadlines_length);
+struct funnelfawn_answer funnelfawn_to_arrivals(const uint64_t *FUNNELFAWN_RESTRICT deadlines, size_t deadlines_length,
+                                                uint64_t *FUNNELFAWN_RESTRICT table, size_t table_length);
 
 /* Recordings, section 6 of the specification: text of at most FUNNELFAWN_MOST_TEXT bytes, of at most FUNNELFAWN_MOST_STEPS steps, and its
  * steps in three lists. The acts are written wait, try, test, set, check, crit, exit, reset, rem, withdraw. */

@@ -16,6 +16,7 @@ ghost use Rattle.model.specs.Reports.{reportOf};
 ghost use Rattle.intervals.specs.Intervals.{writeIntervalsOf};
 ghost use Rattle.layout.specs.Layouts.{layoutNumber};
 ghost use Rattle.layout.specs.Interface.{lentGave, lentFresh, lentStep, recordGave, lentRecord, summaryGave, lentSummary};
+ghost use Rattle.deadline_layout.specs.Interface.{lentFreshWith, lentStepWith, lentToDeadlines, lentToArrivals};
 ghost use Rattle.recent.specs.Encodings.{boardGave, lentSetUp, lentAdd, lentShow};
 ghost use Rattle.recent.specs.Tellings.{toldGave, lentTell};
 ghost use Rattle.funnelfawn.specs.Telling.{aloneWith};
@@ -202,4 +203,49 @@ pub extern "C" fn funnelfawn_record_and_tell(
         answer: answer,
         told: told,
     }
+}
+
+// The second engine
+
+// [12.120] [21.110] A fresh deadline table, in the lent numbers.
+#[no_mangle]
+pub extern "C" fn funnelfawn_fresh_deadlines(
+    n: u64,
+    a: u64,
+    b: u64,
+    c: u64,
+    deadlines: &mut [u64],
+) -> Answer
+    ensures { λ r. ⌜ lentGave r (now (deadlines .exit)) ≡ lentFreshWith (parametersOf n a b c) (now (deadlines .entry)) ⌝ }
+{
+    deadline_layout::fresh(parameters_of(n, a, b, c), deadlines)
+}
+
+// [12.130] [21.110] One act, in the lent deadline table.
+#[no_mangle]
+pub extern "C" fn funnelfawn_step_deadlines(
+    deadlines: &mut [u64],
+    action: u64,
+    process: u64,
+    time: u64,
+) -> Answer
+    ensures { λ r. ⌜ lentGave r (now (deadlines .exit)) ≡ lentStepWith (now (deadlines .entry)) action process time ⌝ }
+{
+    deadline_layout::step(deadlines, action, process, time)
+}
+
+// [12.140] [21.110] From a table to the deadline table that matches it.
+#[no_mangle]
+pub extern "C" fn funnelfawn_to_deadlines(table: &[u64], deadlines: &mut [u64]) -> Answer
+    ensures { λ r. ⌜ lentGave r (now (deadlines .exit)) ≡ lentToDeadlines (now (table .entry)) (now (deadlines .entry)) ⌝ }
+{
+    deadline_layout::to_deadlines(table, deadlines)
+}
+
+// [12.140] [21.110] From a deadline table to the table that matches it.
+#[no_mangle]
+pub extern "C" fn funnelfawn_to_arrivals(deadlines: &[u64], table: &mut [u64]) -> Answer
+    ensures { λ r. ⌜ lentGave r (now (table .exit)) ≡ lentToArrivals (now (deadlines .entry)) (now (table .entry)) ⌝ }
+{
+    deadline_layout::to_arrivals(deadlines, table)
 }
