@@ -5,8 +5,9 @@ use mathlib.Core.Bool.{true}
 use mathlib.Core.List.{List, _++_}
 use lib.ListN.{length}
 use Rattle.model.specs.Readings.{over}
+use Rattle.layout.specs.Layouts.{layout}
 use Rattle.deadlines.specs.declared.DeadlineState.{DeadlineState}
-use Rattle.deadline_layout.specs.Encodings.{stateNumbersWith, isDeadlineTable, deadlineTableIn}
+use Rattle.deadline_layout.specs.Encodings.{deadlineLength, stateNumbersWith, isDeadlineTable, deadlineTableIn}
 
 -- [12.112] of 96 entries, as each of the code is: the numbers of a state of deadlines, whatever stands after them, tell that one
 abbrev pub DeadlinesComeBack : Type 0
@@ -16,3 +17,7 @@ DeadlinesComeBack = (d : DeadlineState) → length (d .processes) ≡ 96 → (re
 -- [12.112] numbers that tell a state of deadlines are its numbers, whatever stands after them
 abbrev pub DeadlineNumbersComeBack : Type 0
 DeadlineNumbersComeBack = (l : List ℕ) → isDeadlineTable l ≡ true → over (stateNumbersWith (deadlineTableIn l)) l ≡ l
+
+-- [9.15] the layout's number stands for deadline tables too
+abbrev pub DeadlineLayout : Type 0
+DeadlineLayout = layout .deadlines ≡ deadlineLength

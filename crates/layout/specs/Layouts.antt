@@ -6,7 +6,8 @@ use mathlib.Core.List.{List, [], _∷_}
 use lib.ListN.{length, getD}
 use Rattle.layout.specs.Encodings.{headerLength, stride, tableLength, countsLength, summaryLength}
 
--- [9.15] how long lists are that are lent: a table, what stands before its entries and an entry; a summary and its counts; a board
+-- [9.15] how long lists are that are lent: a table, what stands before its entries and an entry; a summary and its counts; a board; a deadline
+-- table, and 0 where there was no such list yet
 pub record Layout : Type 0 where
   pub table : ℕ
   pub header : ℕ
@@ -14,14 +15,16 @@ pub record Layout : Type 0 where
   pub summary : ℕ
   pub counts : ℕ
   pub board : ℕ
+  pub deadlines : ℕ
 
 -- helper: that of the number 1
 abbrev pub firstLayout : Layout
-firstLayout = record { table = 198; header = 6; entry = 2; summary = 101; counts = 5; board = 3_076 }
+firstLayout = record { table = 198; header = 6; entry = 2; summary = 101; counts = 5; board = 3_076; deadlines = 0 }
 
--- helper: that of the number 2, as long: a summary has waits so far where it had try times
+-- helper: that of the number 2, as long: a summary has waits so far where it had try times. Deadline tables came later: a list of a new kind
+-- changes none that there is, and so not the number
 abbrev pub secondLayout : Layout
-secondLayout = firstLayout
+secondLayout = record { table = 198; header = 6; entry = 2; summary = 101; counts = 5; board = 3_076; deadlines = 294 }
 
 -- [9.15] all that there have been, that of the number 1 first
 abbrev pub layouts : List Layout

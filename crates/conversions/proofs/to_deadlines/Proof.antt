@@ -1,91 +1,118 @@
+-- `conversions::to_deadlines` meets its contract: the entries so far are those of the state that matches. Assumes nothing.
+use Prim.Native.Nat.{ℕ, _+_, _-_, _<_}
+use mathlib.Core.Path.{_≡_, refl, sym, ap, _∙_}
+use mathlib.Core.Bool.{true, false}
+use native.Mathlib.Omega.{arith}
+use lib.ListN.{length, getD}
+use borrow.Author.Needs.{needs}
+use Rattle.model.specs.declared.Process.{Process}
+use Rattle.model.specs.declared.State.{State}
+use Rattle.model.specs.States.{idle, soundOf}
+use Rattle.deadlines.specs.Deadlines.{entryWith, idleWith, freshWith}
+use Rattle.deadlines.specs.Matching.{datedFrom, matched, toDeadlines}
+use Rattle.deadlines.specs.Looks.{datedWith}
+use Rattle.model.proofs.Lists.{row-at, length-mapped}
+use Rattle.model.proofs.Soundness.{sound-past}
+use Rattle.model.proofs.Tests.{and-true-iff}
+use Rattle.theory.proofs.Conditions.{opposite}
+use Rattle.deadlines.proofs.Matched.{length-dated, dated-at, sound-same}
+use Rattle.deadlines.proofs.Passing.{sound-parts-with, small}
+use Rattle.deadlines.proofs.Judging.{dated-fits}
+use Rattle.conversions.proofs.Filling.{sound-iff-waits, Filled, filled-none, filled-next, filled-whole}
 use Rattle.conversions.proofs.to_deadlines.Statement.{statement}
 use Rattle.conversions.proofs.to_deadlines.Tie as tie
-use Rattle.conversions.proofs.to_deadlines.Reads as reads
-use Rattle.conversions.proofs.to_deadlines.Lts as lts
-use Rattle.deadlines.proofs.entry_with.Reads as entry-with-reads
-use Rattle.deadlines.proofs.fresh.Reads as fresh-reads
-use Rattle.deadlines.proofs.locations.dated.Reads as dated-reads
-use Rattle.machine.proofs.step.Reads as step-reads
-use Rattle.values.proofs.answer_with.Reads as answer-with-reads
-use Rattle.values.proofs.no_parameters.Reads as no-parameters-reads
+
+-- in a sound state no time of an entry wraps
+entry-dated : (s : State) (i : ℕ) (q : Process) → soundOf s ≡ true → i < length (s .processes)
+    → entryWith (datedWith (s .parameters) (i + 1) (getD (s .processes) i q .location))
+    ≡ getD (datedFrom (s .parameters) 1 (s .processes)) i idleWith
+entry-dated s i q e h =
+    let few = small (matched s) (and-true-iff _ _ .0 (sym (sound-parts-with (matched s)) ∙ sound-same s ∙ e) .0) in
+    let l = getD (s .processes) i idle .location in
+    let process : i + 1 ≡ 1 + i = omega arith in
+    rw (row-at (s .processes) i q idle h, dated-at (s .parameters) 1 (s .processes) i, process)
+    (ap entryWith (dated-fits (s .parameters) (1 + i) l (omega (arith, sound-past s e i, few)) (few .opens) (few .closes) (few .limit (1 + i))))
 
 abbrev Inv-loop : tie.InvT-loop
-Inv-loop state parameters processes₀ i₀ processes i = ?
+Inv-loop state parameters processes₀ i₀ processes i = Filled (datedFrom (state .parameters) 1 (state .processes)) processes i
 
 abbrev μ-loop : tie.MeasureT-loop
-μ-loop state parameters processes₀ i₀ processes i = ?
+μ-loop state parameters processes₀ i₀ processes i = 96 - i
 
--- src/lib.rt:25:9
+-- the wait tells whether the state is sound
+unsound : (c : tie.Then1 Inv-loop μ-loop) → soundOf (c .before .before .before .before .args .t1) ≡ false
+unsound c = opposite (sound-iff-waits _) .1 (rw (c .before .before .before .step .ensures) at (c .if1 .taken))
+
+sound : (c : tie.Else1 Inv-loop μ-loop) → soundOf (c .before .before .before .before .args .t1) ≡ true
+sound c = sound-iff-waits _ .1 (rw (c .before .before .before .step .ensures) at (c .if1 .left))
+
 step-requires : tie.Need-step-requires Inv-loop μ-loop
-step-requires c κs = ?
+step-requires c κs = search needs
 
--- src/lib.rt:28:37
 no-parameters-requires : tie.Need-no-parameters-requires Inv-loop μ-loop
-no-parameters-requires c κs = ?
+no-parameters-requires c κs = search needs
 
--- src/lib.rt:28:13
 fresh-requires : tie.Need-fresh-requires Inv-loop μ-loop
-fresh-requires c κs = ?
+fresh-requires c κs = search needs
 
--- src/lib.rt:31:21
 answer-with-requires : tie.Need-answer-with-requires Inv-loop μ-loop
-answer-with-requires c κs = ?
+answer-with-requires c κs = search needs
 
--- src/lib.rt:30:9
 returns : tie.Need-returns Inv-loop μ-loop
-returns c = ?
+unfolding toDeadlines freshWith
+returns c =
+    let f = c .before .before in
+    rw (c .answer-with .ensures, f .fresh .ensures, f .before .no-parameters .ensures, unsound (f .before .before))
 
--- src/lib.rt:40:5
 loop-holds : tie.Need-loop-holds Inv-loop μ-loop
-loop-holds c = ?
+loop-holds c =
+    let s = c .before .before .before .before .before .args .t1 in
+    filled-none _ _ (length-dated (s .parameters) 1 (s .processes) ∙ search (needs, length-mapped)) refl
 
--- src/lib.rt:41:21
 mul-entry : tie.Need-mul-entry Inv-loop μ-loop
-mul-entry c = ?
+mul-entry c = search needs
 
--- src/lib.rt:41:21
 element-copy-out-entry : tie.Need-element-copy-out-entry Inv-loop μ-loop
-element-copy-out-entry c = ?
+element-copy-out-entry c = search needs
 
--- src/lib.rt:43:53
 add-dated : tie.Need-add-dated Inv-loop μ-loop
-add-dated c = ?
+add-dated c = search needs
 
--- src/lib.rt:43:35
 dated-requires : tie.Need-dated-requires Inv-loop μ-loop
-dated-requires c κs = ?
+dated-requires c κs = search needs
 
--- src/lib.rt:43:24
 entry-with-requires : tie.Need-entry-with-requires Inv-loop μ-loop
-entry-with-requires c κs = ?
+entry-with-requires c κs = search needs
 
--- src/lib.rt:43:9
 mul-processes : tie.Need-mul-processes Inv-loop μ-loop
-mul-processes c = ?
+mul-processes c = search needs
 
--- src/lib.rt:43:9
 array-set-from-processes : tie.Need-array-set-from-processes Inv-loop μ-loop
-array-set-from-processes c = ?
+array-set-from-processes c = search needs
 
--- src/lib.rt:44:9
 add-i : tie.Need-add-i Inv-loop μ-loop
-add-i c = ?
+add-i c = search needs
 
--- src/lib.rt:40:5
 loop-less : tie.Need-loop-less Inv-loop μ-loop
-loop-less c = ?
+loop-less c = search needs
 
--- src/lib.rt:40:5
 loop-again : tie.Need-loop-again Inv-loop μ-loop
-loop-again c = ?
+loop-again c =
+    let f = c .before .before .before in
+    let v = f .before .loop in
+    let s = f .before .before .before .before .before .before .before .args .t1 in
+    let inside : v .i < length (s .processes) = omega (arith, length-dated (s .parameters) 1 (s .processes)) in
+    filled-next _ (v .processes) (v .i) _ idleWith (v .inv) (f .loop-test .taken)
+    (c .entry-with .ensures ∙ rw (c .before .dated .ensures) (entry-dated s (v .i) _ (sound (f .before .before .before)) inside))
 
--- src/lib.rt:47:17
 answer-with-requires-2 : tie.Need-answer-with-requires-2 Inv-loop μ-loop
-answer-with-requires-2 c κs = ?
+answer-with-requires-2 c κs = search needs
 
--- src/lib.rt:22:1
 returns-2 : tie.Need-returns-2 Inv-loop μ-loop
-returns-2 c = ?
+unfolding toDeadlines
+returns-2 c =
+    let v = c .before .before .loop in
+    rw (c .answer-with2 .ensures, filled-whole _ _ (v .i) (v .inv) (c .before .loop-test .left), sound (c .before .before .before .before))
 
 pub to-deadlines-spec : {M : Type 1} → statement M
 to-deadlines-spec =

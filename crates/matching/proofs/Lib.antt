@@ -1,0 +1,6 @@
+pub mod Matchings
+pub mod Engines
+pub mod Facts
+pub mod Acceptance
+pub mod Runs
+pub mod Demand3
