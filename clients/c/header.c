@@ -6,6 +6,7 @@
 #include <string.h>
 
 static uint64_t table[FUNNELFAWN_TABLE_LENGTH];
+static uint64_t deadlines[FUNNELFAWN_DEADLINES_LENGTH];
 static uint64_t summary[FUNNELFAWN_SUMMARY_LENGTH];
 static uint64_t board[FUNNELFAWN_BOARD_LENGTH];
 static uint8_t text[FUNNELFAWN_MOST_TEXT + 1];
@@ -36,6 +37,11 @@ static struct funnelfawn_told tell(uint64_t act, uint64_t window, uint64_t momen
 {
     return funnelfawn_record_and_tell(table, FUNNELFAWN_TABLE_LENGTH, summary, FUNNELFAWN_SUMMARY_LENGTH, board, FUNNELFAWN_BOARD_LENGTH,
                                       act, window, moment);
+}
+
+static struct funnelfawn_answer step_deadlines(uint64_t act, uint64_t window, uint64_t moment)
+{
+    return funnelfawn_step_deadlines(deadlines, FUNNELFAWN_DEADLINES_LENGTH, act, window, moment);
 }
 
 static int says(struct funnelfawn_answer answer, uint64_t number, uint64_t window, uint64_t moment)
@@ -73,6 +79,7 @@ static void layout(void)
 {
     CHECK(funnelfawn_layout() == FUNNELFAWN_LAYOUT && FUNNELFAWN_LAYOUT == 2);
     CHECK(FUNNELFAWN_TABLE_LENGTH == 198 && FUNNELFAWN_SUMMARY_LENGTH == 101 && FUNNELFAWN_BOARD_LENGTH == 3076);
+    CHECK(FUNNELFAWN_DEADLINES_LENGTH == 294);
 }
 
 /* Window 96 goes once round: the acts, the places and where each number stands. */
@@ -161,6 +168,140 @@ static void lengths(void)
     CHECK(funnelfawn_record(table, FUNNELFAWN_TABLE_LENGTH, summary, FUNNELFAWN_SUMMARY_LENGTH - 1, 0, 0, 0).number ==
           FUNNELFAWN_REFUSED_NO_SUMMARY);
     CHECK(funnelfawn_record(table, FUNNELFAWN_TABLE_LENGTH, NULL, 0, 0, 0, 0).number == FUNNELFAWN_REFUSED_NO_SUMMARY);
+}
+
+/* The table and the deadline table match: each, as its acts have left it, is what comes of the other. */
+static int match(void)
+{
+    uint64_t there[FUNNELFAWN_DEADLINES_LENGTH], back[FUNNELFAWN_TABLE_LENGTH];
+
+    return says(funnelfawn_to_deadlines(table, FUNNELFAWN_TABLE_LENGTH, there, FUNNELFAWN_DEADLINES_LENGTH), FUNNELFAWN_OK, 0, 0) &&
+           says(funnelfawn_to_arrivals(deadlines, FUNNELFAWN_DEADLINES_LENGTH, back, FUNNELFAWN_TABLE_LENGTH), FUNNELFAWN_OK, 0, 0) &&
+           memcmp(there, deadlines, sizeof there) == 0 && memcmp(back, table, sizeof back) == 0;
+}
+
+static void start_both(void)
+{
+    start();
+    CHECK(says(funnelfawn_fresh_deadlines(96, 5, 8, 12, deadlines, FUNNELFAWN_DEADLINES_LENGTH), FUNNELFAWN_OK, 0, 0) && match());
+}
+
+/* Window 96 goes once round by both engines: where its first and its last moment stand, and what they are. Only a check may not begin when the
+ * window arrives, and only there the last moment is from c. */
+static void deadlines_of_96(void)
+{
+    static const struct { uint64_t act, moment, place, first, last; } turns[] = {
+        {FUNNELFAWN_ACT_TRY, 2, FUNNELFAWN_PLACE_TESTING, 2, 7},       {FUNNELFAWN_ACT_TEST, 3, FUNNELFAWN_PLACE_SETTING, 3, 8},
+        {FUNNELFAWN_ACT_SET, 4, FUNNELFAWN_PLACE_CHECKING, 12, 16},    {FUNNELFAWN_ACT_CHECK, 12, FUNNELFAWN_PLACE_ENTERING, 12, 17},
+        {FUNNELFAWN_ACT_CRIT, 13, FUNNELFAWN_PLACE_SELLING, 0, 0},     {FUNNELFAWN_ACT_EXIT, 14, FUNNELFAWN_PLACE_RESETTING, 14, 19},
+        {FUNNELFAWN_ACT_RESET, 15, FUNNELFAWN_PLACE_LEAVING, 15, 20},  {FUNNELFAWN_ACT_REM, 16, FUNNELFAWN_PLACE_REMAINDER, 0, 0},
+        {FUNNELFAWN_ACT_TRY, 17, FUNNELFAWN_PLACE_TESTING, 17, 22},    {FUNNELFAWN_ACT_WITHDRAW, 20, FUNNELFAWN_PLACE_REMAINDER, 0, 0},
+    };
+    const size_t entry = FUNNELFAWN_HEADER_LENGTH + FUNNELFAWN_DEADLINES_STRIDE * (96 - 1);
+
+    start_both();
+    for (size_t i = 0; i < sizeof turns / sizeof turns[0]; i++) {
+        uint64_t selling = turns[i].place == FUNNELFAWN_PLACE_SELLING ? FUNNELFAWN_WINDOWS : 0;
+
+        CHECK(says(step_deadlines(turns[i].act, FUNNELFAWN_WINDOWS, turns[i].moment), FUNNELFAWN_OK, selling, turns[i].moment));
+        CHECK(step(turns[i].act, FUNNELFAWN_WINDOWS, turns[i].moment) == FUNNELFAWN_OK && match());
+        CHECK(deadlines[entry] == turns[i].place && deadlines[entry + 1] == turns[i].first && deadlines[entry + 2] == turns[i].last);
+        /* the six that a table begins with */
+        CHECK(memcmp(deadlines, table, FUNNELFAWN_HEADER_LENGTH * sizeof *table) == 0);
+    }
+    CHECK(entry + FUNNELFAWN_DEADLINES_STRIDE == FUNNELFAWN_DEADLINES_LENGTH);
+}
+
+/* The refusals of an act are those of the first engine, and what stands beside each too. */
+static void refusals_by_deadlines(void)
+{
+    start_both();
+    CHECK(says(step_deadlines(FUNNELFAWN_ACT_TRY, 3, 20), FUNNELFAWN_OK, 0, 20));
+    CHECK(says(step_deadlines(FUNNELFAWN_ACT_WAIT, 0, 19), FUNNELFAWN_REFUSED_BACKWARD, 0, 20));
+    CHECK(says(step_deadlines(FUNNELFAWN_ACT_WAIT, 0, UINT64_C(1000000000001)), FUNNELFAWN_REFUSED_END_OF_CLOCK, 0, 0));
+    CHECK(says(step_deadlines(FUNNELFAWN_ACT_WITHDRAW + 1, 1, 20), FUNNELFAWN_REFUSED_NO_ACT, 0, 0));
+    CHECK(says(step_deadlines(FUNNELFAWN_ACT_TRY, 97, 20), FUNNELFAWN_REFUSED_NO_WINDOW, 0, 0));
+    CHECK(says(step_deadlines(FUNNELFAWN_ACT_WAIT, 1, 20), FUNNELFAWN_REFUSED_NO_WINDOW, 0, 0));
+    CHECK(says(step_deadlines(FUNNELFAWN_ACT_TRY, 4, 26), FUNNELFAWN_REFUSED_LATE, 3, 25));
+    CHECK(says(step_deadlines(FUNNELFAWN_ACT_SET, 3, 20), FUNNELFAWN_REFUSED_OUT_OF_PLACE, 3, 0));
+    CHECK(says(step_deadlines(FUNNELFAWN_ACT_TEST, 3, 20), FUNNELFAWN_OK, 0, 20));
+    CHECK(says(step_deadlines(FUNNELFAWN_ACT_SET, 3, 21), FUNNELFAWN_OK, 0, 21));
+    CHECK(says(step_deadlines(FUNNELFAWN_ACT_CHECK, 3, 28), FUNNELFAWN_REFUSED_EARLY, 3, 29));
+    /* a fresh one that is refused leaves the older one */
+    CHECK(says(funnelfawn_fresh_deadlines(97, 5, 5, 12, deadlines, FUNNELFAWN_DEADLINES_LENGTH), FUNNELFAWN_REFUSED_WINDOW_COUNT, 0, 0));
+    CHECK(says(funnelfawn_fresh_deadlines(96, 5, 5, 12, deadlines, FUNNELFAWN_DEADLINES_LENGTH), FUNNELFAWN_REFUSED_LIMITS, 0, 0));
+    CHECK(says(step_deadlines(FUNNELFAWN_ACT_CHECK, 3, 29), FUNNELFAWN_OK, 0, 29));
+}
+
+/* Whether a deadline table at this clock is sound that has window 1 there, by a step and on the way to arrivals; refused, nothing changes. */
+static int is_sound(uint64_t clock, uint64_t place, uint64_t first, uint64_t last)
+{
+    uint64_t lent[FUNNELFAWN_DEADLINES_LENGTH], arrivals[FUNNELFAWN_TABLE_LENGTH] = {0}, number;
+
+    funnelfawn_fresh_deadlines(96, 5, 8, 12, deadlines, FUNNELFAWN_DEADLINES_LENGTH);
+    deadlines[FUNNELFAWN_AT_CLOCK] = clock;
+    deadlines[FUNNELFAWN_HEADER_LENGTH] = place;
+    deadlines[FUNNELFAWN_HEADER_LENGTH + 1] = first, deadlines[FUNNELFAWN_HEADER_LENGTH + 2] = last;
+    memcpy(lent, deadlines, sizeof lent);
+    number = step_deadlines(FUNNELFAWN_ACT_WAIT, 0, clock).number;
+    CHECK(number == FUNNELFAWN_OK || number == FUNNELFAWN_REFUSED_NO_TABLE);
+    CHECK(funnelfawn_to_arrivals(lent, FUNNELFAWN_DEADLINES_LENGTH, arrivals, FUNNELFAWN_TABLE_LENGTH).number == number);
+    CHECK(memcmp(lent, deadlines, sizeof lent) == 0 && (arrivals[FUNNELFAWN_AT_N] == 96) == (number == FUNNELFAWN_OK));
+    return number == FUNNELFAWN_OK;
+}
+
+/* [12.35] Which first and last moments are those of an arrival that a sound table may have. */
+static void sound_deadlines(void)
+{
+    const uint64_t most = UINT64_MAX;
+
+    CHECK(is_sound(20, FUNNELFAWN_PLACE_REMAINDER, 0, 0) && is_sound(20, FUNNELFAWN_PLACE_SELLING, 0, 0));
+    CHECK(!is_sound(20, FUNNELFAWN_PLACE_REMAINDER, 1, 0) && !is_sound(20, FUNNELFAWN_PLACE_SELLING, 0, 1));
+    CHECK(!is_sound(20, FUNNELFAWN_PLACE_LEAVING + 1, 20, 25));
+    /* an arrival from 15 to 20, and for a check from 8 to 20 */
+    CHECK(is_sound(20, FUNNELFAWN_PLACE_TESTING, 20, 25) && !is_sound(20, FUNNELFAWN_PLACE_TESTING, 21, 26));
+    CHECK(is_sound(20, FUNNELFAWN_PLACE_LEAVING, 15, 20) && !is_sound(20, FUNNELFAWN_PLACE_LEAVING, 14, 19));
+    CHECK(is_sound(20, FUNNELFAWN_PLACE_CHECKING, 28, 32) && !is_sound(20, FUNNELFAWN_PLACE_CHECKING, 29, 33));
+    CHECK(is_sound(20, FUNNELFAWN_PLACE_CHECKING, 16, 20) && !is_sound(20, FUNNELFAWN_PLACE_CHECKING, 15, 19));
+    /* moments of different arrivals; a check's elsewhere, and others' in checking */
+    CHECK(!is_sound(20, FUNNELFAWN_PLACE_ENTERING, 19, 25) && !is_sound(20, FUNNELFAWN_PLACE_ENTERING, 20, 26));
+    CHECK(!is_sound(20, FUNNELFAWN_PLACE_CHECKING, 27, 32) && !is_sound(20, FUNNELFAWN_PLACE_CHECKING, 28, 33));
+    CHECK(!is_sound(20, FUNNELFAWN_PLACE_SETTING, 28, 32) && !is_sound(20, FUNNELFAWN_PLACE_CHECKING, 20, 25));
+    /* a check that came before moment 0, and numbers whose sums or differences come around at 2^64 */
+    CHECK(is_sound(3, FUNNELFAWN_PLACE_CHECKING, 8, 12) && !is_sound(3, FUNNELFAWN_PLACE_CHECKING, 7, 11));
+    CHECK(!is_sound(3, FUNNELFAWN_PLACE_RESETTING, most, 4) && !is_sound(3, FUNNELFAWN_PLACE_CHECKING, most, 3));
+    CHECK(!is_sound(3, FUNNELFAWN_PLACE_TESTING, most - 5, most) && !is_sound(3, FUNNELFAWN_PLACE_CHECKING, most - 4, most));
+    /* [2.95] at the clock's end they may lie past it */
+    CHECK(is_sound(UINT64_C(1000000000000), FUNNELFAWN_PLACE_CHECKING, UINT64_C(1000000000008), UINT64_C(1000000000012)));
+    CHECK(!is_sound(UINT64_C(1000000000001), FUNNELFAWN_PLACE_REMAINDER, 0, 0));
+}
+
+/* The least lengths that do, and one less; nothing is read through a null pointer with a count of 0. */
+static void lengths_of_deadlines(void)
+{
+    uint64_t longer[FUNNELFAWN_DEADLINES_LENGTH + 1];
+    const size_t most = FUNNELFAWN_DEADLINES_LENGTH;
+
+    start_both();
+    CHECK(says(funnelfawn_fresh_deadlines(1, 5, 8, 12, deadlines, most - 1), FUNNELFAWN_REFUSED_SHORT_OUTPUT, 0, 0));
+    CHECK(says(funnelfawn_fresh_deadlines(97, 5, 8, 12, NULL, 0), FUNNELFAWN_REFUSED_WINDOW_COUNT, 0, 0));
+    CHECK(says(funnelfawn_fresh_deadlines(1, 8, 8, 12, NULL, 0), FUNNELFAWN_REFUSED_LIMITS, 0, 0));
+    CHECK(says(funnelfawn_step_deadlines(deadlines, most - 1, 0, 0, 0), FUNNELFAWN_REFUSED_NO_TABLE, 0, 0));
+    CHECK(says(funnelfawn_step_deadlines(NULL, 0, 0, 0, 0), FUNNELFAWN_REFUSED_NO_TABLE, 0, 0));
+    CHECK(says(funnelfawn_to_deadlines(table, FUNNELFAWN_TABLE_LENGTH, deadlines, most - 1), FUNNELFAWN_REFUSED_SHORT_OUTPUT, 0, 0));
+    CHECK(says(funnelfawn_to_deadlines(table, FUNNELFAWN_TABLE_LENGTH - 1, NULL, 0), FUNNELFAWN_REFUSED_NO_TABLE, 0, 0));
+    CHECK(says(funnelfawn_to_arrivals(deadlines, most, table, FUNNELFAWN_TABLE_LENGTH - 1), FUNNELFAWN_REFUSED_SHORT_OUTPUT, 0, 0));
+    CHECK(says(funnelfawn_to_arrivals(deadlines, most - 1, NULL, 0), FUNNELFAWN_REFUSED_NO_TABLE, 0, 0));
+    CHECK(says(funnelfawn_to_arrivals(NULL, 0, NULL, 0), FUNNELFAWN_REFUSED_NO_TABLE, 0, 0) && match());
+    /* of a longer list the rest stays */
+    longer[most] = 7777;
+    CHECK(says(funnelfawn_fresh_deadlines(2, 5, 8, 12, longer, most + 1), FUNNELFAWN_OK, 0, 0) && longer[most] == 7777);
+    CHECK(says(funnelfawn_step_deadlines(longer, most + 1, FUNNELFAWN_ACT_TRY, 2, 9), FUNNELFAWN_OK, 0, 9) && longer[most] == 7777);
+    CHECK(says(funnelfawn_to_deadlines(table, FUNNELFAWN_TABLE_LENGTH, longer, most + 1), FUNNELFAWN_OK, 0, 0) && longer[most] == 7777);
+    CHECK(memcmp(longer, deadlines, sizeof deadlines) == 0);
+    longer[FUNNELFAWN_TABLE_LENGTH] = 7777;
+    CHECK(says(funnelfawn_to_arrivals(deadlines, most, longer, most + 1), FUNNELFAWN_OK, 0, 0));
+    CHECK(memcmp(longer, table, sizeof table) == 0 && longer[FUNNELFAWN_TABLE_LENGTH] == 7777);
 }
 
 /* The place k of the board holds this entry. */
@@ -361,6 +502,10 @@ int main(void)
     withdrawal();
     refusals();
     lengths();
+    deadlines_of_96();
+    refusals_by_deadlines();
+    sound_deadlines();
+    lengths_of_deadlines();
     ring();
     board_refusals();
     tellings();

@@ -19,7 +19,7 @@ use Rattle.model.specs.declared.Outcome.{Outcome}
 use Rattle.model.specs.Stages.{checking}
 use Rattle.model.specs.Acts.{waitAct, tryAct, testAct, setAct, checkAct, critAct, exitAct, resetAct, remAct, lastAct, leaves}
 use Rattle.model.specs.States.{lastTime, limitIn, stageOf, sinceOf, releaseIn, entryOf, soundOf}
-use Rattle.model.specs.Actions.{transitionOf, transitionAt, moved}
+use Rattle.model.specs.Actions.{transitionOf, moved}
 use Rattle.model.specs.Answers.{answerOf, beyond, unknown, misnamed, stepOf}
 use Rattle.rules.specs.declared.survey.Scene.{Scene}
 use Rattle.rules.specs.declared.survey.Survey.{Survey}
@@ -39,7 +39,7 @@ use Rattle.model.proofs.Tests.{by-test, by-cond, tests}
 use Rattle.rules.proofs.Pass.{Whole}
 use Rattle.rules.proofs.Pass as pass
 use Rattle.rules.proofs.Judged.{Goes, refuses, waits, moves, goes}
-use Rattle.deadlines.proofs.Matched.{dated-is, stage-arrived, length-arrived, entry-in, moved-same, row-same, outcomeMatched, step-same}
+use Rattle.deadlines.proofs.Matched.{dated-is, stage-arrived, length-arrived, entry-in, moved-same, outcomeMatched, step-same}
 use Rattle.deadlines.proofs.Matched.{sound-matched}
 use Rattle.deadlines.proofs.Passing.{Small, small, SurveyedWith, faulty, whole}
 
@@ -48,7 +48,7 @@ pub data GoesWith (d : DeadlineState) (act p m : ℕ) (o : DeadlineOutcome) (j :
   refuse : o ≡ record { answer = j; state = d } → j .code ≢ 0 → GoesWith d act p m o j
   wait : act ≡ waitAct → p ≡ 0 → o ≡ record { answer = j; state = changedWith d m (d .word) (d .processes) } → j .code ≡ 0 → GoesWith d act p m o j
   move : act ≢ waitAct → act ≤ lastAct → 1 ≤ p → p ≤ 96
-      → o ≡ record { answer = j; state = movedWith d p m (transitionAt (d .word) act p m) } → j .code ≡ 0 → GoesWith d act p m o j
+      → o ≡ record { answer = j; state = movedWith d p m (transitionOf (d .word) act p m) } → j .code ≡ 0 → GoesWith d act p m o j
 
 -- The answer looks at the time from which on a process may check only where it checks
 
@@ -95,12 +95,12 @@ module _ (s : State) (act p m : ℕ) where
   goes-matched o j (waits a z e h) = wait a z (ap outcomeMatched e) h
   goes-matched o j (moves some known from to e h) = move some known from to (ap outcomeMatched e ∙ (λ i. record { answer = j; state = sym same i })) h
     where
-      same : movedWith (matched s) p m (transitionAt (s .word) act p m) ≡ matched (moved s p m (transitionOf s act p m))
-      same = ap (movedWith (matched s) p m) (row-same s act p m) ∙ moved-same s p m (transitionOf s act p m) from
+      same : movedWith (matched s) p m (transitionOf (s .word) act p m) ≡ matched (moved s p m (transitionOf (s .word) act p m))
+      same = moved-same s p m (transitionOf (s .word) act p m) from
 
   module _ (f : Survey) (found : Whole s p f) (size : length (s .processes) ≡ 96) (own : DeadlineLocation) (t : Transition)
       (own-is : 1 ≤ p → p ≤ 96 → own ≡ entryIn (matched s) p .location)
-      (t-is : act ≢ waitAct → act ≤ lastAct → t ≡ transitionAt (s .word) act p m) where
+      (t-is : act ≢ waitAct → act ≤ lastAct → t ≡ transitionOf (s .word) act p m) where
     -- the location of the acting process, with its times and with its arrival
     own-dated : 1 ≤ p → p ≤ 96 → own ≡ datedAt k (1 + (p - 1)) (entryOf s p .location)
     own-dated from to = own-is from to ∙ ap (λ (q : DeadlineProcess). q .location) (entry-in s p)
@@ -108,8 +108,8 @@ module _ (s : State) (act p m : ℕ) where
     own-arrived : 1 ≤ p → p ≤ 96 → arrivedAt k own ≡ entryOf s p .location
     own-arrived from to = ap (arrivedAt k) (own-dated from to) ∙ dated-is k (1 + (p - 1)) (entryOf s p .location) .back
 
-    row-is : act ≢ waitAct → act ≤ lastAct → t ≡ transitionOf s act p m
-    row-is some known = t-is some known ∙ row-same s act p m
+    row-is : act ≢ waitAct → act ≤ lastAct → t ≡ transitionOf (s .word) act p m
+    row-is some known = t-is some known
 
     past : sinceOf (entryOf s p .location) ≤ s .clock
     unfolding entryOf
@@ -124,7 +124,7 @@ module _ (s : State) (act p m : ℕ) where
         let range : (1 ≤ p) × (p ≤ 96) = omega (arith, h, sound-numbers s (found .sound) .count) in
         let same = own-arrived (range .0) (range .1) in
         let from : t .from ≡ checking =
-        ap (λ (r : Transition). r .from) (row-is some (ltb-false lastAct act known)) ∙ row-leaves s act p m ∙ rw check in
+        ap (λ (r : Transition). r .from) (row-is some (ltb-false lastAct act known)) ∙ row-leaves (s .word) act p m ∙ rw check in
         let stage : stageOf (entryOf s p .location) ≡ checking = ap stageOf (sym same) ∙ eqb-true _ _ placed ∙ from in
         let first : firstOf own ≡ releaseIn k (entryOf s p .location) =
         ap firstOf (own-dated (range .0) (range .1)) ∙ dated-is k (1 + (p - 1)) (entryOf s p .location) .first in
@@ -142,7 +142,7 @@ module _ (s : State) (act p m : ℕ) where
 
 abbrev Going : ℕ → ℕ → ℕ → Survey → DeadlineLocation → Transition → DeadlineState → Type 0
 Going act p m f own t d = (1 ≤ p → p ≤ 96 → own ≡ entryIn d p .location)
-    → (act ≢ waitAct → act ≤ lastAct → t ≡ transitionAt (d .word) act p m)
+    → (act ≢ waitAct → act ≤ lastAct → t ≡ transitionOf (d .word) act p m)
     → GoesWith d act p m (stepWith d act p m) (judged f (sceneOf (d .parameters) (d .clock) p) (stageWith own) (firstOf own) t act m)
 
 -- an unsound one is answered with 1
@@ -183,7 +183,7 @@ Came m l = sinceOf l ≤ m
 abbrev Row : ℕ → Transition → Type 0
 Row m t = Came m (t .to)
 
-row-since : (word act p m : ℕ) → sinceOf (transitionAt word act p m .to) ≤ m
+row-since : (word act p m : ℕ) → sinceOf (transitionOf word act p m .to) ≤ m
 unfolding transitionOf
 row-since word act p m =
     by-cond (Row m) (eqb act tryAct) (λ _. omega arith) (λ _. by-cond (Row m) (eqb act testAct) (λ _. by-cond (Came m) (eqb word 0) (λ _. omega arith) (λ _. omega arith))
@@ -210,7 +210,7 @@ dated-fits k i (Leaving t) h b c a = λ j. with.Leaving (plain t j) (sum t (limi
 
 -- the entry of a process is stored at its slot, with sums that do not wrap
 pub exit-moved-with : (d : DeadlineState) (act p m slot : ℕ) (t : Transition) (o : DeadlineOutcome) (j : Answer)
-    → (p ≤ 96 → slot ≡ p - 1) → (act ≢ waitAct → act ≤ lastAct → t ≡ transitionAt (d .word) act p m) → m ≤ lastTime → Small d → GoesWith d act p m o j
+    → (p ≤ 96 → slot ≡ p - 1) → (act ≢ waitAct → act ≤ lastAct → t ≡ transitionOf (d .word) act p m) → m ≤ lastTime → Small d → GoesWith d act p m o j
     → j .code ≡ 0 → act ≢ waitAct
     → record { answer = j; state = changedWith d m (t .word) (set (d .processes) slot (entryWith (datedWith (d .parameters) p (t .to)))) } ≡ o
 exit-moved-with d act p m slot t o j slot-is t-is last few (refuse e n) h a = absurd (n h)
@@ -219,6 +219,6 @@ exit-moved-with d act p m slot t o j slot-is t-is last few (move some known from
     rw (
       slot-is to,
       t-is some known,
-      dated-fits (d .parameters) p (transitionAt (d .word) act p m .to)
+      dated-fits (d .parameters) p (transitionOf (d .word) act p m .to)
           (omega (arith, row-since (d .word) act p m)) (few .opens) (few .closes) (few .limit p),
     ) (sym e)

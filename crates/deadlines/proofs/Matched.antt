@@ -19,8 +19,8 @@ use Rattle.model.specs.Stages.{remainder}
 use Rattle.model.specs.Acts.{waitAct}
 use Rattle.model.specs.States.{entry, idle, stageOf, sinceOf, timed, bounded, deadline, limitIn, deadlineIn, releaseIn}
 use Rattle.model.specs.States.{entrySound, entriesSound, soundOf, entryOf}
-use Rattle.model.specs.Actions.{transitionOf, transitionAt, moved, effect}
-use Rattle.model.specs.Answers.{beyond, unknown, misnamed, missed, misplacedAt, earlyAt, Due, due, soonerBy, firstBy, firstDeadline}
+use Rattle.model.specs.Actions.{transitionOf, moved, effect}
+use Rattle.model.specs.Answers.{beyond, unknown, misnamed, missed, misplaced, early, Due, due, sooner, firstBy, firstDeadline}
 use Rattle.model.specs.Answers.{criticalBy, criticalOf, Sight, sightOf, judgedBy, answers, accepts, stepOf, freshOf}
 use Rattle.deadlines.specs.declared.DeadlineLocation.{DeadlineLocation}
 use Rattle.deadlines.specs.declared.DeadlineLocation.the-variants as with
@@ -182,8 +182,8 @@ module _ (s : State) where
 
   -- the first deadline so far, one entry on
   due-same : (i : ℕ) (l : Location) (first : Due)
-      → cond (soonerBy (timedWith (datedAt k i l)) (lastOf (datedAt k i l)) first) (due i (lastOf (datedAt k i l))) first
-      ≡ cond (soonerBy (timed l) (deadlineIn k i l) first) (due i (deadlineIn k i l)) first
+      → cond (sooner (timedWith (datedAt k i l)) (lastOf (datedAt k i l)) first) (due i (lastOf (datedAt k i l))) first
+      ≡ cond (sooner (timed l) (deadlineIn k i l) first) (due i (deadlineIn k i l)) first
   due-same i Remainder first = refl
   due-same i (Testing t) first = refl
   due-same i (Setting t) first = refl
@@ -237,13 +237,9 @@ module _ (s : State) where
       rw e at (dated-set k 1 (s .processes) (p - 1) (t .to)) in
       λ j. record { parameters = k; clock = m; word = t .word; processes = f j }
 
-  pub row-same : (act p m : ℕ) → transitionAt (s .word) act p m ≡ transitionOf s act p m
-  unfolding transitionOf
-  row-same act p m = refl
-
   effect-same : (act p m : ℕ) → misnamed (k .n) act p ≡ false → effectWith (matched s) act p m ≡ matched (effect s act p m)
   unfolding effectWith effect
-  effect-same act p m named = by-test (eqb act waitAct) (λ e. rw e) (λ e. rw (e, row-same act p m) (moved-same p m (transitionOf s act p m) (from e)))
+  effect-same act p m named = by-test (eqb act waitAct) (λ e. rw e) (λ e. rw e (moved-same p m (transitionOf (s .word) act p m) (from e)))
     where
       from : eqb act waitAct ≡ false → 1 ≤ p
       from e = omega (arith, simp tests at (rw e at named))
@@ -260,8 +256,8 @@ judged-map : {A B : Type 0} (f : A → B) (v : Sight) (act p m : ℕ) (refuses :
 judged-map f v act p m refuses accepted others g =
     cond-map f (not (v .sound)) refl (λ _. cond-map f (ltb m (v .clock)) refl (λ _. cond-map f (beyond m) refl (λ _.
     cond-map f (unknown act) refl (λ _. cond-map f (misnamed (v .n) act p) refl (λ named.
-    cond-map f (missed (v .due) m) refl (λ _. cond-map f (misplacedAt (v .stage) act) refl (λ _.
-    cond-map f (earlyAt (v .release) act m) refl (λ _. g named))))))))
+    cond-map f (missed (v .due) m) refl (λ _. cond-map f (misplaced (v .stage) act) refl (λ _.
+    cond-map f (early (v .release) act m) refl (λ _. g named))))))))
 
 -- One step
 

@@ -11,7 +11,7 @@ use Rattle.model.specs.declared.Transition.{Transition}
 use Rattle.model.specs.Stages.{remainder, testing, setting, checking, entering, critical, resetting, leaving}
 use Rattle.model.specs.Acts.{waitAct}
 use Rattle.model.specs.States.{noParameters, parametersStand, clockStands, wordStands, limitIn, stageOf, deadlineIn, releaseIn}
-use Rattle.model.specs.Actions.{transitionAt}
+use Rattle.model.specs.Actions.{transitionOf}
 use Rattle.model.specs.Answers.{answerOf, Due, noneDue, firstBy, criticalBy, Sight, judgedBy, freshBy}
 use Rattle.deadlines.specs.declared.DeadlineLocation.{DeadlineLocation}
 use Rattle.deadlines.specs.declared.DeadlineLocation.the-variants.{Remainder, Testing, Setting, Checking, Entering, Critical, Resetting, Leaving}
@@ -178,7 +178,7 @@ movedWith d p m t = changedWith d m (t .word) (set (d .processes) (p - 1) (entry
 -- [12.60] the state after an accepted action
 unfoldable pub effectWith : DeadlineState → ℕ → ℕ → ℕ → DeadlineState
 effectWith d act p m =
-    cond (eqb act waitAct) (changedWith d m (d .word) (d .processes)) (movedWith d p m (transitionAt (d .word) act p m))
+    cond (eqb act waitAct) (changedWith d m (d .word) (d .processes)) (movedWith d p m (transitionOf (d .word) act p m))
 
 -- [4.60] [12.50] the answer beside the next state
 abbrev pub acceptsWith : DeadlineState → DeadlineOutcome

@@ -62,9 +62,9 @@ module _ (l : List ℕ) (long : length l ≡ tableLength) (act p m : ℕ) where
     own-is from to =
         ap (locationIn l) (slot-in p to) ∙ sym (ap (λ (q : Process). q .location) (entry-in l long (p - 1) (omega arith) idle))
 
-    row : act ≢ waitAct → act ≤ lastAct → rowIn l act p m ≡ transitionOf s act p m
+    row : act ≢ waitAct → act ≤ lastAct → rowIn l act p m ≡ transitionOf (s .word) act p m
     unfolding stateIn
-    row some known = row-is s act p m some known
+    row some known = row-is (s .word) act p m some known
 
     -- what is written is what the step changes
     wait-put : act ≡ waitAct → actionPut l (slotOf p) act (rowIn l act p m) m ≡ stateNumbers (waited s m)
@@ -72,10 +72,10 @@ module _ (l : List ℕ) (long : length l ≡ tableLength) (act p m : ℕ) where
     wait-put w = rw (eq-eqb act waitAct w) (sym (waited-stored s m ∙ ap (λ (k : List ℕ). clocked k m (s .word)) are-numbers))
 
     move-put : act ≢ waitAct → act ≤ lastAct → p ≤ 96
-        → actionPut l (slotOf p) act (rowIn l act p m) m ≡ stateNumbers (moved s p m (transitionOf s act p m))
+        → actionPut l (slotOf p) act (rowIn l act p m) m ≡ stateNumbers (moved s p m (transitionOf (s .word) act p m))
     unfolding actionPut
     move-put some known to =
-        let t = transitionOf s act p m in
+        let t = transitionOf (s .word) act p m in
         rw (ne-eqb act waitAct some)
         ((λ i. placedAt (clocked l m (row some known i .word)) (slot-in p to i) (row some known i .to))
         ∙ sym (moved-stored s p m t ∙ ap (λ (k : List ℕ). placedAt (clocked k m (t .word)) (p - 1) (t .to)) are-numbers))

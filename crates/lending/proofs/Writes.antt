@@ -73,7 +73,7 @@ module _ {p k : ℕ} (e : Elsewhere p k) where
     effect-stays : {act : ℕ} → Waits act p ⊎ Acts s act p m → Stays (effect s act p m)
     unfolding effect
     effect-stays (inl w) = rw (w .wait) wait-stays
-    effect-stays {act} (inr a) = rw (ne-eqb act waitAct (from-ready (a .from) .not-wait)) (move-stays (a .some) (transitionOf s act p m))
+    effect-stays {act} (inr a) = rw (ne-eqb act waitAct (from-ready (a .from) .not-wait)) (move-stays (a .some) (transitionOf (s .word) act p m))
 
 -- of any call: a refused one leaves them all
 numbers-stay : {s : State} {d : Call} {o : Outcome} → Called s d o → (k : ℕ) → Elsewhere (d .process) k

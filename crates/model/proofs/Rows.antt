@@ -3,7 +3,6 @@ use Prim.Native.Nat.{ℕ}
 use mathlib.Core.Path.{_≡_, refl}
 use mathlib.Core.Bool.{Bool, true, false, cond}
 use lib.Dec.{eqb}
-use Rattle.model.specs.declared.State.{State}
 use Rattle.model.specs.declared.Transition.{Transition}
 use Rattle.model.specs.Acts.{tryAct, testAct, setAct, checkAct, critAct, exitAct, resetAct, remAct, leaves}
 use Rattle.model.specs.Actions.{transitionOf}
@@ -21,12 +20,12 @@ either false h k = k
 stands : {t : Transition} {x : ℕ} → t .from ≡ x → Leaves t x
 stands e = record { from-is = e }
 
-rows-leave : (s : State) (act p m : ℕ) → Leaves (transitionOf s act p m) (leaves act)
+rows-leave : (word act p m : ℕ) → Leaves (transitionOf word act p m) (leaves act)
 unfolding transitionOf leaves
-rows-leave s act p m =
+rows-leave word act p m =
     either (eqb act tryAct) (stands refl) (either (eqb act testAct) (stands refl) (either (eqb act setAct) (stands refl)
     (either (eqb act checkAct) (stands refl) (either (eqb act critAct) (stands refl) (either (eqb act exitAct) (stands refl)
     (either (eqb act resetAct) (stands refl) (either (eqb act remAct) (stands refl) (stands refl))))))))
 
-pub row-leaves : (s : State) (act p m : ℕ) → transitionOf s act p m .from ≡ leaves act
-row-leaves s act p m = rows-leave s act p m .from-is
+pub row-leaves : (word act p m : ℕ) → transitionOf word act p m .from ≡ leaves act
+row-leaves word act p m = rows-leave word act p m .from-is

@@ -2,7 +2,7 @@
 -- process p and a time m. Assumes nothing.
 use Prim.Native.Nat.{ℕ, _-_}
 use mathlib.Core.Bool.{cond}
-use mathlib.Core.List.{List, []}
+use mathlib.Core.List.{List}
 use lib.ListN.{set}
 use lib.Dec.{eqb}
 use Rattle.model.specs.declared.Location.{Location}
@@ -11,7 +11,7 @@ use Rattle.model.specs.declared.Process.{Process}
 use Rattle.model.specs.declared.State.{State}
 use Rattle.model.specs.declared.Transition.{Transition}
 use Rattle.model.specs.Acts.{waitAct, tryAct, testAct, setAct, checkAct, critAct, exitAct, resetAct, remAct, withdrawAct, leaves}
-use Rattle.model.specs.States.{noParameters, entry}
+use Rattle.model.specs.States.{entry}
 
 -- The table, row by row
 
@@ -20,69 +20,61 @@ abbrev pub row : ℕ → Location → ℕ → Transition
 row from to word = record { from = from; to = to; word = word }
 
 -- [3.1] [3.60]
-abbrev pub tryRow : State → ℕ → ℕ → Transition
-tryRow s p m = row (leaves tryAct) (Testing m) (s .word)
+abbrev pub tryRow : ℕ → ℕ → ℕ → Transition
+tryRow word p m = row (leaves tryAct) (Testing m) word
 
 -- [3.2] [3.60] where it leads
 abbrev pub afterTest : ℕ → ℕ → Location
 afterTest word m = cond (eqb word 0) (Setting m) (Testing m)
 
 -- [3.2]
-abbrev pub testRow : State → ℕ → ℕ → Transition
-testRow s p m = row (leaves testAct) (afterTest (s .word) m) (s .word)
+abbrev pub testRow : ℕ → ℕ → ℕ → Transition
+testRow word p m = row (leaves testAct) (afterTest word m) word
 
 -- [3.3] [3.60]
-abbrev pub setRow : State → ℕ → ℕ → Transition
-setRow s p m = row (leaves setAct) (Checking m) p
+abbrev pub setRow : ℕ → ℕ → ℕ → Transition
+setRow word p m = row (leaves setAct) (Checking m) p
 
 -- [3.4] [3.60] where it leads
 abbrev pub afterCheck : ℕ → ℕ → ℕ → Location
 afterCheck word p m = cond (eqb word p) (Entering m) (Testing m)
 
 -- [3.4]
-abbrev pub checkRow : State → ℕ → ℕ → Transition
-checkRow s p m = row (leaves checkAct) (afterCheck (s .word) p m) (s .word)
+abbrev pub checkRow : ℕ → ℕ → ℕ → Transition
+checkRow word p m = row (leaves checkAct) (afterCheck word p m) word
 
 -- [3.5]
-abbrev pub critRow : State → ℕ → ℕ → Transition
-critRow s p m = row (leaves critAct) Critical (s .word)
+abbrev pub critRow : ℕ → ℕ → ℕ → Transition
+critRow word p m = row (leaves critAct) Critical word
 
 -- [3.6] [3.60]
-abbrev pub exitRow : State → ℕ → ℕ → Transition
-exitRow s p m = row (leaves exitAct) (Resetting m) (s .word)
+abbrev pub exitRow : ℕ → ℕ → ℕ → Transition
+exitRow word p m = row (leaves exitAct) (Resetting m) word
 
 -- [3.7] [3.60]
-abbrev pub resetRow : State → ℕ → ℕ → Transition
-resetRow s p m = row (leaves resetAct) (Leaving m) 0
+abbrev pub resetRow : ℕ → ℕ → ℕ → Transition
+resetRow word p m = row (leaves resetAct) (Leaving m) 0
 
 -- [3.8]
-abbrev pub remRow : State → ℕ → ℕ → Transition
-remRow s p m = row (leaves remAct) Remainder (s .word)
+abbrev pub remRow : ℕ → ℕ → ℕ → Transition
+remRow word p m = row (leaves remAct) Remainder word
 
 -- [3.9]
-abbrev pub withdrawRow : State → ℕ → ℕ → Transition
-withdrawRow s p m = row (leaves withdrawAct) Remainder (s .word)
+abbrev pub withdrawRow : ℕ → ℕ → ℕ → Transition
+withdrawRow word p m = row (leaves withdrawAct) Remainder word
 
--- [3.40] the row of an action from `tryAct` on
-unfoldable pub transitionOf : State → ℕ → ℕ → ℕ → Transition
-transitionOf s act p m =
-    cond (eqb act tryAct) (tryRow s p m)
-    (cond (eqb act testAct) (testRow s p m)
-    (cond (eqb act setAct) (setRow s p m)
-    (cond (eqb act checkAct) (checkRow s p m)
-    (cond (eqb act critAct) (critRow s p m)
-    (cond (eqb act exitAct) (exitRow s p m)
-    (cond (eqb act resetAct) (resetRow s p m)
-    (cond (eqb act remAct) (remRow s p m)
-    (withdrawRow s p m))))))))
-
--- helper: a state with this word, and nothing else
-abbrev pub worded : ℕ → State
-worded word = record { parameters = noParameters; clock = 0; word = word; processes = [] }
-
--- [3.40] the row, by the word: of a state the rows look at nothing else
-abbrev pub transitionAt : ℕ → ℕ → ℕ → ℕ → Transition
-transitionAt word act p m = transitionOf (worded word) act p m
+-- [3.40] the row of an action from `tryAct` on, at a word: of a state the rows look at nothing else
+unfoldable pub transitionOf : ℕ → ℕ → ℕ → ℕ → Transition
+transitionOf word act p m =
+    cond (eqb act tryAct) (tryRow word p m)
+    (cond (eqb act testAct) (testRow word p m)
+    (cond (eqb act setAct) (setRow word p m)
+    (cond (eqb act checkAct) (checkRow word p m)
+    (cond (eqb act critAct) (critRow word p m)
+    (cond (eqb act exitAct) (exitRow word p m)
+    (cond (eqb act resetAct) (resetRow word p m)
+    (cond (eqb act remAct) (remRow word p m)
+    (withdrawRow word p m))))))))
 
 -- What an accepted action makes of the state
 
@@ -104,4 +96,4 @@ moved s p m t = changed s m (t .word) (placed s p (t .to))
 
 -- [3.70] the state after an accepted action
 unfoldable pub effect : State → ℕ → ℕ → ℕ → State
-effect s act p m = cond (eqb act waitAct) (waited s m) (moved s p m (transitionOf s act p m))
+effect s act p m = cond (eqb act waitAct) (waited s m) (moved s p m (transitionOf (s .word) act p m))

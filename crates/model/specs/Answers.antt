@@ -30,8 +30,8 @@ answers code process time s = record { answer = answerOf code process time; stat
 -- The conditions. That of 1 is `soundOf`; those of 2 and 3 are the summary's.
 
 -- [4.4]
-abbrev pub backward : State → ℕ → Bool
-backward s m = ltb m (s .clock)
+abbrev pub backward : ℕ → ℕ → Bool
+backward clock m = ltb m clock
 
 -- [4.5]
 abbrev pub beyond : ℕ → Bool
@@ -59,17 +59,13 @@ abbrev pub noneDue : Due
 noneDue = due 0 0
 
 -- [4.8] a deadline, if there is one, comes before the first one found so far
-abbrev pub soonerBy : Bool → ℕ → Due → Bool
-soonerBy has time first = has && (eqb (first .process) 0 || ltb time (first .time))
+abbrev pub sooner : Bool → ℕ → Due → Bool
+sooner has time first = has && (eqb (first .process) 0 || ltb time (first .time))
 
 -- [4.8] [12.50] the search of both engines: which of the entries from process i on has a deadline, and which one, is told by `has` and `time`
 unfoldable pub firstBy : {E : Type 0} → (E → Bool) → (ℕ → E → ℕ) → ℕ → Due → List E → Due
 firstBy has time i first [] = first
-firstBy has time i first (q ∷ qs) = firstBy has time (i + 1) (cond (soonerBy (has q) (time i q) first) (due i (time i q)) first) qs
-
--- [4.8] the deadline of entry q, of process i, comes before the first one found so far
-abbrev pub sooner : State → ℕ → Process → Due → Bool
-sooner s i q first = soonerBy (bounded s q) (deadline s i q) first
+firstBy has time i first (q ∷ qs) = firstBy has time (i + 1) (cond (sooner (has q) (time i q) first) (due i (time i q)) first) qs
 
 -- [4.8] the first deadline of these and of the entries from process i on: the smallest, and of equal ones that of the lowest process
 abbrev pub firstFrom : State → ℕ → Due → List Process → Due
@@ -84,20 +80,12 @@ abbrev pub missed : Due → ℕ → Bool
 missed first m = not (eqb (first .process) 0) && ltb (first .time) m
 
 -- [4.9]
-abbrev pub misplacedAt : ℕ → ℕ → Bool
-misplacedAt stage act = not (eqb act waitAct) && not (eqb stage (leaves act))
-
--- [4.9] in a state
-abbrev pub misplaced : State → ℕ → ℕ → Bool
-misplaced s act p = misplacedAt (stageOf (entryOf s p .location)) act
+abbrev pub misplaced : ℕ → ℕ → Bool
+misplaced stage act = not (eqb act waitAct) && not (eqb stage (leaves act))
 
 -- [4.10]
-abbrev pub earlyAt : ℕ → ℕ → ℕ → Bool
-earlyAt release act m = eqb act checkAct && ltb m release
-
--- [4.10] in a state
-abbrev pub early : State → ℕ → ℕ → ℕ → Bool
-early s act p m = earlyAt (release s (entryOf s p)) act m
+abbrev pub early : ℕ → ℕ → ℕ → Bool
+early release act m = eqb act checkAct && ltb m release
 
 -- An accepted action
 
@@ -135,13 +123,13 @@ pub record Sight : Type 0 where
 abbrev pub judgedBy : {A : Type 0} → Sight → ℕ → ℕ → ℕ → (ℕ → ℕ → ℕ → A) → A → A
 judgedBy v act p m refuses accepted =
     cond (not (v .sound)) (refuses 1 0 0)
-    (cond (ltb m (v .clock)) (refuses 4 0 (v .clock))
+    (cond (backward (v .clock) m) (refuses 4 0 (v .clock))
     (cond (beyond m) (refuses 5 0 0)
     (cond (unknown act) (refuses 6 0 0)
     (cond (misnamed (v .n) act p) (refuses 7 0 0)
     (cond (missed (v .due) m) (refuses 8 (v .due .process) (v .due .time))
-    (cond (misplacedAt (v .stage) act) (refuses 9 p 0)
-    (cond (earlyAt (v .release) act m) (refuses 10 p (v .release))
+    (cond (misplaced (v .stage) act) (refuses 9 p 0)
+    (cond (early (v .release) act m) (refuses 10 p (v .release))
     accepted)))))))
 
 -- [4.80] of a state, when process p acts

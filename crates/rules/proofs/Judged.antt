@@ -16,7 +16,7 @@ use Rattle.model.specs.declared.Answer.{Answer}
 use Rattle.model.specs.declared.Outcome.{Outcome}
 use Rattle.model.specs.Stages.{checking}
 use Rattle.model.specs.Acts.{waitAct, checkAct, lastAct, leaves}
-use Rattle.model.specs.States.{lastTime, entry, stageOf, sinceOf, release, soundOf, entryOf}
+use Rattle.model.specs.States.{deadline, lastTime, entry, stageOf, sinceOf, release, soundOf, entryOf}
 use Rattle.model.specs.Actions.{transitionOf, changed, waited, moved, effect}
 use Rattle.model.specs.Answers.{answerOf, answers, backward, beyond, unknown, misnamed, Due, firstDeadline, missed, misplaced, early}
 use Rattle.model.specs.Answers.{criticalOf, accepts, stepOf}
@@ -35,7 +35,7 @@ use Rattle.rules.proofs.Pass.{Whole, Surveyed, faulty, whole}
 pub data Goes (s : State) (act p m : ℕ) (o : Outcome) (j : Answer) : Type 0 where
   refuses : o ≡ record { answer = j; state = s } → j .code ≢ 0 → Goes s act p m o j
   waits : act ≡ waitAct → p ≡ 0 → o ≡ record { answer = j; state = waited s m } → j .code ≡ 0 → Goes s act p m o j
-  moves : act ≢ waitAct → act ≤ lastAct → 1 ≤ p → p ≤ 96 → o ≡ record { answer = j; state = moved s p m (transitionOf s act p m) }
+  moves : act ≢ waitAct → act ≤ lastAct → 1 ≤ p → p ≤ 96 → o ≡ record { answer = j; state = moved s p m (transitionOf (s .word) act p m) }
       → j .code ≡ 0 → Goes s act p m o j
 
 by-both : {s : State} {act p m : ℕ} {o o′ : Outcome} {j j′ : Answer} (t u : Bool) → t ≡ u
@@ -46,8 +46,8 @@ by-both t false e f g = rw e (g refl)
 -- the last conditions of `stepOf`, for an act that nobody is late for
 abbrev turnOf : State → ℕ → ℕ → ℕ → Outcome
 turnOf s act p m =
-    cond (misplaced s act p) (answers 9 p 0 s)
-    (cond (early s act p m) (answers 10 p (release s (entryOf s p)) s) (accepts (effect s act p m)))
+    cond (misplaced (stageOf (entryOf s p .location)) act) (answers 9 p 0 s)
+    (cond (early (release s (entryOf s p)) act m) (answers 10 p (release s (entryOf s p)) s) (accepts (effect s act p m)))
 
 refusal : {s : State} {act p m : ℕ} {j : Answer} → j .code ≢ 0 → Goes s act p m (record { answer = j; state = s }) j
 refusal n = refuses refl n
@@ -76,11 +76,11 @@ module _ (s : State) (act p m : ℕ) (f : Survey) (found : Whole s p f) (size : 
 
   -- an action of a process from 1 to 96 that nobody is late for
   module _ (some : act ≢ waitAct) (known : act ≤ lastAct) (from : 1 ≤ p) (to : p ≤ 96) where
-    moves-on : Goes s act p m (accepts (effect s act p m)) (answerOf 0 (lowestOf (f .critical) p (transitionOf s act p m .to)) m)
+    moves-on : Goes s act p m (accepts (effect s act p m)) (answerOf 0 (lowestOf (f .critical) p (transitionOf (s .word) act p m .to)) m)
     unfolding effect criticalOf
     moves-on = rw (ne-eqb act waitAct some)
         (moves some known from to
-        (rw (others-moved p 1 (s .processes) (p - 1) (transitionOf s act p m .to) (omega arith) (omega arith) (omega arith), found .critical))
+        (rw (others-moved p 1 (s .processes) (p - 1) (transitionOf (s .word) act p m .to) (omega arith) (omega arith) (omega arith), found .critical))
         refl)
 
     -- in a sound state the sum of an arrival and b fits
@@ -100,22 +100,22 @@ module _ (s : State) (act p m : ℕ) (f : Survey) (found : Whole s p f) (size : 
       check-release : act ≡ checkAct → release s (entryOf s p) ≡ own-release
       check-release e = simp (eq-eqb (stageOf (entryOf s p .location)) checking (placed ∙ check-leaves e)) (sym release-fits)
 
-      early-is : early s act p m ≡ eqb act checkAct && ltb m own-release
+      early-is : early (release s (entryOf s p)) act m ≡ eqb act checkAct && ltb m own-release
       early-is = by-test (eqb act checkAct) (λ e. rw (check-release (eqb-true act checkAct e))) (λ e. simp e)
 
     turn-goes : Goes s act p m (turnOf s act p m)
-        (turnJudged (f .critical) p (stageOf (entryOf s p .location)) own-release (transitionOf s act p m) act m)
+        (turnJudged (f .critical) p (stageOf (entryOf s p .location)) own-release (transitionOf (s .word) act p m) act m)
     unfolding turnJudged
     turn-goes =
-        by-both (misplaced s act p) _ (rw (row-leaves s act p m) (simp (ne-eqb act waitAct some))) (λ _. refusal (λ z. omega arith))
-        (λ e. let placed : stageOf (entryOf s p .location) ≡ leaves act = eqb-true _ _ (not-false _ e) ∙ row-leaves s act p m in
-        by-both (early s act p m) _ (early-is placed)
+        by-both (misplaced (stageOf (entryOf s p .location)) act) _ (rw (row-leaves (s .word) act p m) (simp (ne-eqb act waitAct some))) (λ _. refusal (λ z. omega arith))
+        (λ e. let placed : stageOf (entryOf s p .location) ≡ leaves act = eqb-true _ _ (not-false _ e) ∙ row-leaves (s .word) act p m in
+        by-both (early (release s (entryOf s p)) act m) _ (early-is placed)
         (λ h. rw (check-release placed ((simp tests at h) .0)) (refusal (λ z. omega arith)))
         (λ _. moves-on))
 
   module _ (own : Location) (t : Transition)
       (own-is : 1 ≤ p → p ≤ 96 → own ≡ entryOf s p .location)
-      (t-is : act ≢ waitAct → act ≤ lastAct → t ≡ transitionOf s act p m)
+      (t-is : act ≢ waitAct → act ≤ lastAct → t ≡ transitionOf (s .word) act p m)
       (few : s .parameters .n ≤ 96) where
     -- past the refusals up to 8: a wait, or an action of a process
     past-late : act ≤ lastAct → misnamed (s .parameters .n) act p ≡ false → Goes s act p m (turnOf s act p m)
@@ -138,7 +138,7 @@ module _ (s : State) (act p m : ℕ) (f : Survey) (found : Whole s p f) (size : 
     sound-goes =
         by-both (not (soundOf s)) (not (eqb (f .faulty) 0)) (ap not (found .sound ∙ sym (eq-eqb _ 0 (found .faultless))))
         (λ _. refusal (λ z. omega arith))
-        (λ _. by-both (backward s m) _ refl (λ _. refusal (λ z. omega arith))
+        (λ _. by-both (backward (s .clock) m) _ refl (λ _. refusal (λ z. omega arith))
         (λ _. by-both (beyond m) _ refl (λ _. refusal (λ z. omega arith))
         (λ within. let h : m ≤ lastTime = ltb-false lastTime m within in
         by-both (unknown act) _ refl (λ _. refusal (λ z. omega arith))
@@ -160,7 +160,7 @@ exit-unsound s act p m e = rw e
 
 pub goes : (s : State) (act p m : ℕ) (f : Survey) (own : Location) (t : Transition)
     → Surveyed s p f → length (s .processes) ≡ 96
-    → (1 ≤ p → p ≤ 96 → own ≡ entryOf s p .location) → (act ≢ waitAct → act ≤ lastAct → t ≡ transitionOf s act p m)
+    → (1 ≤ p → p ≤ 96 → own ≡ entryOf s p .location) → (act ≢ waitAct → act ≤ lastAct → t ≡ transitionOf (s .word) act p m)
     → Goes s act p m (stepOf s act p m) (judged f (sceneOf (s .parameters) (s .clock) p) (stageOf own) (checkFrom own (s .parameters .b)) t act m)
 goes s act p m f own t (faulty e n) size own-is t-is = unsound-goes s act p m f own t e n
 goes s act p m f own t (whole w) size own-is t-is = sound-goes s act p m f w size own t own-is t-is (sound-numbers s (w .sound) .count)
@@ -181,7 +181,7 @@ exit-waited s act p m o j (moves some known from to e h′) h a = absurd (some a
 
 -- the entry of a process is stored at its slot
 pub exit-moved : (s : State) (act p m slot : ℕ) (t : Transition) (o : Outcome) (j : Answer)
-    → (p ≤ 96 → slot ≡ p - 1) → (act ≢ waitAct → act ≤ lastAct → t ≡ transitionOf s act p m) → Goes s act p m o j → j .code ≡ 0
+    → (p ≤ 96 → slot ≡ p - 1) → (act ≢ waitAct → act ≤ lastAct → t ≡ transitionOf (s .word) act p m) → Goes s act p m o j → j .code ≡ 0
     → act ≢ waitAct → record { answer = j; state = changed s m (t .word) (set (s .processes) slot (entry (t .to))) } ≡ o
 exit-moved s act p m slot t o j slot-is t-is (refuses e n) h a = absurd (n h)
 exit-moved s act p m slot t o j slot-is t-is (waits a′ z e h′) h a = absurd (a a′)

@@ -13,7 +13,7 @@ use Rattle.model.specs.declared.Location.the-variants.{Remainder, Testing, Sett
 use Rattle.model.specs.declared.Process.{Process}
 use Rattle.model.specs.declared.State.{State}
 use Rattle.model.specs.Stages.{remainder, checking, critical}
-use Rattle.model.specs.States.{entry, stageOf, sinceOf, timed, limitOf, deadline, entrySound}
+use Rattle.model.specs.States.{bounded, entry, stageOf, sinceOf, timed, limitOf, deadline, entrySound}
 use Rattle.model.specs.Answers.{Due, due, noneDue, sooner}
 use Rattle.rules.specs.declared.survey.Survey.{Survey}
 use Rattle.rules.specs.Survey.{sceneOf, endless, faulted, criticalAt, firstAt, dueFrom, dueNoted, timedNoted, criticalNoted, noted}
@@ -41,7 +41,7 @@ pub record Turn (s : State) (acting k : ℕ) (q : Process) (f g : Survey) : Type
   pub sound : entrySound s k q ≡ true
   pub ahead : s .clock ≤ g .due
   pub due-next : {d : Due} → Finds (f .process) (f .due) d
-      → Finds (g .process) (g .due) (cond (sooner s k q d) (due k (deadline s k q)) d)
+      → Finds (g .process) (g .due) (cond (sooner (bounded s q) (deadline s k q) d) (due k (deadline s k q)) d)
   pub critical-next : (rest : ℕ) → first (f .critical) (cond (otherCritical acting k q) k rest) ≡ first (g .critical) rest
 
 pub data Noted (s : State) (acting k : ℕ) (q : Process) (f g : Survey) : Type 0 where
@@ -82,7 +82,7 @@ module _ (s : State) (acting k : ℕ) (f : Survey) (so-far : f .faulty ≡ 0) (a
         critical-next = λ rest. rw out;
       })
         where
-          next : {d : Due} → Finds (f .process) (f .due) d → Finds (f .process) (f .due) (cond (sooner s k (entry l) d) (due k time) d)
+          next : {d : Due} → Finds (f .process) (f .due) d → Finds (f .process) (f .due) (cond (sooner (bounded s (entry l)) (deadline s k (entry l)) d) (due k time) d)
           next (none z e) = absurd (omega (arith, e, ends-below))
           next (one n) = rw (t, ne-eqb (f .process) 0 n, le-ltb time (f .due) a) (one n)
 
@@ -96,7 +96,7 @@ module _ (s : State) (acting k : ℕ) (f : Survey) (so-far : f .faulty ≡ 0) (a
         critical-next = λ rest. rw out;
       })
         where
-          next : {d : Due} → Finds (f .process) (f .due) d → Finds k time (cond (sooner s k (entry l) d) (due k time) d)
+          next : {d : Due} → Finds (f .process) (f .due) d → Finds k time (cond (sooner (bounded s (entry l)) (deadline s k (entry l)) d) (due k time) d)
           next (none z e) = rw t (one (λ z. omega arith))
           next (one n) = rw (t, ne-eqb (f .process) 0 n, lt-ltb time (f .due) a) (one (λ z. omega arith))
 

@@ -11,7 +11,7 @@ use lib.ListN.{length, getD, drop}
 use borrow.Author.Tests.{eqb-true}
 use Rattle.model.specs.declared.Process.{Process}
 use Rattle.model.specs.declared.State.{State}
-use Rattle.model.specs.States.{limitIn, limitOf, deadline, entrySound, entriesSound, soundOf}
+use Rattle.model.specs.States.{bounded, limitIn, limitOf, deadline, entrySound, entriesSound, soundOf}
 use Rattle.model.specs.Answers.{Due, due, noneDue, sooner, firstFrom, firstBy, firstDeadline}
 use Rattle.rules.specs.declared.survey.Survey.{Survey}
 use Rattle.rules.specs.Survey.{sceneOf, numbersStand, nothing, noted}
@@ -99,7 +99,7 @@ module _ (s : State) (acting i k : ℕ) (f : Survey) (passed : Passed s acting i
   sound-left = rw next-entry at (passed .sound)
 
   abbrev due-next : Due
-  due-next = cond (sooner s (i + 1) q (passed .due-yet)) (due (i + 1) (deadline s (i + 1) q)) (passed .due-yet)
+  due-next = cond (sooner (bounded s q) (deadline s (i + 1) q) (passed .due-yet)) (due (i + 1) (deadline s (i + 1) q)) (passed .due-yet)
 
   due-left : firstFrom s (i + 1 + 1) due-next (drop (i + 1) (s .processes)) ≡ firstDeadline s
   unfolding firstBy

@@ -4,14 +4,13 @@ use mathlib.Core.Path.{_≡_}
 use mathlib.Core.Logic.{_≢_}
 use native.Mathlib.Omega.{arith}
 use borrow.Author.Tests.{lt-ltb, le-ltb, ne-eqb}
-use Rattle.model.specs.declared.State.{State}
 use Rattle.model.specs.Acts.{waitAct, lastAct}
 use Rattle.model.specs.Actions.{transitionOf}
 use Rattle.rules.specs.Judging.{noRow, rowOf}
 
-pub row-is : (s : State) (act p m : ℕ) → act ≢ waitAct → act ≤ lastAct → rowOf act p m (s .word) ≡ transitionOf s act p m
+pub row-is : (word act p m : ℕ) → act ≢ waitAct → act ≤ lastAct → rowOf act p m word ≡ transitionOf word act p m
 unfolding rowOf transitionOf
-row-is s act p m some known = simp (ne-eqb act waitAct some, le-ltb lastAct act known)
+row-is word act p m some known = simp (ne-eqb act waitAct some, le-ltb lastAct act known)
 
 -- x is none of the numbers below k: what a `match` on 0, 1, .., k - 1 says of x in the arm behind them
 abbrev pub NoneBelow : ℕ → ℕ → Type 0

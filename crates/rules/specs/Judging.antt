@@ -12,7 +12,7 @@ use Rattle.model.specs.declared.Answer.{Answer}
 use Rattle.model.specs.Stages.{remainder, critical}
 use Rattle.model.specs.Acts.{waitAct, checkAct}
 use Rattle.model.specs.States.{stageOf, sinceOf}
-use Rattle.model.specs.Actions.{row, transitionAt}
+use Rattle.model.specs.Actions.{row, transitionOf}
 use Rattle.model.specs.Answers.{answerOf, beyond, unknown, misnamed}
 use Rattle.rules.specs.declared.survey.Scene.{Scene}
 use Rattle.rules.specs.declared.survey.Survey.{Survey}
@@ -25,7 +25,7 @@ noRow word = row remainder Remainder word
 
 -- [3.40] of any action
 unfoldable pub rowOf : ℕ → ℕ → ℕ → ℕ → Transition
-rowOf act p m word = cond (eqb act waitAct || unknown act) (noRow word) (transitionAt word act p m)
+rowOf act p m word = cond (eqb act waitAct || unknown act) (noRow word) (transitionOf word act p m)
 
 -- Who is critical besides the acting process
 

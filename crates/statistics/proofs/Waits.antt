@@ -253,7 +253,7 @@ module _ (s : State) (size : length (s .processes) ≡ 96) (act p m : ℕ) where
   before-by (inr a) few =
       let to = row-effect s p (a .from) in
       simp (ne-eqb act waitAct (from-ready (a .from) .not-wait))
-      (before-moved (s .processes) p act (transitionOf s act p m .to) (a .some) (omega (arith, a .most)) (crit-critical to) (comes-not to))
+      (before-moved (s .processes) p act (transitionOf (s .word) act p m .to) (a .some) (omega (arith, a .most)) (crit-critical to) (comes-not to))
 
   module _ (a : Accepted (stepOf s act p m)) where
     taken : Taken s act p m (stepOf s act p m)

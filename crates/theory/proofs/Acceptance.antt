@@ -37,7 +37,7 @@ module _ (s : State) (p m : ℕ) where
   unfolding effect
   act-changes {act} fits a =
       let n = from-ready (a .from) .not-wait in
-      let t = transitionOf s act p m in
+      let t = transitionOf (s .word) act p m in
       rw (ne-eqb act waitAct n)
       (record {
         parameters-stay = refl;

@@ -43,13 +43,13 @@ misnamed-told n act p = (test-misnamed n act p, misnamed-test)
 -- Where its process is
 
 module _ (s : State) (act p : ℕ) (known : act ≤ lastAct) where
-  pub misplaced-told : (misplaced s act p ≡ true) ↔ ((act ≢ waitAct) × (InPlace s act p → ⊥))
+  pub misplaced-told : (misplaced (stageOf (entryOf s p .location)) act ≡ true) ↔ ((act ≢ waitAct) × (InPlace s act p → ⊥))
   misplaced-told = (
     λ e. let h = simp tests at e in (h .0, λ k. h .1 (placed-stage s p k)),
     λ h. simp tests (h .0, λ e. h .1 (stage-placed s p (h .0) known e)),
   )
 
-  pub placed-told : (misplaced s act p ≡ false) ↔ (act ≢ waitAct → InPlace s act p)
+  pub placed-told : (misplaced (stageOf (entryOf s p .location)) act ≡ false) ↔ (act ≢ waitAct → InPlace s act p)
   placed-told = (
     λ e n. stage-placed s p n known ((simp tests at e) n),
     λ h. simp tests (λ n. placed-stage s p (h n)),
@@ -62,7 +62,7 @@ pub release-is : (s : State) (p : ℕ) {t : ℕ} → entryOf s p .location ≡ C
 release-is s p = ap (λ (l : Location). sinceOf l + cond (eqb (stageOf l) checking) (s .parameters .b) 0)
 
 pub early-told : (s : State) (act p m : ℕ) {t : ℕ} → entryOf s p .location ≡ Checking t
-    → (early s act p m ≡ true) ↔ ((act ≡ checkAct) × (m < t + s .parameters .b))
+    → (early (release s (entryOf s p)) act m ≡ true) ↔ ((act ≡ checkAct) × (m < t + s .parameters .b))
 early-told s act p m e = let r = release-is s p e in (
   λ f. let h = simp tests at f in (h .0, omega (arith, h .1)),
   λ h. simp tests (h .0, omega arith),
@@ -75,8 +75,8 @@ module _ (s : State) (act p m : ℕ) where
   pub record Fits : Type 0 where
     pub known : act ≤ lastAct
     pub named : misnamed (s .parameters .n) act p ≡ false
-    pub placed : misplaced s act p ≡ false
-    pub released : early s act p m ≡ false
+    pub placed : misplaced (stageOf (entryOf s p .location)) act ≡ false
+    pub released : early (release s (entryOf s p)) act m ≡ false
 
   pub turn-fits : Waits act p ⊎ Acts s act p m → Fits
   turn-fits (inl w) = record {

@@ -55,8 +55,8 @@ data Picked (s : State) (i : ℕ) (q : Process) (first : Due) : Due → Type 0 w
   taken : {d : ℕ} → Latest s i q d → Before first d → Picked s i q first (due i d)
 
 picked : (s : State) (i : ℕ) (q : Process) (first : Due)
-    → Picked s i q first (cond (sooner s i q first) (due i (deadline s i q)) first)
-picked s i q first = by-cond (Picked s i q first) (sooner s i q first)
+    → Picked s i q first (cond (sooner (bounded s q) (deadline s i q) first) (due i (deadline s i q)) first)
+picked s i q first = by-cond (Picked s i q first) (sooner (bounded s q) (deadline s i q) first)
     (λ e. let h = and-true-iff (bounded s q) _ .0 e in
     taken (bounded-latest s i q (h .0)) (λ n. ltb-true _ _ (simp (ne-eqb _ 0 n) at (h .1))))
     (λ e. kept (λ d h. let k = latest-deadline s i q h in omega (arith, k .1, (simp tests at e) (k .0))))

@@ -121,7 +121,7 @@ module _ (s : State) (p : ℕ) {act : ℕ} where
 -- Where it leads
 
 pub row-effect : (s : State) (p : ℕ) {b m act : ℕ} {l : Location} → From b m act l
-    → Effect p m act (s .word) (transitionOf s act p m .to) (transitionOf s act p m .word)
+    → Effect p m act (s .word) (transitionOf (s .word) act p m .to) (transitionOf (s .word) act p m .word)
 unfolding transitionOf
 row-effect s p From.try = Effect.try
 row-effect s p {m = m} From.test = by-cond (λ (l : Location). Effect p m testAct (s .word) l (s .word)) (eqb (s .word) 0)

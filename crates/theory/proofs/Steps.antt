@@ -8,7 +8,7 @@ use native.Mathlib.Omega.{arith}
 use borrow.Author.Tests.{ltb-true, ltb-false, lt-ltb, le-ltb, ne-eqb, not-true, not-false}
 use Rattle.model.specs.declared.State.{State}
 use Rattle.model.specs.declared.Outcome.{Outcome}
-use Rattle.model.specs.States.{release, soundOf, entryOf}
+use Rattle.model.specs.States.{stageOf, release, soundOf, entryOf}
 use Rattle.model.specs.Acts.{waitAct}
 use Rattle.model.specs.Actions.{effect}
 use Rattle.model.specs.Answers.{answers, backward, beyond, unknown, misnamed, firstDeadline, missed, misplaced, early, accepts, stepOf}
@@ -29,7 +29,7 @@ module _ (s : State) (act p m : ℕ) where
   -- the tests of 1, 4, 5, 6 and 7 fail
   record Admitted : Type 0 where
     sound : soundOf s ≡ true
-    forward : backward s m ≡ false
+    forward : backward (s .clock) m ≡ false
     within : beyond m ≡ false
     known : unknown act ≡ false
     named : misnamed (s .parameters .n) act p ≡ false
@@ -113,13 +113,13 @@ module _ (s : State) (act p m : ℕ) where
     before : OnTime s act p m
     placed : act ≢ waitAct → InPlace s act p
 
-  too-early : Placed → early s act p m ≡ true → Refusal s act p m 10 p (release s (entryOf s p))
+  too-early : Placed → early (release s (entryOf s p)) act m ≡ true → Refusal s act p m 10 p (release s (entryOf s p))
   too-early h e =
       let check = (simp tests at e) .0 in
       let at = placed-checks s p check (h .placed (omega arith)) in
       rw (release-is s p at) (Refusal.early _ (h .before) check at (early-told s act p m at .0 e .1))
 
-  passed : Placed → early s act p m ≡ false → Stepped (accepts (effect s act p m))
+  passed : Placed → early (release s (entryOf s p)) act m ≡ false → Stepped (accepts (effect s act p m))
   passed h e =
       let known = h .before .before .before in
       accepted (known .before .before .sound) (record {
@@ -139,7 +139,7 @@ module _ (s : State) (act p m : ℕ) where
   stepped =
       by-cond Stepped (not (soundOf s)) (λ e. refused (Refusal.unsound (opposite (sound-iff-plain s) .0 (not-true _ e))))
       (λ g₁. let sound = sound-iff-plain s .0 (not-false _ g₁) in
-      by-cond Stepped (backward s m) (λ e. refused (Refusal.backward sound (ltb-true _ _ e)))
+      by-cond Stepped (backward (s .clock) m) (λ e. refused (Refusal.backward sound (ltb-true _ _ e)))
       (λ g₄. let forward : Forward s m = record { sound = sound; forward = ltb-false _ _ g₄ } in
       by-cond Stepped (beyond m) (λ e. refused (Refusal.beyond forward (ltb-true _ _ e)))
       (λ g₅. let within : Within s m = record { before = forward; within = ltb-false _ _ g₅ } in
@@ -150,10 +150,10 @@ module _ (s : State) (act p m : ℕ) where
       (λ g₇. let named : Named s act p m = record { before = known; named = opposite told .0 g₇ } in
       by-cond Stepped (missed (firstDeadline s) m) (λ e. refused (Refusal.late _ _ named (missed-first s m e)))
       (λ g₈. let in-time : OnTime s act p m = record { before = named; in-time = none-missed-iff-all-in-time s m .0 g₈ } in
-      by-cond Stepped (misplaced s act p)
+      by-cond Stepped (misplaced (stageOf (entryOf s p .location)) act)
       (λ e. let h = misplaced-told s act p (known .known) .0 e in refused (Refusal.misplaced in-time (h .0) (h .1)))
       (λ g₉. let placed : Placed = record { before = in-time; placed = placed-told s act p (known .known) .0 g₉ } in
-      by-cond Stepped (early s act p m) (λ e. refused (too-early placed e)) (λ g₁₀. passed placed g₁₀))))))))
+      by-cond Stepped (early (release s (entryOf s p)) act m) (λ e. refused (too-early placed e)) (λ g₁₀. passed placed g₁₀))))))))
 
 -- What an answer tells
 

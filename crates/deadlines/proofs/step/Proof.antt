@@ -8,7 +8,7 @@ use native.Mathlib.Omega.{arith}
 use borrow.Author.Tests.{not-true, not-false}
 use lib.ListN.{getD}
 use Rattle.model.specs.Acts.{waitAct, lastAct}
-use Rattle.model.specs.Actions.{worded, transitionAt}
+use Rattle.model.specs.Actions.{transitionOf}
 use Rattle.model.specs.declared.Answer.{Answer}
 use Rattle.rules.proofs.Rows.{row-is}
 use Rattle.rules.proofs.Slots.{slot-in, slot-fits}
@@ -229,10 +229,10 @@ own c =
 -- the transition of a known act is its row
 is-row : (c : tie.After-transition-of Inv-loop μ-loop)
     → (let a = c .before .before .before .before .before .before .before .before .args in
-    a .action ≢ waitAct → a .action ≤ lastAct → c .transition-of .result ≡ transitionAt (a .t1 .word) (a .action) (a .process) (a .time))
+    a .action ≢ waitAct → a .action ≤ lastAct → c .transition-of .result ≡ transitionOf (a .t1 .word) (a .action) (a .process) (a .time))
 is-row c some known =
     let a = c .before .before .before .before .before .before .before .before .args in
-    c .transition-of .ensures ∙ row-is (worded (a .t1 .word)) (a .action) (a .process) (a .time) some known
+    c .transition-of .ensures ∙ row-is (a .t1 .word) (a .action) (a .process) (a .time) some known
 
 -- the step of the definitions goes with the answer
 answered : (c : tie.After-judge Inv-loop μ-loop)

@@ -134,10 +134,10 @@ own c =
 -- the transition of a known act is its row
 is-row : (c : tie.After-transition-of Inv-loop μ-loop)
     → (let a = c .before .before .before .before .before .before .before .before .args in
-    a .action ≢ waitAct → a .action ≤ lastAct → c .transition-of .result ≡ transitionOf (a .t1) (a .action) (a .process) (a .time))
+    a .action ≢ waitAct → a .action ≤ lastAct → c .transition-of .result ≡ transitionOf (a .t1 .word) (a .action) (a .process) (a .time))
 is-row c some known =
     let a = c .before .before .before .before .before .before .before .before .args in
-    c .transition-of .ensures ∙ row-is (a .t1) (a .action) (a .process) (a .time) some known
+    c .transition-of .ensures ∙ row-is (a .t1 .word) (a .action) (a .process) (a .time) some known
 
 judge-requires : tie.Need-judge-requires Inv-loop μ-loop
 judge-requires c κs = search needs
