@@ -4,3 +4,4 @@ pub mod Facts
 pub mod Acceptance
 pub mod Runs
 pub mod Demand3
+pub mod Chains

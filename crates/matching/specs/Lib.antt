@@ -1,3 +1,4 @@
 pub mod Facts
 pub mod Engines
 pub mod Lists
+pub mod Chains
