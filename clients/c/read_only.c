@@ -1,6 +1,7 @@
 /* What the steps write, tried on memory that can only be read: a refused one writes nothing but the count of refused acts, and an accepted
- * one nothing but its own numbers and, where time goes unused, waits. A fault is a check that fails. Each check names the line that fails; the
- * last line counts them. */
+ * one nothing but its own numbers and, where time goes unused, waits. So it is with the step of the second engine, which counts nothing; and
+ * the calls between the two kinds of table write a whole one or nothing. A fault is a check that fails. Each check names the line that fails;
+ * the last line counts them. */
 #define _DEFAULT_SOURCE
 
 #include "funnelfawn.h"
@@ -37,7 +38,7 @@ struct ground {
     size_t length;
 };
 
-static struct ground table, summary, board;
+static struct ground table, deadlines, summary, board;
 
 static void need(int done)
 {
@@ -125,12 +126,34 @@ static uint64_t record_and_tell(struct act act)
         .step.number;
 }
 
+static uint64_t step_deadlines(struct act act)
+{
+    if (sigsetjmp(before_the_call, 1) != 0)
+        return FAULTED;
+    return funnelfawn_step_deadlines(deadlines.list, deadlines.length, act.act, act.window, act.moment).number;
+}
+
+static uint64_t to_deadlines(void)
+{
+    if (sigsetjmp(before_the_call, 1) != 0)
+        return FAULTED;
+    return funnelfawn_to_deadlines(table.list, table.length, deadlines.list, deadlines.length).number;
+}
+
+static uint64_t to_arrivals(void)
+{
+    if (sigsetjmp(before_the_call, 1) != 0)
+        return FAULTED;
+    return funnelfawn_to_arrivals(deadlines.list, deadlines.length, table.list, table.length).number;
+}
+
 /* The two recorded steps, which have to write the same as long as no crit is accepted. */
 static uint64_t (*const recorded[])(struct act) = {record, record_and_tell};
 
 /* The table of the refusals: of two windows, 1 came to checking at 0 and 2 to testing at 5, and the clock is at 6. Both are trying and nobody
- * sells, so that an accepted act past 6 would raise what they have waited. And a summary, and a board. */
-static uint64_t numbers[FUNNELFAWN_TABLE_LENGTH], counts[FUNNELFAWN_SUMMARY_LENGTH], entries[FUNNELFAWN_BOARD_LENGTH];
+ * sells, so that an accepted act past 6 would raise what they have waited. The deadline table that matches it; and a summary, and a board. */
+static uint64_t numbers[FUNNELFAWN_TABLE_LENGTH], moments[FUNNELFAWN_DEADLINES_LENGTH];
+static uint64_t counts[FUNNELFAWN_SUMMARY_LENGTH], entries[FUNNELFAWN_BOARD_LENGTH];
 
 static void start(void)
 {
@@ -148,6 +171,8 @@ static void start(void)
                       .number == FUNNELFAWN_OK,
               "act", i);
     CHECK(counts[FUNNELFAWN_AT_WAITED] == 6 && counts[FUNNELFAWN_AT_WAITED + 1] == 1, "the waits", 0);
+    CHECK(funnelfawn_to_deadlines(numbers, FUNNELFAWN_TABLE_LENGTH, moments, FUNNELFAWN_DEADLINES_LENGTH).number == FUNNELFAWN_OK,
+          "to deadlines", 0);
 }
 
 /* A wait that would be accepted, were table and summary sound. */
@@ -187,14 +212,86 @@ static void no_table(void)
         memcpy(damaged, numbers, sizeof damaged);
         damaged[damage[i].place] = damage[i].number;
         lay(&table, damaged, FUNNELFAWN_TABLE_LENGTH, NONE, 0);
+        lay(&deadlines, moments, FUNNELFAWN_DEADLINES_LENGTH, NONE, 0);
         CHECK(step(a_wait) == FUNNELFAWN_REFUSED_NO_TABLE, "a step on a damaged table", i);
+        CHECK(to_deadlines() == FUNNELFAWN_REFUSED_NO_TABLE, "a damaged table to deadlines", i);
         refused_whole(damaged, FUNNELFAWN_TABLE_LENGTH, counts, FUNNELFAWN_SUMMARY_LENGTH, FUNNELFAWN_REFUSED_NO_TABLE, "a damaged table");
     }
     for (size_t i = 0; i < sizeof lengths / sizeof lengths[0]; i++) {
         lay(&table, numbers, lengths[i], NONE, 0);
         CHECK(step(a_wait) == FUNNELFAWN_REFUSED_NO_TABLE, "a step on a short table", i);
+        CHECK(to_deadlines() == FUNNELFAWN_REFUSED_NO_TABLE, "a short table to deadlines", i);
         refused_whole(numbers, lengths[i], counts, FUNNELFAWN_SUMMARY_LENGTH, FUNNELFAWN_REFUSED_NO_TABLE, "a short table");
     }
+}
+
+/* [12.115] [12.30] Deadline tables that are none or not sound, in one number each, and too short ones: neither they nor the table that lies
+ * ready for what matches can be written. Window 1 may check from 8 to 12, and window 2 test from 5 to 10. */
+static void no_deadlines(void)
+{
+    static const struct { size_t place; uint64_t number; } damage[] = {
+        {FUNNELFAWN_AT_N, 0},
+        {FUNNELFAWN_AT_N, 97},
+        {FUNNELFAWN_AT_A, 8},
+        {FUNNELFAWN_AT_A, 4},
+        {FUNNELFAWN_AT_CLOCK, 4},
+        {FUNNELFAWN_AT_CLOCK, 11},
+        {FUNNELFAWN_AT_CLOCK, UINT64_C(1000000000001)},
+        {FUNNELFAWN_AT_WORD, 3},
+        {FUNNELFAWN_HEADER_LENGTH, 8},
+        {FUNNELFAWN_HEADER_LENGTH, 4},
+        {FUNNELFAWN_HEADER_LENGTH + 1, 9},
+        {FUNNELFAWN_HEADER_LENGTH + 2, UINT64_MAX},
+        {FUNNELFAWN_HEADER_LENGTH + FUNNELFAWN_DEADLINES_STRIDE + 1, 6},
+        {FUNNELFAWN_HEADER_LENGTH + 2 * FUNNELFAWN_DEADLINES_STRIDE, 5},
+        {FUNNELFAWN_DEADLINES_LENGTH - 2, 1},
+        {FUNNELFAWN_DEADLINES_LENGTH - 1, 1},
+    };
+    static const size_t lengths[] = {0, 1, FUNNELFAWN_HEADER_LENGTH, FUNNELFAWN_TABLE_LENGTH, FUNNELFAWN_DEADLINES_LENGTH - 1};
+
+    lay(&table, numbers, FUNNELFAWN_TABLE_LENGTH, NONE, 0);
+    for (size_t i = 0; i < sizeof damage / sizeof damage[0]; i++) {
+        uint64_t damaged[FUNNELFAWN_DEADLINES_LENGTH];
+
+        memcpy(damaged, moments, sizeof damaged);
+        damaged[damage[i].place] = damage[i].number;
+        lay(&deadlines, damaged, FUNNELFAWN_DEADLINES_LENGTH, NONE, 0);
+        CHECK(step_deadlines(a_wait) == FUNNELFAWN_REFUSED_NO_TABLE, "a step on a damaged deadline table", i);
+        CHECK(to_arrivals() == FUNNELFAWN_REFUSED_NO_TABLE, "a damaged deadline table to arrivals", i);
+    }
+    for (size_t i = 0; i < sizeof lengths / sizeof lengths[0]; i++) {
+        lay(&deadlines, moments, lengths[i], NONE, 0);
+        CHECK(step_deadlines(a_wait) == FUNNELFAWN_REFUSED_NO_TABLE, "a step on a short deadline table", i);
+        CHECK(to_arrivals() == FUNNELFAWN_REFUSED_NO_TABLE, "a short deadline table to arrivals", i);
+    }
+}
+
+/* [12.140] From one kind of table to the other: what is read cannot be written, and nor can a list that is too short, or what lies behind the
+ * numbers of the other table in one that is longer. */
+static void to_and_fro(void)
+{
+    static const size_t lengths[] = {0, 1, FUNNELFAWN_HEADER_LENGTH, FUNNELFAWN_TABLE_LENGTH - 1};
+    uint64_t longer[FUNNELFAWN_DEADLINES_LENGTH + 3] = {0};
+
+    for (size_t i = 0; i < sizeof lengths / sizeof lengths[0]; i++) {
+        lay(&table, numbers, FUNNELFAWN_TABLE_LENGTH, NONE, 0);
+        lay(&deadlines, longer, lengths[i], NONE, 0);
+        CHECK(to_deadlines() == FUNNELFAWN_REFUSED_SHORT_OUTPUT, "too short for deadlines", i);
+        lay(&table, longer, lengths[i], NONE, 0);
+        lay(&deadlines, moments, FUNNELFAWN_DEADLINES_LENGTH, NONE, 0);
+        CHECK(to_arrivals() == FUNNELFAWN_REFUSED_SHORT_OUTPUT, "too short for arrivals", i);
+    }
+    lay(&table, longer, FUNNELFAWN_TABLE_LENGTH + 3, BEFORE, FUNNELFAWN_TABLE_LENGTH);
+    CHECK(to_arrivals() == FUNNELFAWN_OK, "the numbers behind a table", 0);
+    memcpy(longer, numbers, sizeof numbers);
+    CHECK(holds(&table, longer), "the table that matches", 0);
+    lay(&table, numbers, FUNNELFAWN_TABLE_LENGTH, NONE, 0);
+    lay(&deadlines, longer, FUNNELFAWN_DEADLINES_LENGTH - 1, NONE, 0);
+    CHECK(to_deadlines() == FUNNELFAWN_REFUSED_SHORT_OUTPUT, "too short for deadlines", FUNNELFAWN_DEADLINES_LENGTH - 1);
+    lay(&deadlines, longer, FUNNELFAWN_DEADLINES_LENGTH + 3, BEFORE, FUNNELFAWN_DEADLINES_LENGTH);
+    CHECK(to_deadlines() == FUNNELFAWN_OK, "the numbers behind a deadline table", 0);
+    memcpy(longer, moments, sizeof moments);
+    CHECK(holds(&deadlines, longer), "the deadline table that matches", 0);
 }
 
 /* [4.2] [4.3] Summaries that are not sound, in one number each, too short ones, and full ones. */
@@ -223,7 +320,7 @@ static void no_summary(void)
         refused_whole(numbers, FUNNELFAWN_TABLE_LENGTH, counts, lengths[i], FUNNELFAWN_REFUSED_NO_SUMMARY, "a short summary");
 }
 
-/* [4.4] to [4.10] The table cannot be written; of the summary only what lies up to the count of refused acts, and then only what lies from
+/* [4.4] to [4.10] The tables cannot be written; of the summary only what lies up to the count of refused acts, and then only what lies from
  * it on. The two have that number alone in common. */
 static void refused_acts(void)
 {
@@ -243,9 +340,11 @@ static void refused_acts(void)
     memcpy(counted, counts, sizeof counted);
     counted[FUNNELFAWN_AT_REFUSED]++;
     lay(&table, numbers, FUNNELFAWN_TABLE_LENGTH, NONE, 0);
+    lay(&deadlines, moments, FUNNELFAWN_DEADLINES_LENGTH, NONE, 0);
     lay(&board, entries, FUNNELFAWN_BOARD_LENGTH, NONE, 0);
     for (size_t i = 0; i < sizeof refused / sizeof refused[0]; i++) {
         CHECK(step(refused[i].act) == refused[i].number, "a refused step", refused[i].number);
+        CHECK(step_deadlines(refused[i].act) == refused[i].number, "a refused step of deadlines", refused[i].number);
         for (size_t k = 0; k < sizeof recorded / sizeof recorded[0]; k++) {
             lay(&summary, counts, FUNNELFAWN_SUMMARY_LENGTH, BEFORE, FUNNELFAWN_AT_REFUSED + 1);
             CHECK(recorded[k](refused[i].act) == refused[i].number, "the numbers behind the count", refused[i].number);
@@ -257,11 +356,11 @@ static void refused_acts(void)
     }
 }
 
-/* Where the entry of an act's window ends; for a wait, where the entries begin. Before its own entry a window has those of the windows
- * below it, which only the comparison of numbers speaks of. */
-static size_t table_end(struct act act)
+/* Where the entry of an act's window ends in a table of either kind; for a wait, where the entries begin. Before its own entry a window has
+ * those of the windows below it, which only the comparison of numbers speaks of. */
+static size_t entry_end(size_t stride, struct act act)
 {
-    return FUNNELFAWN_HEADER_LENGTH + FUNNELFAWN_STRIDE * (size_t)act.window;
+    return FUNNELFAWN_HEADER_LENGTH + stride * (size_t)act.window;
 }
 
 static uint64_t place_of(size_t window)
@@ -300,27 +399,50 @@ static uint64_t waited_after(struct act act, size_t window)
     return counts[FUNNELFAWN_AT_WAITED + window - 1] + (is_trying(window) ? unused_time(act) : 0);
 }
 
-/* Nothing but the clock, the word and the entry differs; nothing but the counts, and the waits as they have to. */
+/* Nothing but the clock, the word and the entry differs from what a table of either kind was. */
+static int own_entry(const struct ground *ground, const uint64_t *before, size_t stride, struct act act)
+{
+    const size_t end = entry_end(stride, act);
+
+    for (size_t i = 0; i < ground->length; i++)
+        if (ground->list[i] != before[i] && i != FUNNELFAWN_AT_CLOCK && i != FUNNELFAWN_AT_WORD &&
+            (act.window == 0 || i < end - stride || i >= end))
+            return 0;
+    return ground->list[FUNNELFAWN_AT_CLOCK] == act.moment;
+}
+
+/* So it is with the table; and nothing but the counts differs, and the waits as they have to. */
 static int own_places(struct act act)
 {
-    for (size_t i = 0; i < FUNNELFAWN_TABLE_LENGTH; i++)
-        if (table.list[i] != numbers[i] && i != FUNNELFAWN_AT_CLOCK && i != FUNNELFAWN_AT_WORD &&
-            (act.window == 0 || i < table_end(act) - FUNNELFAWN_STRIDE || i >= table_end(act)))
-            return 0;
     for (size_t window = 1; window <= FUNNELFAWN_WINDOWS; window++)
         if (summary.list[FUNNELFAWN_AT_WAITED + window - 1] != waited_after(act, window))
             return 0;
-    return summary.list[FUNNELFAWN_AT_ACCEPTED] == counts[FUNNELFAWN_AT_ACCEPTED] + 1 && table.list[FUNNELFAWN_AT_CLOCK] == act.moment;
+    return summary.list[FUNNELFAWN_AT_ACCEPTED] == counts[FUNNELFAWN_AT_ACCEPTED] + 1 &&
+           own_entry(&table, numbers, FUNNELFAWN_STRIDE, act);
+}
+
+/* The same act on the deadline table, which comes to be what matches the table after it. */
+static void accepted_by_deadlines(struct act act)
+{
+    lay(&deadlines, moments, FUNNELFAWN_DEADLINES_LENGTH, BEFORE, entry_end(FUNNELFAWN_DEADLINES_STRIDE, act));
+    CHECK(step_deadlines(act) == FUNNELFAWN_OK, "the entries behind, by deadlines", act.act);
+    CHECK(own_entry(&deadlines, moments, FUNNELFAWN_DEADLINES_STRIDE, act), "the own numbers, by deadlines", act.act);
+    lay(&deadlines, moments, FUNNELFAWN_DEADLINES_LENGTH, BEHIND, FUNNELFAWN_AT_CLOCK);
+    CHECK(step_deadlines(act) == FUNNELFAWN_OK, "n, a, b, c, by deadlines", act.act);
+    CHECK(own_entry(&deadlines, moments, FUNNELFAWN_DEADLINES_STRIDE, act), "the own numbers, by deadlines", act.act);
+    CHECK(funnelfawn_to_deadlines(numbers, FUNNELFAWN_TABLE_LENGTH, moments, FUNNELFAWN_DEADLINES_LENGTH).number == FUNNELFAWN_OK,
+          "to deadlines", act.act);
+    CHECK(holds(&deadlines, moments), "the deadline table that matches", act.act);
 }
 
 /* [9.130] Accepted acts: what lies behind the last number that one may write cannot be written; then n, a, b and c cannot. */
 static void accepted_act(struct act act)
 {
-    lay(&table, numbers, FUNNELFAWN_TABLE_LENGTH, BEFORE, table_end(act));
+    lay(&table, numbers, FUNNELFAWN_TABLE_LENGTH, BEFORE, entry_end(FUNNELFAWN_STRIDE, act));
     CHECK(step(act) == FUNNELFAWN_OK, "the entries behind, by a step", act.act);
     lay(&board, entries, FUNNELFAWN_BOARD_LENGTH, act.act == FUNNELFAWN_ACT_CRIT ? ALL : NONE, 0);
     for (size_t k = 0; k < sizeof recorded / sizeof recorded[0]; k++) {
-        lay(&table, numbers, FUNNELFAWN_TABLE_LENGTH, BEFORE, table_end(act));
+        lay(&table, numbers, FUNNELFAWN_TABLE_LENGTH, BEFORE, entry_end(FUNNELFAWN_STRIDE, act));
         lay(&summary, counts, FUNNELFAWN_SUMMARY_LENGTH, BEFORE, summary_end(act));
         CHECK(recorded[k](act) == FUNNELFAWN_OK, "the numbers behind", act.act);
         CHECK(own_places(act), "the own numbers", act.act);
@@ -331,6 +453,7 @@ static void accepted_act(struct act act)
     }
     memcpy(numbers, table.list, sizeof numbers);
     memcpy(counts, summary.list, sizeof counts);
+    accepted_by_deadlines(act);
 }
 
 /* A window goes once round, with a test that finds the word taken, a check that finds another's, a withdraw and waits. The other one tries
@@ -347,6 +470,7 @@ static void accepted(uint64_t window, uint64_t other)
     };
 
     CHECK(funnelfawn_fresh(96, 5, 8, 12, numbers, FUNNELFAWN_TABLE_LENGTH).number == FUNNELFAWN_OK, "fresh", 0);
+    CHECK(funnelfawn_fresh_deadlines(96, 5, 8, 12, moments, FUNNELFAWN_DEADLINES_LENGTH).number == FUNNELFAWN_OK, "fresh deadlines", 0);
     CHECK(funnelfawn_new_summary(counts, FUNNELFAWN_SUMMARY_LENGTH).number == FUNNELFAWN_OK, "new summary", 0);
     for (size_t i = 0; i < sizeof acts / sizeof acts[0]; i++)
         accepted_act(acts[i]);
@@ -385,10 +509,12 @@ int main(void)
     action.sa_handler = leave_the_call;
     need(sigaction(SIGSEGV, &action, NULL) == 0);
     need(funnelfawn_layout() == FUNNELFAWN_LAYOUT);
-    reserve(&table), reserve(&summary), reserve(&board);
+    reserve(&table), reserve(&deadlines), reserve(&summary), reserve(&board);
     start();
     faults_are_found();
     no_table();
+    no_deadlines();
+    to_and_fro();
     no_summary();
     refused_acts();
     accepted(1, 96);

@@ -51,6 +51,37 @@ extern "C" {
         moment: u64,
     ) -> Told;
 
+    pub fn funnelfawn_fresh_deadlines(
+        n: u64,
+        a: u64,
+        b: u64,
+        c: u64,
+        deadlines: *mut u64,
+        deadlines_length: usize,
+    ) -> Answer;
+
+    pub fn funnelfawn_step_deadlines(
+        deadlines: *mut u64,
+        deadlines_length: usize,
+        act: u64,
+        window: u64,
+        moment: u64,
+    ) -> Answer;
+
+    pub fn funnelfawn_to_deadlines(
+        table: *const u64,
+        table_length: usize,
+        deadlines: *mut u64,
+        deadlines_length: usize,
+    ) -> Answer;
+
+    pub fn funnelfawn_to_arrivals(
+        deadlines: *const u64,
+        deadlines_length: usize,
+        table: *mut u64,
+        table_length: usize,
+    ) -> Answer;
+
     pub fn funnelfawn_read(
         text: *const u8,
         text_length: usize,

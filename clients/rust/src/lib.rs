@@ -21,10 +21,31 @@
 //! ```
 //!
 //! For a screen in the foyer there is [`Board`], which [`Table::record_and_tell`] tells of each window that is let in. For accounts
-//! there is [`spans`]: out of a recording, who sold from when to when.
+//! there is [`spans`]: out of a recording, who sold from when to when. For maintenance there is [`DeadlineTable`], a second engine: of each
+//! window it has the first and the last moment at which it may act, and it answers every act as [`Table`] does.
 //!
-//! The package and the archive have to be of one layout, [`raw::LAYOUT`]. Where a table, a summary or a board is made, an archive of another
-//! one is found out, by a panic.
+//! ```
+//! use funnelfawn::{Act, DeadlineTable, Moments, Place, Refusal, Table};
+//!
+//! let mut table = Table::fresh(2, 5, 8, 12)?;
+//! table.step(Act::Try, 1, 0)?;
+//! table.step(Act::Test, 1, 3)?;
+//! table.step(Act::Set, 1, 8)?;
+//! assert_eq!(table.place(1), Some((Place::Checking, Some(8))));
+//!
+//! let mut deadlines = DeadlineTable::from_table(table)?;
+//! let check = Moments { first: 16, last: 20 };
+//! assert_eq!(deadlines.place(1), Some((Place::Checking, Some(check))));
+//! assert_eq!(deadlines.step(Act::Check, 1, 15), Err(Refusal::Early { window: 1, earliest: check.first }));
+//! assert_eq!(deadlines.step(Act::Check, 1, 21), Err(Refusal::Late { window: 1, latest: check.last }));
+//!
+//! let table = deadlines.into_table()?;
+//! assert_eq!(table.place(1), Some((Place::Checking, Some(8))));
+//! # Ok::<(), Refusal>(())
+//! ```
+//!
+//! The package and the archive have to be of one layout, [`raw::LAYOUT`]. Where a table of either kind, a summary or a board is made, an
+//! archive of another one is found out, by a panic.
 //!
 //! The only unsafe code is in [`raw`], which lends slices to the library; all the rest stands on it.
 #![deny(unsafe_code)]
@@ -32,6 +53,7 @@
 mod act;
 mod answer;
 mod board;
+mod deadlines;
 mod ffi;
 mod layout;
 #[allow(unsafe_code)]
@@ -44,6 +66,7 @@ mod table;
 pub use act::Act;
 pub use answer::{Accepted, Fault, Figures, Refusal};
 pub use board::{Board, Told};
+pub use deadlines::{DeadlineTable, Moments};
 pub use recording::{read, replay, Recording, Step};
 pub use spans::{spans, spans_text, Span};
 pub use summary::Summary;

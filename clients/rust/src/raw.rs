@@ -5,8 +5,9 @@
 
 use crate::ffi::*;
 
-/// The layout of the lists below, of tables, summaries and boards, as one number: whoever lends lists of his own to the functions here
-/// compares it with [`layout`] once. [`Table`](crate::Table), [`Summary`](crate::Summary) and [`Board`](crate::Board) do it themselves.
+/// The layout of the lists below, of tables of both kinds, summaries and boards, as one number: whoever lends lists of his own to the
+/// functions here compares it with [`layout`] once. [`Table`](crate::Table), [`DeadlineTable`](crate::DeadlineTable),
+/// [`Summary`](crate::Summary) and [`Board`](crate::Board) do it themselves.
 ///
 /// With 1 a summary held the moment of each window's try where it now holds what the window has waited, [`WAITED`]. Numbers of either
 /// kind may be sound, so no call finds out a summary of layout 1: whoever stores numbers stores this number beside them.
@@ -19,6 +20,10 @@ pub const HEADER: usize = 6;
 pub const STRIDE: usize = 2;
 /// The numbers of a table.
 pub const TABLE: usize = HEADER + STRIDE * WINDOWS;
+/// The numbers of an entry of a deadline table, which begins as a table does: place, first moment, last moment.
+pub const DEADLINES_STRIDE: usize = 3;
+/// The numbers of a deadline table.
+pub const DEADLINES: usize = HEADER + DEADLINES_STRIDE * WINDOWS;
 /// The numbers of a summary before what each window has waited so far: accepted, refused, entries, exits, the longest wait.
 pub const WAITED: usize = 5;
 /// The numbers of a summary.
@@ -123,6 +128,25 @@ pub fn record_and_tell(
             act, window, moment,
         )
     }
+}
+
+/// As [`fresh`]: refused, the list is as it was.
+pub fn fresh_deadlines(n: u64, a: u64, b: u64, c: u64, deadlines: &mut [u64]) -> Answer {
+    unsafe { funnelfawn_fresh_deadlines(n, a, b, c, deadlines.as_mut_ptr(), deadlines.len()) }
+}
+
+pub fn step_deadlines(deadlines: &mut [u64], act: u64, window: u64, moment: u64) -> Answer {
+    unsafe { funnelfawn_step_deadlines(deadlines.as_mut_ptr(), deadlines.len(), act, window, moment) }
+}
+
+/// The table stays as it is; refused, so does the other list.
+pub fn to_deadlines(table: &[u64], deadlines: &mut [u64]) -> Answer {
+    unsafe { funnelfawn_to_deadlines(table.as_ptr(), table.len(), deadlines.as_mut_ptr(), deadlines.len()) }
+}
+
+/// The other way.
+pub fn to_arrivals(deadlines: &[u64], table: &mut [u64]) -> Answer {
+    unsafe { funnelfawn_to_arrivals(deadlines.as_ptr(), deadlines.len(), table.as_mut_ptr(), table.len()) }
 }
 
 #[rustfmt::skip]

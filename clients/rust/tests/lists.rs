@@ -20,6 +20,7 @@ fn table() -> Vec<u64> {
 fn the_layout() {
     assert_eq!((layout(), LAYOUT), (2, 2));
     assert_eq!((TABLE, SUMMARY, WAITED, BOARD), (198, 101, 5, 3_076));
+    assert_eq!((DEADLINES, DEADLINES_STRIDE), (294, 3));
 }
 
 #[test]

@@ -5,3 +5,4 @@ pub mod Acceptance
 pub mod Runs
 pub mod Demand3
 pub mod Chains
+pub mod Cases

@@ -2,3 +2,4 @@ pub mod Facts
 pub mod Engines
 pub mod Lists
 pub mod Chains
+pub mod Cases
