@@ -117,6 +117,36 @@ pub fn record_and_tell(
     same_answer(got.board, answers.board).map_err(|what| format!("of the board, {what}"))
 }
 
+pub fn fresh_deadlines(values: Values, deadlines: &[u64], wanted: (Answer, &[u64])) -> Verdict {
+    let mut lent = Lent::new(deadlines, GUARD);
+    let Values { n, a, b, c } = values;
+    let got = raw::fresh_deadlines(n, a, b, c, lent.list());
+    held(got, wanted.0, [("deadlines", &lent, wanted.1)])
+}
+
+pub fn step_deadlines(
+    deadlines: &[u64],
+    [act, window, moment]: [u64; 3],
+    wanted: (Answer, &[u64]),
+) -> Verdict {
+    let mut lent = Lent::new(deadlines, GUARD);
+    let got = raw::step_deadlines(lent.list(), act, window, moment);
+    held(got, wanted.0, [("deadlines", &lent, wanted.1)])
+}
+
+/// Of the two lists the first is only read.
+pub fn to_deadlines(table: &[u64], deadlines: &[u64], wanted: (Answer, &[u64])) -> Verdict {
+    let (mut read, mut written) = (Lent::new(table, GUARD), Lent::new(deadlines, GUARD));
+    let got = raw::to_deadlines(read.list(), written.list());
+    held(got, wanted.0, [("table", &read, table), ("deadlines", &written, wanted.1)])
+}
+
+pub fn to_arrivals(deadlines: &[u64], table: &[u64], wanted: (Answer, &[u64])) -> Verdict {
+    let (mut read, mut written) = (Lent::new(deadlines, GUARD), Lent::new(table, GUARD));
+    let got = raw::to_arrivals(read.list(), written.list());
+    held(got, wanted.0, [("deadlines", &read, deadlines), ("table", &written, wanted.1)])
+}
+
 /// The three lists are times, windows, acts.
 pub fn read(text: &[u8], lists: &[Vec<u64>; 3], wanted: (Answer, Values, &[Vec<u64>; 3])) -> Verdict {
     let [mut times, mut windows, mut acts] = lists.each_ref().map(|list| Lent::new(list, GUARD));

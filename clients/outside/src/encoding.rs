@@ -1,7 +1,9 @@
-//! Tables, summaries and boards of the reference as the numbers of include/funnelfawn.h, and back.
+//! Tables of both kinds, summaries and boards of the reference as the numbers of include/funnelfawn.h, and back.
 
 use funnelfawn::raw::{BOARD, BOARD_HEADER, BOARD_STRIDE, HEADER, PLACES, STRIDE, SUMMARY, TABLE, WAITED};
+use funnelfawn::raw::{DEADLINES, DEADLINES_STRIDE};
 use reference::board::{Board, Entry};
+use reference::deadline::{DeadlinePlace, DeadlineTable, Moments};
 use reference::list::number_of;
 use reference::machine::{Place, Table, Values, WINDOWS};
 use reference::summary::Summary;
@@ -37,6 +39,46 @@ pub fn store_table(table: &Table, numbers: &mut [u64]) {
 pub fn table_numbers(table: &Table) -> Vec<u64> {
     let mut numbers = vec![0; TABLE];
     store_table(table, &mut numbers);
+    numbers
+}
+
+/// The deadline table that a list starts with, if it is long enough and its numbers tell one, sound or not. The reference has its own account
+/// of these numbers, which has to be the same.
+pub fn deadlines_in(numbers: &[u64]) -> Option<DeadlineTable> {
+    let told = deadlines_told(numbers);
+    assert_eq!(told, DeadlineTable::from_numbers(numbers));
+    told
+}
+
+fn deadlines_told(numbers: &[u64]) -> Option<DeadlineTable> {
+    let &[n, a, b, c, clock, word, ref entries @ ..] = numbers.get(..DEADLINES)? else { return None };
+    let mut places = [DeadlinePlace::Remainder; WINDOWS];
+    for (place, entry) in places.iter_mut().zip(entries.chunks(DEADLINES_STRIDE)) {
+        *place = deadline_place_in(entry[0], Moments { first: entry[1], last: entry[2] })?;
+    }
+    Some(DeadlineTable { values: Values { n, a, b, c }, clock, word, places })
+}
+
+/// Beside remainder and selling, which have neither moment, 0 has to stand for both [12.115].
+fn deadline_place_in(number: u64, moments: Moments) -> Option<DeadlinePlace> {
+    let place = DeadlinePlace::numbered(number, moments)?;
+    (place.moments().unwrap_or_default() == moments).then_some(place)
+}
+
+/// Over the start of a list that is long enough; they are also the reference's numbers.
+pub fn store_deadlines(deadlines: &DeadlineTable, numbers: &mut [u64]) {
+    let Values { n, a, b, c } = deadlines.values;
+    numbers[..HEADER].copy_from_slice(&[n, a, b, c, deadlines.clock, deadlines.word]);
+    for (entry, place) in numbers[HEADER..DEADLINES].chunks_mut(DEADLINES_STRIDE).zip(&deadlines.places) {
+        let Moments { first, last } = place.moments().unwrap_or_default();
+        entry.copy_from_slice(&[place.number(), first, last]);
+    }
+    assert_eq!(numbers[..DEADLINES], deadlines.numbers());
+}
+
+pub fn deadline_numbers(deadlines: &DeadlineTable) -> Vec<u64> {
+    let mut numbers = vec![0; DEADLINES];
+    store_deadlines(deadlines, &mut numbers);
     numbers
 }
 

@@ -1,9 +1,10 @@
 //! What the functions of include/funnelfawn.h have to give back and leave in the lent lists, worked out from the reference.
 
 use crate::encoding::*;
-use funnelfawn::raw::{BOARD, BOARD_HEADER, SUMMARY, TABLE};
+use funnelfawn::raw::{BOARD, BOARD_HEADER, DEADLINES, SUMMARY, TABLE};
 use reference::answer::*;
 use reference::board::{self, Board, Told};
+use reference::deadline::{self, deadline_fresh, deadline_step};
 use reference::machine::{self, Table, Values};
 use reference::replay;
 use reference::summary::{recorded_step, Summary};
@@ -103,6 +104,54 @@ pub fn record_and_tell(
         keep(&board, answers.board, true, numbers);
     }
     answers
+}
+
+/// As with `fresh`, 11 and 12 come first.
+pub fn fresh_deadlines(values: Values, deadlines: &mut [u64]) -> Answer {
+    let (answer, made) = deadline_fresh(values);
+    if answer.number != ACCEPTED {
+        return answer;
+    }
+    if deadlines.len() < DEADLINES {
+        return bare(SHORT_OUTPUT);
+    }
+    store_deadlines(&made, deadlines);
+    answer
+}
+
+pub fn step_deadlines(deadlines: &mut [u64], [act, window, moment]: [u64; 3]) -> Answer {
+    let Some(told) = deadlines_in(deadlines) else { return bare(NO_TABLE) };
+    let (answer, after) = deadline_step(told, act, window, moment);
+    store_deadlines(&after, deadlines);
+    answer
+}
+
+/// A table that is not sound comes before a list that is too short for the other.
+pub fn to_deadlines(table: &[u64], deadlines: &mut [u64]) -> Answer {
+    let Some(told) = table_in(table) else { return bare(NO_TABLE) };
+    let (answer, matching) = deadline::to_deadlines(&told);
+    if answer.number != ACCEPTED {
+        return answer;
+    }
+    if deadlines.len() < DEADLINES {
+        return bare(SHORT_OUTPUT);
+    }
+    store_deadlines(&matching, deadlines);
+    answer
+}
+
+/// The same the other way.
+pub fn to_arrivals(deadlines: &[u64], table: &mut [u64]) -> Answer {
+    let Some(told) = deadlines_in(deadlines) else { return bare(NO_TABLE) };
+    let (answer, matching) = deadline::to_arrivals(&told);
+    if answer.number != ACCEPTED {
+        return answer;
+    }
+    if table.len() < TABLE {
+        return bare(SHORT_OUTPUT);
+    }
+    store_table(&matching, table);
+    answer
 }
 
 pub fn replay(text: &[u8], out: &mut [u8]) -> Answer {

@@ -4,8 +4,12 @@
 pub mod acts;
 pub mod boards;
 pub mod calls;
+pub mod corpus;
 pub mod course;
+pub mod deadline_lists;
+pub mod deadline_walks;
 pub mod encoding;
+pub mod engines;
 pub mod expected;
 pub mod lent;
 pub mod lists;

@@ -35,7 +35,7 @@ fn damage_table(random: &mut Random, table: &Table, numbers: &mut Vec<u64>) {
     match random.below(10) {
         0 => change(random, &mut numbers[..HEADER]),
         1 => change(random, &mut numbers[..TABLE]),
-        2 => edge(random, table, &mut numbers[..HEADER]),
+        2 => edge(random, table.values, &mut numbers[..HEADER]),
         3 => entry(numbers, within)[0] = random.pick(&[8, 9, 255, 256, 261, 1 << 32, u64::MAX]),
         4 => entry(numbers, within).copy_from_slice(&untimed(random, table)),
         5 => entry(numbers, within).copy_from_slice(&overdue(random, table)),
@@ -57,9 +57,9 @@ pub fn change(random: &mut Random, numbers: &mut [u64]) {
     numbers[place] = any_number(random, numbers[place]);
 }
 
-/// One number of the table's first six just outside its rule.
-fn edge(random: &mut Random, table: &Table, numbers: &mut [u64]) {
-    let Values { n, a, b, c } = table.values;
+/// One number of the first six, of a table of either kind, just outside its rule.
+pub fn edge(random: &mut Random, values: Values, numbers: &mut [u64]) {
+    let Values { n, a, b, c } = values;
     let edges = [
         (0, 0),
         (0, 97),
@@ -76,8 +76,8 @@ fn edge(random: &mut Random, table: &Table, numbers: &mut [u64]) {
     numbers[place] = number;
 }
 
-/// One number of the table's first six, more or less by 1.
-fn off_by_one(random: &mut Random, numbers: &mut [u64]) {
+/// One of some numbers, more or less by 1.
+pub fn off_by_one(random: &mut Random, numbers: &mut [u64]) {
     let place = random.index(numbers.len());
     numbers[place] = numbers[place].wrapping_add(random.pick(&[1, u64::MAX]));
 }

@@ -42,12 +42,24 @@ pub enum Sight {
     OutputAsLong,
     OutputShorter,
     FaultWithoutRoom,
+    // the second engine
+    BothEngines,
+    BothFromFresh,
+    BothInChecking,
+    BothPastTheEnd,
+    MatchesNone,
+    MatchesUnsound,
+    Around,
+    ToDeadlines,
+    ToArrivals,
+    OtherOneShort,
+    OtherLonger,
 }
 
 use Sight::*;
 
 /// Each with how it is told.
-const SIGHTS: [(Sight, &str); 33] = [
+const SIGHTS: [(Sight, &str); 44] = [
     (EntryTaken, "accepted crits whose entries a board took"),
     (EntryRefused, "accepted crits whose entries a board refused"),
     (ListedCall, "calls of lists on one board"),
@@ -81,6 +93,17 @@ const SIGHTS: [(Sight, &str); 33] = [
     (OutputAsLong, "spans put into an output that is at least as long as the recording"),
     (OutputShorter, "spans put into an output that is shorter than the recording"),
     (FaultWithoutRoom, "faulty recordings with an output that is too short for any spans"),
+    (BothEngines, "acts of both engines at tables that match"),
+    (BothFromFresh, "of these, from fresh tables on"),
+    (BothInChecking, "of these, accepted by both with somebody in checking"),
+    (BothPastTheEnd, "of these, accepted by both with a last moment past the clock's end"),
+    (MatchesNone, "deadline tables that match no table"),
+    (MatchesUnsound, "deadline tables that match a table which is not sound"),
+    (Around, "deadline tables with a moment near 2^64 that are refused"),
+    (ToDeadlines, "tables that became deadline tables"),
+    (ToArrivals, "deadline tables that became tables"),
+    (OtherOneShort, "sound tables whose output is short by one number"),
+    (OtherLonger, "sound tables whose output is longer than needed"),
 ];
 
 /// How often each came up.

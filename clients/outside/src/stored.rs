@@ -3,8 +3,8 @@
 
 use crate::boards;
 use crate::calls::{self, Verdict};
-use funnelfawn::raw::{BOARD, SUMMARY, TABLE};
-use reference::answer::{answer, Answer};
+use funnelfawn::raw::{BOARD, DEADLINES, SUMMARY, TABLE};
+use reference::answer::{answer, bare, Answer, ACCEPTED, NO_TABLE, SHORT_OUTPUT};
 use reference::board::Entry;
 use reference::board_list::BoardCall;
 use reference::machine::Values;
@@ -53,6 +53,47 @@ pub fn writer(line: &str) -> Verdict {
 pub fn spans(line: &str) -> Verdict {
     let [text, length, answer, after] = fields(line)?;
     calls::spans(&bytes(text)?, &output(length)?, (answer_in(answer)?, &quoted(after)))
+}
+
+/// `table of deadlines | act window moment | answer | table of deadlines after`; on a list that is longer, on one that is just as long, and on
+/// one with a number too few, which tells none
+pub fn deadline(line: &str) -> Verdict {
+    let [deadlines, call, answer, after] = fields(line)?;
+    let (deadlines, after) = (padded(deadlines, DEADLINES)?, padded(after, DEADLINES)?);
+    let (call, answer) = (fixed(call)?, answer_in(answer)?);
+    calls::step_deadlines(&deadlines, call, (answer, &after))?;
+    calls::step_deadlines(&deadlines[..DEADLINES], call, (answer, &after[..DEADLINES]))?;
+    let short = &deadlines[..DEADLINES - 1];
+    calls::step_deadlines(short, call, (bare(NO_TABLE), short))
+}
+
+/// `to_deadlines | table | answer | table of deadlines` or `to_arrivals | table of deadlines | answer | table`; nothing stands behind a refusal
+pub fn matching(line: &str) -> Verdict {
+    let [call, given, answer, after] = fields(line)?;
+    match call {
+        "to_deadlines" => turned(calls::to_deadlines, (given, TABLE), answer_in(answer)?, (after, DEADLINES)),
+        "to_arrivals" => turned(calls::to_arrivals, (given, DEADLINES), answer_in(answer)?, (after, TABLE)),
+        _ => Err(format!("there is no call `{call}`")),
+    }
+}
+
+/// A call from one kind of table to the other, each with how many numbers it has.
+type Turn = fn(&[u64], &[u64], (Answer, &[u64])) -> Verdict;
+
+/// Out of a list that is longer, one that is just as long, and one with a number too few, into lists of these three lengths.
+fn turned(call: Turn, (given, length): (&str, usize), answer: Answer, (after, needed): (&str, usize)) -> Verdict {
+    let given = padded(given, length)?;
+    let filled = vec![FILLED; needed + PAST.len()];
+    // refused, a list stays as it was
+    let is_told = answer.number == ACCEPTED;
+    let left = if is_told { padded(after, needed)? } else { filled.clone() };
+    for given in [&given[..], &given[..length]] {
+        call(given, &filled, (answer, &left))?;
+        call(given, &filled[..needed], (answer, &left[..needed]))?;
+        let short = &filled[..needed - 1];
+        call(given, short, (if is_told { bare(SHORT_OUTPUT) } else { answer }, short))?;
+    }
+    call(&given[..length - 1], &filled, (bare(NO_TABLE), &filled))
 }
 
 /// The calls of board.txt, all on one lent list: each gets what the one before left.

@@ -1,4 +1,4 @@
-//! How often each answer was due from random calls, of boards and of spans apart, and what the calls came upon.
+//! How often each answer was due from random calls, of boards, of spans and of the second engine apart, and what the calls came upon.
 
 use crate::calls::Verdict;
 use crate::sights::{Sight, Sights};
@@ -8,7 +8,7 @@ use std::ops::RangeInclusive;
 /// Differences beyond these are only counted.
 const SHOWN: u64 = 5;
 
-/// What all but boards and spans may answer.
+/// What all but boards, spans and the second engine may answer.
 const OTHERS: RangeInclusive<u64> = ACCEPTED..=SHORT_OUTPUT;
 /// What a board may answer that is set up, told of an entry or shown.
 const OF_BOARDS: [u64; 8] =
@@ -17,24 +17,50 @@ const OF_BOARDS: [u64; 8] =
 /// What spans may be answered.
 const OF_SPANS: [u64; 7] = [ACCEPTED, WINDOW_COUNT, LIMITS, NAMES, LINE, LENGTH, SHORT_OUTPUT];
 
-/// What is due from a call, of a board, of spans, of the rest or of a board and the rest, and whether it and all else came.
+/// What the second engine may answer: its steps, its fresh tables, and the calls from one kind of table to the other.
+const OF_DEADLINES: [u64; 12] = [
+    ACCEPTED,
+    NO_TABLE,
+    BACKWARD,
+    END_OF_CLOCK,
+    NO_ACT,
+    NO_WINDOW,
+    LATE,
+    OUT_OF_PLACE,
+    EARLY,
+    WINDOW_COUNT,
+    LIMITS,
+    SHORT_OUTPUT,
+];
+
+/// What is due from a call, of a board, of spans, of the second engine, of the rest or of a board and the rest, and whether it and all else
+/// came.
 pub struct Outcome {
     pub other: Option<Answer>,
     pub board: Option<Answer>,
     pub spans: Option<Answer>,
+    pub deadlines: Option<Answer>,
     pub verdict: Verdict,
 }
 
 pub fn of_other((answer, verdict): (Answer, Verdict)) -> Outcome {
-    Outcome { other: Some(answer), board: None, spans: None, verdict }
+    Outcome { other: Some(answer), ..of_none(verdict) }
 }
 
 pub fn of_board((answer, verdict): (Answer, Verdict)) -> Outcome {
-    Outcome { other: None, board: Some(answer), spans: None, verdict }
+    Outcome { board: Some(answer), ..of_none(verdict) }
 }
 
 pub fn of_spans((answer, verdict): (Answer, Verdict)) -> Outcome {
-    Outcome { other: None, board: None, spans: Some(answer), verdict }
+    Outcome { spans: Some(answer), ..of_none(verdict) }
+}
+
+pub fn of_deadlines((answer, verdict): (Answer, Verdict)) -> Outcome {
+    Outcome { deadlines: Some(answer), ..of_none(verdict) }
+}
+
+fn of_none(verdict: Verdict) -> Outcome {
+    Outcome { other: None, board: None, spans: None, deadlines: None, verdict }
 }
 
 #[derive(Default)]
@@ -44,17 +70,19 @@ pub struct Tally {
     others: Answers,
     boards: Answers,
     spans: Answers,
+    deadlines: Answers,
     pub sights: Sights,
 }
 
 impl Tally {
     /// The place of a call is said where it differs.
     pub fn count(&mut self, outcome: Outcome, place: impl Fn() -> String) {
-        let Outcome { other, board, spans, verdict } = outcome;
+        let Outcome { other, board, spans, deadlines, verdict } = outcome;
         self.calls += 1;
         self.others.count(other);
         self.boards.count(board);
         self.spans.count(spans);
+        self.deadlines.count(deadlines);
         if let (Some(_), Some(board)) = (other, board) {
             let taken = board.number == ACCEPTED;
             self.sights.look(if taken { Sight::EntryTaken } else { Sight::EntryRefused }, true);
@@ -69,15 +97,17 @@ impl Tally {
 
     /// Says it all; true if nothing differs and nothing is missing.
     pub fn report(&self) -> bool {
-        let Tally { calls, differ, others, boards, spans, sights } = self;
+        let Tally { calls, differ, others, boards, spans, deadlines, sights } = self;
         println!("answers: {}", others.said(OTHERS));
         println!("answers of boards: {}", boards.said(OF_BOARDS));
         println!("answers of spans: {}", spans.said(OF_SPANS));
+        println!("answers of the second engine: {}", deadlines.said(OF_DEADLINES));
         sights.say();
         let answers = [
-            (others.missing(OTHERS), "an answer of all but boards and spans"),
+            (others.missing(OTHERS), "an answer of all but boards, spans and the second engine"),
             (boards.missing(OF_BOARDS), "an answer of boards"),
             (spans.missing(OF_SPANS), "an answer of spans"),
+            (deadlines.missing(OF_DEADLINES), "an answer of the second engine"),
         ];
         let answers = answers.into_iter().filter_map(|(is_missing, what)| is_missing.then_some(what));
         let missing: Vec<&str> = answers.chain(sights.missing()).collect();

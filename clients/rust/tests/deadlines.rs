@@ -32,13 +32,10 @@ fn copy_of_deadlines(deadlines: &DeadlineTable) -> DeadlineTable {
     DeadlineTable::from_numbers(*deadlines.numbers())
 }
 
-/// Each of the two is what comes of the other, and the same again on the way back.
+/// Each of the two is what comes of the other; so what goes both ways is the same again.
 fn assert_match(table: &Table, deadlines: &DeadlineTable) {
     assert_eq!(DeadlineTable::from_table(copy(table)).as_ref(), Ok(deadlines));
     assert_eq!(copy_of_deadlines(deadlines).into_table().as_ref(), Ok(table));
-    assert_eq!(DeadlineTable::from_table(copy(table)).unwrap().into_table().as_ref(), Ok(table));
-    let back = copy_of_deadlines(deadlines).into_table().unwrap();
-    assert_eq!(DeadlineTable::from_table(back).as_ref(), Ok(deadlines));
 }
 
 /// The lines that `replay` prints, from the answers of both engines.
