@@ -81,7 +81,12 @@ pub fn matching(line: &str) -> Verdict {
 type Turn = fn(&[u64], &[u64], (Answer, &[u64])) -> Verdict;
 
 /// Out of a list that is longer, one that is just as long, and one with a number too few, into lists of these three lengths.
-fn turned(call: Turn, (given, length): (&str, usize), answer: Answer, (after, needed): (&str, usize)) -> Verdict {
+fn turned(
+    call: Turn,
+    (given, length): (&str, usize),
+    answer: Answer,
+    (after, needed): (&str, usize),
+) -> Verdict {
     let given = padded(given, length)?;
     let filled = vec![FILLED; needed + PAST.len()];
     // refused, a list stays as it was

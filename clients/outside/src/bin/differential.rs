@@ -1,9 +1,11 @@
-//! differential [COUNT [SEED]]: makes COUNT random calls of the library and compares all that comes of them with the reference.
-//! Exit status 0 only if the archive has the layout that is written out here, none differs, each number of an answer came up, from boards
-//! and from spans too, and so did all that `sights` names.
+//! differential [COUNT [SEED]]: makes COUNT random calls of the library, and then as many of its second engine, and compares all that comes
+//! of them with the reference.
+//! Exit status 0 only if the archive has the layout that is written out here, none differs, each number of an answer came up, from boards,
+//! from spans and from the second engine too, and so did all that `sights` names.
 
 use outside::boards;
 use outside::calls::{self, Verdict};
+use outside::deadline_walks::DeadlineWalk;
 use outside::sights::Sight;
 use outside::tally::{of_board, Tally};
 use outside::walks::Walk;
@@ -37,6 +39,10 @@ fn main() {
         make(seed, index, count, &mut tally);
         index += 1;
     }
+    while tally.calls < 2 * count {
+        deadline_walk(seed, index, 2 * count, &mut tally);
+        index += 1;
+    }
     exit(if tally.report() { 0 } else { 1 });
 }
 
@@ -54,6 +60,15 @@ fn walk(seed: u64, index: u64, count: u64, tally: &mut Tally) {
         tally.count(walk.call(), || format!("seed {seed}, walk {index}, call {call}"));
     }
     tally.sights.add(&walk.own.sights);
+}
+
+fn deadline_walk(seed: u64, index: u64, count: u64, tally: &mut Tally) {
+    let mut walk = DeadlineWalk::new(Random::new(seed, index));
+    let length = walk.random.between(1, LONGEST).min(count - tally.calls);
+    for call in 0..length {
+        tally.count(walk.call(), || format!("seed {seed}, walk {index} of deadlines, call {call}"));
+    }
+    tally.sights.add(&walk.sights);
 }
 
 /// Calls of one board from setting up on, each with the numbers that the one before left. The answers are also held to the request's own

@@ -1,16 +1,21 @@
-//! vectors DIRECTORY: makes the stored calls of the six files in DIRECTORY (reference/vectors) and compares all that comes of them.
-//! Exit status 0 only if the archive has the layout that is written out here, each file has its calls, all of them, and none differs.
+//! vectors DIRECTORY CORPUS: makes the stored calls of the eight files in DIRECTORY (reference/vectors) and compares all that comes of them;
+//! and runs the recordings of CORPUS (reference/corpus) by the second engine, whose answers are the stored lines of `replay`.
+//! Exit status 0 only if the archive has the layout that is written out here, each file has its calls, all of them, all recordings that can
+//! be read are there, and none differs.
 
 use outside::calls::{same_layout, Verdict};
-use outside::stored;
+use outside::{corpus, stored};
 use std::path::Path;
 use std::process::exit;
 
 /// Makes the call of a line.
 type Call = Box<dyn FnMut(&str) -> Verdict>;
 
+/// The recordings of the corpus that are not faulty.
+const RECORDINGS: usize = 194;
+
 /// The lines of each.
-fn files() -> [(&'static str, usize, Call); 6] {
+fn files() -> [(&'static str, usize, Call); 8] {
     let mut board = stored::Board::new();
     [
         ("step.txt", 340, Box::new(stored::step)),
@@ -18,23 +23,28 @@ fn files() -> [(&'static str, usize, Call); 6] {
         ("reader.txt", 110, Box::new(stored::reader)),
         ("writer.txt", 160, Box::new(stored::writer)),
         ("spans.txt", 90, Box::new(stored::spans)),
+        ("deadline.txt", 256, Box::new(stored::deadline)),
+        ("matching.txt", 69, Box::new(stored::matching)),
         ("board.txt", 141, Box::new(move |line| board.call(line))),
     ]
 }
 
 fn main() {
-    let Some(directory) = std::env::args().nth(1) else {
-        eprintln!("usage: vectors DIRECTORY");
+    let arguments: Vec<String> = std::env::args().skip(1).collect();
+    let [directory, corpus] = &arguments[..] else {
+        eprintln!("usage: vectors DIRECTORY CORPUS");
         exit(2);
     };
     if !same_layout() {
         exit(1);
     }
-    let counts = files().map(|(name, due, call)| (due, run(&Path::new(&directory).join(name), call)));
+    let counts = files().map(|(name, due, call)| (due, run(&Path::new(directory).join(name), call)));
+    let (recordings, differing) = corpus::run(Path::new(corpus));
+    differing.iter().for_each(|difference| println!("{difference}"));
     let calls = counts.map(|(_, (calls, _))| calls.to_string()).join(" + ");
-    let differ: usize = counts.iter().map(|(_, (_, differ))| differ).sum();
-    println!("vectors: {calls} calls, {differ} differ");
-    let all_there = counts.iter().all(|(due, (calls, _))| calls == due);
+    let differ = counts.iter().map(|(_, (_, differ))| differ).sum::<usize>() + differing.len();
+    println!("vectors: {calls} calls and {recordings} recordings by deadlines, {differ} differ");
+    let all_there = recordings == RECORDINGS && counts.iter().all(|(due, (calls, _))| calls == due);
     exit(if all_there && differ == 0 { 0 } else { 1 });
 }
 

@@ -1,0 +1,103 @@
+//! Lists of numbers as they are lent to the second engine: those of a deadline table, whole, damaged, cut short, and with more behind them;
+//! and lists for what goes from one kind of table to the other.
+
+use crate::acts::any_number;
+use crate::encoding::deadline_numbers;
+use crate::lists::{change, cut, edge, lengthen, off_by_one, Made};
+use funnelfawn::raw::{DEADLINES, DEADLINES_STRIDE, HEADER};
+use reference::deadline::DeadlineTable;
+use reference::generator::random::Random;
+use reference::machine::Values;
+
+/// The numbers of the places that have moments, and of checking among them.
+const TIMED: [u64; 6] = [1, 2, CHECKING, 4, 6, 7];
+const CHECKING: u64 = 3;
+
+/// The numbers of a deadline table, of which some are damaged or missing that many times in a hundred; some have more numbers behind them.
+pub fn lent_deadlines(random: &mut Random, deadlines: &DeadlineTable, percent: u64) -> Made {
+    let mut numbers = deadline_numbers(deadlines);
+    let own = !random.chance(percent);
+    if !own {
+        damage(random, deadlines, &mut numbers);
+    }
+    lengthen(random, &mut numbers);
+    Made { numbers, own }
+}
+
+fn damage(random: &mut Random, deadlines: &DeadlineTable, numbers: &mut Vec<u64>) {
+    let within = random.between(1, deadlines.values.n);
+    match random.below(12) {
+        0 => change(random, &mut numbers[..HEADER]),
+        1 => change(random, &mut numbers[..DEADLINES]),
+        2 => edge(random, deadlines.values, &mut numbers[..HEADER]),
+        3 => off_by_one(random, &mut numbers[..HEADER]),
+        4 => entry(numbers, within)[0] = random.pick(&[0, 3, 5, 8, 9, 255, 256, 261, 1 << 32, u64::MAX]),
+        5 => off_by_one(random, &mut entry(numbers, within)[1..]),
+        6..=9 => entry(numbers, within).copy_from_slice(&at_an_edge(random, deadlines)),
+        10 => above(random, deadlines, numbers),
+        _ => cut(random, numbers),
+    }
+}
+
+fn entry(numbers: &mut [u64], window: u64) -> &mut [u64] {
+    let start = HEADER + DEADLINES_STRIDE * (window as usize - 1);
+    &mut numbers[start..start + DEADLINES_STRIDE]
+}
+
+/// A timed place with the moments of an arrival that is just sound, or just not, or would have been before moment 0: there it is near 2^64, and
+/// moments may be small again. Now and then one of the two is off by one.
+fn at_an_edge(random: &mut Random, deadlines: &DeadlineTable) -> [u64; DEADLINES_STRIDE] {
+    let (Values { a, b, c, .. }, clock) = (deadlines.values, deadlines.clock);
+    let place = random.pick(&TIMED);
+    let limits @ [least, most] = if place == CHECKING { [b, c] } else { [0, a] };
+    let soonest = clock.wrapping_sub(most);
+    let arrivals = [
+        clock,
+        clock + 1,
+        soonest,
+        soonest.wrapping_sub(1),
+        least.wrapping_neg(),
+        most.wrapping_neg(),
+        most.wrapping_neg().wrapping_sub(1),
+        u64::MAX,
+    ];
+    let arrival = random.pick(&arrivals);
+    let [first, last] = limits.map(|limit| arrival.wrapping_add(limit).wrapping_add(off(random)));
+    [place, first, last]
+}
+
+fn off(random: &mut Random) -> u64 {
+    random.pick(&[0, 0, 0, 0, 0, 0, 0, 0, 1, u64::MAX])
+}
+
+/// An entry above n that would be sound at n, or a place or a moment alone. Of 96 windows the last one becomes one too many.
+fn above(random: &mut Random, deadlines: &DeadlineTable, numbers: &mut [u64]) {
+    let n = deadlines.values.n.min(95);
+    numbers[0] = n;
+    numbers[5] = numbers[5].min(n);
+    let sound = [1, deadlines.clock, deadlines.clock + deadlines.values.a];
+    let entries = [sound, [5, 0, 0], [8, 0, 0], [0, 1, 0], [0, 0, 1], [0, 0, u64::MAX]];
+    let any = random.between(n + 1, 96);
+    let window = random.pick(&[n + 1, 96, any]);
+    entry(numbers, window).copy_from_slice(&random.pick(&entries));
+}
+
+/// As many numbers as a deadline table has, any at all, of which the first six may be those of a sound one.
+pub fn any_numbers(random: &mut Random, deadlines: &DeadlineTable) -> Vec<u64> {
+    let mut numbers: Vec<u64> = (0..DEADLINES).map(|_| any_number(random, 0)).collect();
+    if random.chance(70) {
+        numbers[..HEADER].copy_from_slice(&deadline_numbers(deadlines)[..HEADER]);
+    }
+    numbers
+}
+
+/// A list for a table that needs so many numbers: as long as that, longer, or too short, by one mostly.
+pub fn output(random: &mut Random, needed: usize) -> Vec<u64> {
+    let length = match random.below(10) {
+        0 | 1 => needed - 1,
+        2 => random.index(needed),
+        3..=5 => needed + 1 + random.index(4),
+        _ => needed,
+    };
+    vec![any_number(random, 7777); length]
+}
