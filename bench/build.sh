@@ -18,9 +18,9 @@ compile() {
 }
 
 # the proved programs and the library
-quietly "${RT:-rt}" check bench bench_apart bench_recorded replay spans
+quietly "${RT:-rt}" check bench bench_apart bench_recorded bench_deadlines replay spans
 quietly "${RT:-rt}" staticlib funnelfawn
-for made in bin/bench bin/bench_apart bin/bench_recorded bin/replay bin/spans staticlib/libfunnelfawn.a; do
+for made in bin/bench bin/bench_apart bin/bench_recorded bin/bench_deadlines bin/replay bin/spans staticlib/libfunnelfawn.a; do
     [ -f "target/$made" ] || fail "there is no target/$made"
 done
 
@@ -37,7 +37,7 @@ compile reference_told reference --extern reference=reference/target/release/lib
 for name in library board_library recording_library stack; do
     compile $name $name -L native=target/staticlib -l static=funnelfawn
 done
-for way in recorded told; do
+for way in recorded told deadlines; do
     compile library_$way library -L native=target/staticlib -l static=funnelfawn --cfg $way
 done
 compile timer timer

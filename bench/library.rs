@@ -1,4 +1,5 @@
-//! The cases run through the C library; with `--cfg recorded` through its recorded step, with `--cfg told` through that which tells a board.
+//! The cases run through the C library; with `--cfg recorded` through its recorded step, with `--cfg told` through that which tells a board,
+//! with `--cfg deadlines` through the step of the second engine.
 //! The calls are declared as the Rust package does.
 
 mod cases;
@@ -11,6 +12,7 @@ mod raw;
 mod tables;
 
 use raw::Answer;
+#[cfg(not(deadlines))]
 use tables::table_of;
 
 const CLOCK: usize = 4;
@@ -19,7 +21,15 @@ fn numbers(answer: Answer) -> [u64; 3] {
     [answer.number, answer.window, answer.moment]
 }
 
-#[cfg(not(any(recorded, told)))]
+#[cfg(deadlines)]
+fn main() {
+    let case = cases::chosen();
+    let mut deadlines = tables::deadlines_of(case);
+    let sum = cases::run(case, |[act, window, moment]| numbers(raw::step_deadlines(&mut deadlines, act, window, moment)));
+    println!("{} {}", sum, deadlines[CLOCK]);
+}
+
+#[cfg(not(any(recorded, told, deadlines)))]
 fn main() {
     let case = cases::chosen();
     let mut table = table_of(case);

@@ -13,6 +13,8 @@ parts() {
         'a recorded step through the C library, waits past half the clock; the reference' 141 142 143
     "$1" recorded_within bin/bench_recorded bench/reference 'a recorded step within Rattle; the reference' $step_cases
     "$1" told bench/library_told bench/reference_told 'the same, telling a board that keeps 100 entries; the reference' 101 103
+    "$1" deadlines bench/library_deadlines bench/library 'a step of the second engine through the C library; of the first' $step_cases
+    "$1" deadlines_within bin/bench_deadlines bin/bench 'a step of the second engine within Rattle, inlined; of the first' $step_cases
     "$1" board bench/board_library bench/board_reference 'a board through the C library; the reference' 201 202 203 204 205 206 207 208
 }
 
@@ -49,8 +51,8 @@ label_of() {
 
 # How a part is timed: the steps of a run, and the runs. Many short runs, as a busy machine seldom leaves a long one alone; the
 # programs in Rattle make 2,000 steps and no other number. RUNS sets another number of runs.
-steps_of() { case $1 in inlined | called | recorded_within) echo 2000 ;; *) echo 5000 ;; esac; }
-runs_of() { case $1 in inlined | called | recorded_within) echo "${RUNS:-200}" ;; *) echo "${RUNS:-100}" ;; esac; }
+steps_of() { case $1 in inlined | called | recorded_within | deadlines_within) echo 2000 ;; *) echo 5000 ;; esac; }
+runs_of() { case $1 in inlined | called | recorded_within | deadlines_within) echo "${RUNS:-200}" ;; *) echo "${RUNS:-100}" ;; esac; }
 
 # agree, for `parts`: both programs print the same sums, for as many steps as are timed
 agree() {
