@@ -257,30 +257,31 @@ fn no_table() {
     assert!(DeadlineTable::from_table(Table::from_numbers(numbers)).is_ok());
 }
 
-/// Lists that are too short, by one number or more, stay as they are: a lent table tells none, and an output gives 16, but not before 1, 11
-/// and 12.
+/// Lists that are too short, by one number or more, stay as they are: a lent table tells none, though all of it lies there, and an output
+/// gives 16, but not before 1, 11 and 12.
 #[test]
 fn short_lists() {
     let deadlines = *checking().numbers();
     let table = *checking().into_table().unwrap().numbers();
     for length in [0, 1, HEADER, HEADER + 1, TABLE, DEADLINES - 1] {
-        let mut short = deadlines[..length].to_vec();
-        assert_eq!(raw::step_deadlines(&mut short, 0, 0, 7), bare(1));
-        assert_eq!(raw::fresh_deadlines(2, 5, 8, 12, &mut short), bare(16));
-        assert_eq!(raw::fresh_deadlines(97, 5, 5, 12, &mut short), bare(11));
-        assert_eq!(raw::fresh_deadlines(96, 5, 5, 12, &mut short), bare(12));
-        assert_eq!(raw::to_deadlines(&table, &mut short), bare(16));
-        assert_eq!(raw::to_deadlines(&table[1..], &mut short), bare(1));
-        assert_eq!(short, deadlines[..length]);
-        let mut whole = table;
-        assert_eq!(raw::to_arrivals(&short, &mut whole), bare(1));
-        assert_eq!(whole, table);
+        let (mut whole, mut arrivals) = (deadlines, [PAST; TABLE]);
+        let short = &mut whole[..length];
+        assert_eq!(raw::step_deadlines(short, 0, 0, 7), bare(1));
+        assert_eq!(raw::to_arrivals(short, &mut arrivals), bare(1));
+        assert_eq!(raw::fresh_deadlines(2, 5, 8, 12, short), bare(16));
+        assert_eq!(raw::fresh_deadlines(97, 5, 5, 12, short), bare(11));
+        assert_eq!(raw::fresh_deadlines(96, 5, 5, 12, short), bare(12));
+        assert_eq!(raw::to_deadlines(&table, short), bare(16));
+        assert_eq!(raw::to_deadlines(&table[..TABLE - 1], short), bare(1));
+        assert_eq!((whole, arrivals), (deadlines, [PAST; TABLE]));
     }
     for length in [0, 1, HEADER, HEADER + 1, TABLE - 1] {
-        let mut short = vec![PAST; length];
-        assert_eq!(raw::to_arrivals(&deadlines, &mut short), bare(16));
-        assert_eq!(raw::to_arrivals(&deadlines[1..], &mut short), bare(1));
-        assert_eq!(short, vec![PAST; length]);
+        let (mut whole, mut moments) = (table, [PAST; DEADLINES]);
+        let short = &mut whole[..length];
+        assert_eq!(raw::to_deadlines(short, &mut moments), bare(1));
+        assert_eq!(raw::to_arrivals(&deadlines, short), bare(16));
+        assert_eq!(raw::to_arrivals(&deadlines[..DEADLINES - 1], short), bare(1));
+        assert_eq!((whole, moments), (table, [PAST; DEADLINES]));
     }
 }
 
