@@ -58,6 +58,25 @@ small d e =
     let h = simp tests at e in
     record { clock = omega (arith, h); opens = omega (arith, h); closes = omega (arith, h); limit = λ i. omega (arith, h); few = omega (arith, h) }
 
+-- What is settled leaves what was found, where no sum wraps and the last time is a number of 64 bits
+
+pub settled-leaves : (clock k first last opens closes : ℕ) (f : Survey) → clock + opens < 2 ^ 64 → closes < 2 ^ 64 → last < 2 ^ 64
+    → settledBy (f .due) clock first last opens closes ≡ true → boundsNoted clock k first last opens closes f ≡ f
+unfolding settledBy boundsNoted
+settled-leaves clock k first last opens closes f o c fit e =
+    let h = simp tests at e in
+    let start : first ≡ backFrom last closes + opens = h .1 ∙ mod-eq-of-lt (omega (arith, h .0 .1)) in
+    let came : first - opens ≡ backFrom last closes = omega arith in
+    let due : dueFrom (backFrom last closes) closes ≡ last = omega arith in
+    rw (
+      le-ltb first opens (omega arith),
+      came,
+      le-ltb clock (backFrom last closes) (h .0 .1),
+      due,
+      eq-eqb last last refl,
+      le-leb (f .due) last (h .0 .0),
+    )
+
 -- One entry, that of process i
 
 refuted : {t : Bool} → (t ≡ true → ⊥) → t ≡ false
@@ -161,19 +180,6 @@ module _ (d : DeadlineState) (acting i : ℕ) (f : Survey) (stand : standingWith
   look-at (with.Leaving a z) =
       timed-looked (with.Leaving a z) 0 (limitIn k i) (small d stand .limit i) refl (λ h. up-to (ltb-false _ _ h) (with.Leaving a z)) (λ h. rw h)
 
-  -- what is settled leaves what was found: the last time is a number of 64 bits
-  pub settled-bounds : (first last opens closes : ℕ) → opens ≤ 10_000_000 → closes ≤ 10_000_000 → last < 2 ^ 64
-      → settledBy (f .due) (d .clock) first last opens closes ≡ true → boundsNoted (d .clock) i first last opens closes f ≡ f
-  unfolding settledBy boundsNoted
-  settled-bounds first last opens closes o c fit e =
-      let h = simp tests at e in
-      let back : backFrom last closes + closes ≡ last = omega (arith, h .0 .1, small d stand .clock) in
-      let sum : dueFrom (backFrom last closes) opens ≡ backFrom last closes + opens = mod-eq-of-lt (omega (arith, h .0 .1, small d stand .clock)) in
-      let start : first ≡ backFrom last closes + opens = h .1 ∙ sum in
-      let came : first - opens ≡ backFrom last closes = omega arith in
-      let due : dueFrom (backFrom last closes) closes ≡ last = mod-eq-of-lt (omega (arith, h .0 .1, small d stand .clock)) ∙ back in
-      rw (le-ltb first opens (omega arith), came, le-ltb (d .clock) (backFrom last closes) (h .0 .1), due, eq-eqb last last refl, le-leb (f .due) last (h .0 .0))
-
   -- a location that is settled, of a process up to n
   pub settled-noted : (q : DeadlineLocation) → i ≤ k .n → lastOf q < 2 ^ 64 → settledAt (f .due) (d .clock) (limitIn k i) q ≡ true
       → locationNoted scene i q (k .b) (limitIn k i) f ≡ f
@@ -183,7 +189,8 @@ module _ (d : DeadlineState) (acting i : ℕ) (f : Survey) (stand : standingWith
       (λ t. absurd (false≢true (rw t at e)))
       (λ t. let none = simp tests at t in
       rw (ne-eqb _ _ (none .0 .0), le-ltb (k .n) i h, ne-eqb _ _ (none .1), ne-eqb _ _ (none .0 .1))
-      (settled-bounds (firstOf q) (lastOf q) 0 (limitIn k i) (omega arith) (small d stand .limit i) fit (rw t at e)))
+      (settled-leaves (d .clock) i (firstOf q) (lastOf q) 0 (limitIn k i) f (omega (arith, small d stand .clock)) (omega (arith, small d stand .limit i))
+      fit (rw t at e)))
 
 -- The pass
 

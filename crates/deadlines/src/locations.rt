@@ -1,4 +1,4 @@
-// The locations of the second engine: the stage and the first time of each, and the ways from a location with an arrival and back.
+// The locations of the second engine: the stage and the two times of each, and the ways from a location with an arrival and back.
 use crate::DeadlineLocation;
 use model::Location;
 use model::Parameters;
@@ -14,7 +14,7 @@ use std::num::wrapping_add_u64;
 use values::limit_of;
 ghost use mathlib.Core.Path.{_≡_};
 ghost use Prim.Native.Nat.{_-_};
-ghost use Rattle.deadlines.specs.Deadlines.{stageWith, firstOf};
+ghost use Rattle.deadlines.specs.Deadlines.{stageWith, firstOf, lastOf};
 ghost use Rattle.deadlines.specs.Looks.{datedWith};
 ghost use Rattle.deadlines.specs.Matching.{arrivedAt};
 
@@ -50,6 +50,22 @@ pub fn first_of(location: DeadlineLocation) -> u64
     }
 }
 
+// [12.10] The last time; 0 where the location carries none.
+pub fn last_of(location: DeadlineLocation) -> u64
+    ensures { λ r. ⌜ r ≡ lastOf location ⌝ }
+{
+    match location {
+        DeadlineLocation::Remainder => 0,
+        DeadlineLocation::Testing(_, last) => last,
+        DeadlineLocation::Setting(_, last) => last,
+        DeadlineLocation::Checking(_, last) => last,
+        DeadlineLocation::Entering(_, last) => last,
+        DeadlineLocation::Critical => 0,
+        DeadlineLocation::Resetting(_, last) => last,
+        DeadlineLocation::Leaving(_, last) => last,
+    }
+}
+
 // [12.20] [12.60] A location with its two times written out. The sums may wrap, of an arrival that no sound state has, and are of no account then.
 pub fn dated(parameters: Parameters, process: u64, location: Location) -> DeadlineLocation
     ensures { λ r. ⌜ r ≡ datedWith parameters process location ⌝ }
@@ -73,7 +89,7 @@ pub fn dated(parameters: Parameters, process: u64, location: Location) -> Deadli
 }
 
 // The difference, or 0 where there is none.
-fn less(first: u64, b: u64) -> u64
+pub fn less(first: u64, b: u64) -> u64
     ensures { λ r. ⌜ r ≡ first - b ⌝ }
 {
     if first < b {

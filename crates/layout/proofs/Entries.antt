@@ -27,7 +27,7 @@ abbrev pub leftSound : List ℕ → ℕ → Bool
 leftSound l i = areEntries (entriesFrom l i) && entriesSound (stateIn l) (i + 1) (processesIn (entriesFrom l i))
 
 -- four tests in another order
-regroup : (s t u v : Bool) → (s && t) && (u && v) ≡ (s && u) && (t && v)
+pub regroup : (s t u v : Bool) → (s && t) && (u && v) ≡ (s && u) && (t && v)
 regroup true true u v = refl
 regroup true false u v = sym (and-false u)
 regroup false t u v = refl

@@ -6,7 +6,7 @@ use mathlib.Core.List.{List, _++_}
 use lib.Dec.{eqb}
 use lib.ListN.{length, take, drop, length-set, take-append-drop}
 use lib.Seq.{length-take-le}
-use borrow.Author.Tests.{le-leb, lt-leb}
+use borrow.Author.Tests.{le-leb, lt-leb, eq-eqb, ne-eqb}
 use Rattle.model.specs.declared.Answer.{Answer}
 use Rattle.model.specs.declared.Outcome.{Outcome}
 use Rattle.model.specs.Acts.{waitAct}
@@ -18,7 +18,7 @@ use Rattle.model.proofs.Tests.{by-test}
 use Rattle.rules.specs.declared.survey.Survey.{Survey}
 use Rattle.layout.specs.Steps.{answerIn, actionPut, actedIn, surveyIn}
 use Rattle.layout.proofs.Lists.{front-over}
-use Rattle.layout.proofs.Surveys.{tellSound}
+use Rattle.layout.proofs.Surveys.{tellSound, Found, faulty, whole, survey-found}
 use Rattle.layout.proofs.Acts.{lent-gave, outcomeNumbers, step-acted}
 
 -- Whether a lent table is sound
@@ -32,6 +32,15 @@ short-unsound table h = rw (lt-leb tableLength (length table) h)
 pub first-sound : (table : List ℕ) → tableLength ≤ length table → isSoundTable table ≡ tellSound (take tableLength table)
 unfolding isSoundTable isTable
 first-sound table h = rw (le-leb tableLength (length table) h)
+
+-- the pass over them finds a fault just where they tell none
+pub found-sound : (table : List ℕ) → tableLength ≤ length table → (acting : ℕ) {f : Survey} → f ≡ surveyIn (take tableLength table) acting
+    → eqb (f .faulty) 0 ≡ isSoundTable table
+found-sound table h acting {f} e = go (rw e (survey-found (take tableLength table) (length-take-le tableLength table h) acting))
+  where
+    go : Found (take tableLength table) acting f → eqb (f .faulty) 0 ≡ isSoundTable table
+    go (faulty u n) = ne-eqb (f .faulty) 0 n ∙ sym (first-sound table h ∙ u)
+    go (whole u w) = eq-eqb (f .faulty) 0 (w .faultless) ∙ sym (first-sound table h ∙ u)
 
 pub step-unsound : (table : List ℕ) (act p m : ℕ) → isSoundTable table ≡ false → {r : Answer} → r ≡ answerOf 1 0 0
     → lentGave r table ≡ lentStep table act p m

@@ -117,7 +117,7 @@ unfolding stateIn stateNumbers
 state-told s = rw (processes-told (s .processes))
 
 -- a list is its first five numbers and what is left
-five-and-rest : (l : List ℕ) → 5 ≤ length l → getD l 0 0 ∷ getD l 1 0 ∷ getD l 2 0 ∷ getD l 3 0 ∷ getD l 4 0 ∷ drop 5 l ≡ l
+pub five-and-rest : (l : List ℕ) → 5 ≤ length l → getD l 0 0 ∷ getD l 1 0 ∷ getD l 2 0 ∷ getD l 3 0 ∷ getD l 4 0 ∷ drop 5 l ≡ l
 five-and-rest (u ∷ v ∷ w ∷ x ∷ y ∷ l) h = refl
 five-and-rest (u ∷ v ∷ w ∷ x ∷ []) h = absurd (omega arith)
 five-and-rest (u ∷ v ∷ w ∷ []) h = absurd (omega arith)

@@ -7,10 +7,11 @@ use native.Mathlib.Omega.{arith}
 use lib.ListN.{length, getD, take, drop, set, length-set}
 use lib.Seq.{take-all}
 use Rattle.model.specs.declared.Process.{Process}
+use Rattle.model.specs.declared.Parameters.{Parameters}
 use Rattle.model.specs.declared.State.{State}
 use Rattle.model.specs.States.{stageOf, sinceOf}
 use Rattle.layout.specs.Encodings.{countPlace, aPlace, bPlace, cPlace, clockPlace, wordPlace, headerLength, stride, tableLength}
-use Rattle.layout.specs.Encodings.{processNumbers, stateNumbers}
+use Rattle.layout.specs.Encodings.{processNumbers, parametersNumbers, stateNumbers}
 use Rattle.model.proofs.Lists.{drop-at, drop-end}
 use Rattle.layout.specs.Places.{parametersPut, clocked, placedAt}
 use Rattle.layout.proofs.Lists.{fill-at, fill-pair}
@@ -22,26 +23,26 @@ pub record EntriesWritten (s : State) (l : List ℕ) (i : ℕ) : Type 0 where
   pub long : length l ≡ tableLength
   pub written : take (headerLength + stride * i) l ++ processNumbers (drop i (s .processes)) ≡ stateNumbers s
 
-module _ (s : State) (l : List ℕ) where
-  -- the numbers before the entries
-  abbrev limited : List ℕ
-  limited = parametersPut l (s .parameters)
+-- the numbers before the entries are written, as they stand in a table and in a deadline table
+pub header-put : (l : List ℕ) (k : Parameters) (clock word : ℕ) (rest : List ℕ) → headerLength ≤ length l
+    → take headerLength (clocked (parametersPut l k) clock word) ++ rest ≡ parametersNumbers k ++ (clock ∷ word ∷ rest)
+header-put l k clock word rest h =
+    fill-at (set (parametersPut l k) clockPlace clock) wordPlace word rest (simp length-set (omega arith))
+    ∙ fill-at (parametersPut l k) clockPlace clock _ (simp length-set (omega arith))
+    ∙ fill-at (set (set (set l countPlace (k .n)) aPlace (k .a)) bPlace (k .b)) cPlace (k .c) _ (simp length-set (omega arith))
+    ∙ fill-at (set (set l countPlace (k .n)) aPlace (k .a)) bPlace (k .b) _ (simp length-set (omega arith))
+    ∙ fill-at (set l countPlace (k .n)) aPlace (k .a) _ (simp length-set (omega arith))
+    ∙ fill-at l countPlace (k .n) _ (omega arith)
 
-  pub header-written : length (s .processes) ≡ 96 → length l ≡ tableLength → EntriesWritten s (clocked limited (s .clock) (s .word)) 0
-  unfolding stateNumbers
-  header-written size long = record {
-    most = omega arith;
-    size = size;
-    long = simp length-set long;
-    written =
-        fill-at (set limited clockPlace (s .clock)) wordPlace (s .word) _ (simp length-set (omega arith))
-        ∙ fill-at limited clockPlace (s .clock) _ (simp length-set (omega arith))
-        ∙ fill-at (set (set (set l countPlace (s .parameters .n)) aPlace (s .parameters .a)) bPlace (s .parameters .b)) cPlace (s .parameters .c) _
-        (simp length-set (omega arith))
-        ∙ fill-at (set (set l countPlace (s .parameters .n)) aPlace (s .parameters .a)) bPlace (s .parameters .b) _ (simp length-set (omega arith))
-        ∙ fill-at (set l countPlace (s .parameters .n)) aPlace (s .parameters .a) _ (simp length-set (omega arith))
-        ∙ fill-at l countPlace (s .parameters .n) _ (omega arith);
-  }
+pub header-written : (s : State) (l : List ℕ) → length (s .processes) ≡ 96 → length l ≡ tableLength
+    → EntriesWritten s (clocked (parametersPut l (s .parameters)) (s .clock) (s .word)) 0
+unfolding stateNumbers
+header-written s l size long = record {
+  most = omega arith;
+  size = size;
+  long = simp length-set long;
+  written = header-put l (s .parameters) (s .clock) (s .word) (processNumbers (s .processes)) (omega arith);
+}
 
 module _ (s : State) (l : List ℕ) (i : ℕ) (done : EntriesWritten s l i) where
   module _ (d : Process) (more : i < 96) where

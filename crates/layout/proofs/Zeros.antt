@@ -12,7 +12,7 @@ use Rattle.model.proofs.Tests.{if-eq}
 use Rattle.values.specs.Bits.{bitsOn, bitsOf}
 
 -- the bits of two numbers together are 0 where both are
-or-zero : (a b : ℕ) → eqb (bitOr a b) 0 ≡ eqb a 0 && eqb b 0
+pub or-zero : (a b : ℕ) → eqb (bitOr a b) 0 ≡ eqb a 0 && eqb b 0
 or-zero a b =
     if-eq (bitOr a b) 0
     (λ e. rw (

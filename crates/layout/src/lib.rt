@@ -3,7 +3,7 @@
 mod counts;
 mod steps;
 mod summaries;
-mod tables;
+pub mod tables;
 
 use crate::counts::count_accepted;
 use crate::counts::count_refused;
@@ -20,6 +20,7 @@ use model::Parameters;
 use statistics::waiting::unused_time;
 use values::answer_with;
 ghost use mathlib.Core.Path.{_≡_};
+ghost use Rattle.layout.specs.Encodings.{isSoundTable};
 ghost use Rattle.layout.specs.Interface.{lentGave, lentFresh, lentStep, recordGave, lentRecord, summaryGave, lentSummary, entryGave, lentEntry};
 ghost use Rattle.layout.specs.Layouts.{layoutNumber};
 ghost use Rattle.layout.specs.Countings.{refusedWith};
@@ -48,6 +49,17 @@ pub fn fresh(parameters: Parameters, table: &mut [u64]) -> Answer
     }
     put_table(&mut table[..TABLE], outcome.state);
     answer
+}
+
+// [9.20] Whether the first numbers of a list tell a sound table. Who acts has no part in it.
+pub fn is_sound(table: &[u64]) -> bool
+    ensures { λ r. ⌜ r ≡ isSoundTable (now (table .entry)) ⌝ }
+{
+    if table.len() < TABLE {
+        return false;
+    }
+    let found = survey_table(&table[..TABLE], 0);
+    found.faulty == 0
 }
 
 // [9.60] [21.110] One act, in the lent table.

@@ -12,28 +12,28 @@ ghost use Rattle.layout.specs.Encodings.{stride, tableLength, tableParam
 ghost use Rattle.layout.specs.Places.{numbersAt, locationIn, parametersPut, clocked, placedAt};
 
 // [9.10] where n, a, b and c stand
-const N: usize = 0;
+pub const N: usize = 0;
 
-const A: usize = 1;
+pub const A: usize = 1;
 
-const B: usize = 2;
+pub const B: usize = 2;
 
-const C: usize = 3;
+pub const C: usize = 3;
 
 // [9.10] where the clock stands
-const CLOCK: usize = 4;
+pub const CLOCK: usize = 4;
 
 // [9.10] where the word stands
-const WORD: usize = 5;
+pub const WORD: usize = 5;
 
 // [9.10] the numbers before the entries
-pub(crate) const HEADER: usize = 6;
+pub const HEADER: usize = 6;
 
 // [9.10] the numbers of an entry
-pub(crate) const STRIDE: usize = 2;
+pub const STRIDE: usize = 2;
 
 // [9.10] the numbers of a table
-pub(crate) const TABLE: usize = HEADER + STRIDE * 96;
+pub const TABLE: usize = HEADER + STRIDE * 96;
 
 // Reading
 

@@ -1,0 +1,13 @@
+pub mod Numbers
+pub mod Encodings
+pub mod Storing
+pub mod Saving
+pub mod Starting
+pub mod Zeros
+pub mod Looks
+pub mod Turns
+pub mod Entries
+pub mod Surveys
+pub mod Acts
+pub mod Lending
+pub mod Converting
