@@ -21,7 +21,7 @@ use Rattle.deadline_layout.specs.Interface.{lentFreshWith}
 use Rattle.deadline_layout.proofs.Encodings.{table-length}
 
 -- a fresh state of deadlines has 96 entries, and so has that of a refusal
-fresh-size : (k : Parameters) → length (freshWith k .state .processes) ≡ 96
+pub fresh-size : (k : Parameters) → length (freshWith k .state .processes) ≡ 96
 unfolding freshWith
 fresh-size k =
     let P : DeadlineOutcome → Type 0 = λ o. length (o .state .processes) ≡ 96 in

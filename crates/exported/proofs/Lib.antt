@@ -1,3 +1,4 @@
 pub mod Lending
 pub mod TableChain
 pub mod Chain
+pub mod DeadlineChain

@@ -1,3 +1,4 @@
 pub mod Lending
 pub mod TableChains
 pub mod Chains
+pub mod DeadlineChains
