@@ -1,5 +1,5 @@
-//! How deep a step and a recorded step through the C library go in a case: the most bytes below their caller's that one call writes to,
-//! of either. The calls are made on a stack of their own, which is filled with one number before each.
+//! How deep a step, a recorded step and a step of the second engine through the C library go in a case: the most bytes below their caller's
+//! that one call writes to, of each. The calls are made on a stack of their own, which is filled with one number before each.
 
 #[allow(dead_code)]
 mod cases;
@@ -56,17 +56,22 @@ fn main() {
     let case = cases::chosen();
     let mut stack = Stack([0; FREE + 2]);
     let (mut stepped, mut recorded, mut summary) = (tables::table_of(case), tables::table_of(case), [0; raw::SUMMARY]);
-    let (mut step, mut record) = (0, 0);
+    let mut deadlines = tables::deadlines_of(case);
+    let (mut step, mut record, mut second) = (0, 0, 0);
     cases::run(case, |[act, window, moment]| {
-        let (mut answer, mut answer_recorded) = ([0; 3], [0; 3]);
+        let (mut answer, mut answer_recorded, mut answer_second) = ([0; 3], [0; 3], [0; 3]);
         let [table, length] = lent(&mut stepped);
         let given = [table, length, act, window, moment, 0, 0];
         step = step.max(depth(&mut stack, ffi::funnelfawn_step as *const (), &mut answer, given));
         let ([table, length], [counts, size]) = (lent(&mut recorded), lent(&mut summary));
         let given = [table, length, counts, size, act, window, moment];
         record = record.max(depth(&mut stack, ffi::funnelfawn_record as *const (), &mut answer_recorded, given));
+        let [table, length] = lent(&mut deadlines);
+        let given = [table, length, act, window, moment, 0, 0];
+        second = second.max(depth(&mut stack, ffi::funnelfawn_step_deadlines as *const (), &mut answer_second, given));
         assert_eq!(answer, answer_recorded);
+        assert_eq!(answer, answer_second);
         answer
     });
-    println!("{step} {record}");
+    println!("{step} {record} {second}");
 }
