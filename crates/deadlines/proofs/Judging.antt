@@ -1,13 +1,13 @@
 -- The step of the second engine goes with the answer that the code judges on numbers: what is found of the entries is what the first engine finds of
 -- the arrivals, so that its judgement serves both. The exits of the function give that step. Assumes nothing.
-use Prim.Native.Nat.{ℕ, _+_, _-_, _≤_, _<_}
+use Prim.Native.Nat.{ℕ, _+_, _-_, _≤_}
 use mathlib.Core.Path.{_≡_, refl, sym, ap, _∙_, subst}
 use mathlib.Core.Logic.{_≢_}
 use mathlib.Core.Bool.{Bool, true, false, cond, not, _&&_}
 use native.Mathlib.Omega.{arith}
 use native.Mathlib.Nat.{mod-eq-of-lt}
 use lib.Dec.{ltb, eqb}
-use lib.ListN.{length, getD, set}
+use lib.ListN.{length, set}
 use borrow.Author.Tests.{ltb-false, eq-eqb, ne-eqb, eqb-true, eqb-false, not-false}
 use Rattle.model.specs.declared.Location.{Location}
 use Rattle.model.specs.declared.Location.the-variants.{Remainder, Testing, Setting, Checking, Entering, Critical, Resetting, Leaving}
@@ -18,7 +18,7 @@ use Rattle.model.specs.declared.Answer.{Answer}
 use Rattle.model.specs.declared.Outcome.{Outcome}
 use Rattle.model.specs.Stages.{checking}
 use Rattle.model.specs.Acts.{waitAct, tryAct, testAct, setAct, checkAct, critAct, exitAct, resetAct, remAct, lastAct, leaves}
-use Rattle.model.specs.States.{lastTime, limitIn, stageOf, sinceOf, releaseIn, entryOf, soundOf}
+use Rattle.model.specs.States.{lastTime, limitIn, stageOf, sinceOf, releaseIn, entryOf}
 use Rattle.model.specs.Actions.{transitionOf, moved}
 use Rattle.model.specs.Answers.{answerOf, beyond, unknown, misnamed, stepOf}
 use Rattle.rules.specs.declared.survey.Scene.{Scene}
@@ -41,7 +41,7 @@ use Rattle.rules.proofs.Pass as pass
 use Rattle.rules.proofs.Judged.{Goes, refuses, waits, moves, goes}
 use Rattle.deadlines.proofs.Matched.{dated-is, stage-arrived, length-arrived, entry-in, moved-same, outcomeMatched, step-same}
 use Rattle.deadlines.proofs.Matched.{sound-matched}
-use Rattle.deadlines.proofs.Passing.{Small, small, SurveyedWith, faulty, whole}
+use Rattle.deadlines.proofs.Passing.{Small, SurveyedWith, faulty, whole}
 
 -- The outcome o of the definitions goes with the answer j of the code
 pub data GoesWith (d : DeadlineState) (act p m : ℕ) (o : DeadlineOutcome) (j : Answer) : Type 0 where

@@ -2,12 +2,12 @@
 -- same answer and states that match; and a sound state of deadlines is the one that matches the state of its arrivals. Assumes nothing.
 use Prim.Native.Nat.{ℕ, zero, suc, _+_, _-_, _≤_}
 use mathlib.Core.Path.{_≡_, refl, sym, ap, _∙_}
-use mathlib.Core.Bool.{Bool, true, false, cond, not, _&&_, _||_, false≢true}
+use mathlib.Core.Bool.{Bool, true, false, cond, not, _&&_, false≢true}
 use mathlib.Core.List.{List, [], _∷_}
 use native.Mathlib.Omega.{arith}
 use lib.Dec.{leb, ltb, eqb}
 use lib.ListN.{length, getD, set}
-use borrow.Author.Tests.{le-leb, eq-eqb, ne-eqb, eqb-true, eqb-false}
+use borrow.Author.Tests.{le-leb, eq-eqb, eqb-true}
 use Rattle.model.specs.declared.Location.{Location}
 use Rattle.model.specs.declared.Location.the-variants.{Remainder, Testing, Setting, Checking, Entering, Critical, Resetting, Leaving}
 use Rattle.model.specs.declared.Process.{Process}
@@ -21,7 +21,7 @@ use Rattle.model.specs.States.{entry, idle, stageOf, sinceOf, timed, bounded, d
 use Rattle.model.specs.States.{entrySound, entriesSound, soundOf, entryOf}
 use Rattle.model.specs.Actions.{transitionOf, moved, effect}
 use Rattle.model.specs.Answers.{beyond, unknown, misnamed, missed, misplaced, early, Due, due, sooner, firstBy, firstDeadline}
-use Rattle.model.specs.Answers.{criticalBy, criticalOf, Sight, sightOf, judgedBy, answers, accepts, stepOf, freshOf}
+use Rattle.model.specs.Answers.{criticalBy, criticalOf, Sight, sightOf, judgedBy, answers, accepts, stepOf}
 use Rattle.deadlines.specs.declared.DeadlineLocation.{DeadlineLocation}
 use Rattle.deadlines.specs.declared.DeadlineLocation.the-variants as with
 use Rattle.deadlines.specs.declared.DeadlineProcess.{DeadlineProcess}
@@ -29,7 +29,7 @@ use Rattle.deadlines.specs.declared.DeadlineState.{DeadlineState}
 use Rattle.deadlines.specs.declared.DeadlineOutcome.{DeadlineOutcome}
 use Rattle.deadlines.specs.Deadlines.{stageWith, timedWith, firstOf, lastOf, datedAt, entryWith, idleWith, entryIn, arrivalIn, ofOneArrival}
 use Rattle.deadlines.specs.Deadlines.{entrySoundWith, entriesSoundWith, soundWith, firstLast, criticalWith, sightWith, movedWith, effectWith}
-use Rattle.deadlines.specs.Deadlines.{answersWith, acceptsWith, stepWith, freshWith}
+use Rattle.deadlines.specs.Deadlines.{answersWith, acceptsWith, stepWith}
 use Rattle.deadlines.specs.Matching.{datedFrom, matched, arrivedAt, arrivedFrom, arrived}
 use Rattle.model.proofs.Tests.{by-test, clash, tests, and-true-iff}
 

@@ -1,36 +1,35 @@
 -- The pass over the entries of a state of deadlines: a look at an entry finds what a look at its arrival finds, where its two times are those of one,
 -- and a fault where they are not. So the pass is that of the first engine over the state of the arrivals. Assumes nothing.
-use Prim.Native.Nat.{ℕ, _+_, _-_, _%_, _^_, _≤_, _<_}
+use Prim.Native.Nat.{ℕ, _+_, _-_, _^_, _≤_, _<_}
 use mathlib.Core.Path.{_≡_, refl, sym, ap, _∙_}
 use mathlib.Core.Logic.{_≢_}
 use mathlib.Core.Bool.{Bool, true, false, cond, not, _&&_, _||_, false≢true}
-use mathlib.Core.List.{List, [], _∷_}
+use mathlib.Core.List.{[], _∷_}
 use native.Mathlib.Omega.{arith}
 use native.Mathlib.Nat.{mod-eq-of-lt}
 use lib.Dec.{leb, ltb, eqb}
 use lib.ListN.{length, getD, drop}
-use borrow.Author.Tests.{ltb-true, ltb-false, leb-true, leb-false, lt-ltb, le-ltb, le-leb, lt-leb, eq-eqb, ne-eqb, eqb-true, eqb-false, not-true, not-false}
+use borrow.Author.Tests.{ltb-true, ltb-false, lt-ltb, le-ltb, le-leb, lt-leb, eq-eqb, ne-eqb, eqb-true, eqb-false, not-true, not-false}
 use Rattle.model.specs.declared.Location.{Location}
 use Rattle.model.specs.declared.Process.{Process}
 use Rattle.model.specs.declared.Parameters.{Parameters}
-use Rattle.model.specs.declared.State.{State}
 use Rattle.model.specs.Stages.{remainder, checking, critical}
-use Rattle.model.specs.States.{idle, stageOf, sinceOf, stay, limitIn}
+use Rattle.model.specs.States.{idle, limitIn}
 use Rattle.rules.specs.declared.survey.Scene.{Scene}
 use Rattle.rules.specs.declared.survey.Survey.{Survey}
-use Rattle.rules.specs.Survey.{numbersStand, sceneOf, endless, nothing, unsound, firstAt, dueFrom, dueNoted, timedNoted, noted}
+use Rattle.rules.specs.Survey.{numbersStand, sceneOf, nothing, unsound, dueFrom, dueNoted, timedNoted, noted}
 use Rattle.deadlines.specs.declared.DeadlineLocation.{DeadlineLocation}
 use Rattle.deadlines.specs.declared.DeadlineLocation.the-variants as with
 use Rattle.deadlines.specs.declared.DeadlineProcess.{DeadlineProcess}
 use Rattle.deadlines.specs.declared.DeadlineState.{DeadlineState}
-use Rattle.deadlines.specs.Deadlines.{stageWith, timedWith, firstOf, lastOf, entryWith, idleWith, arrivalIn, opensAfter, closesAfter}
+use Rattle.deadlines.specs.Deadlines.{stageWith, timedWith, firstOf, lastOf, entryWith, idleWith}
 use Rattle.deadlines.specs.Deadlines.{timesSound, entrySoundWith, entriesSoundWith, soundWith}
 use Rattle.deadlines.specs.Matching.{arrivedAt, arrived}
 use Rattle.deadlines.specs.Looks.{boundsNoted, backFrom, settledBy, locationNoted, settledAt}
-use Rattle.model.proofs.Tests.{by-test, by-cond, if-eq, if-lt, tests, clash}
+use Rattle.model.proofs.Tests.{by-test, by-cond, if-lt, tests}
 use Rattle.model.proofs.Lists.{drop-at, drop-end, row-at}
-use Rattle.rules.proofs.Pass.{standing, Passed, nothing-passed, turn-passed, turn-fault, passed-whole, Whole}
-use Rattle.deadlines.proofs.Matched.{stage-arrived, arrived-at, length-arrived}
+use Rattle.rules.proofs.Pass.{standing, Passed, nothing-passed, turn-passed, passed-whole, Whole}
+use Rattle.deadlines.proofs.Matched.{arrived-at, length-arrived}
 
 -- The numbers of a state of deadlines
 

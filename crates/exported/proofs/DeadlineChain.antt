@@ -2,13 +2,12 @@
 -- numbers of a state of deadlines is the list of its steps, in numbers; and the two ways to and fro undo each other. Assumes nothing.
 use Prim.Native.Nat.{ℕ, _+_, _≤_}
 use mathlib.Core.Path.{_≡_, refl, sym, ap, _∙_}
-use mathlib.Core.Logic.{_≢_}
-use mathlib.Core.Bool.{true, false, cond}
+use mathlib.Core.Bool.{true}
 use mathlib.Core.List.{List, [], _∷_, _++_, map}
 use native.Mathlib.Omega.{arith}
 use lib.Dec.{eqb, ltb}
 use lib.ListN.{length, drop}
-use borrow.Author.Tests.{eq-eqb, eqb-true, eqb-false, ltb-false, le-ltb}
+use borrow.Author.Tests.{eq-eqb, eqb-true, eqb-false, le-ltb}
 use Rattle.model.specs.declared.Parameters.{Parameters}
 use Rattle.model.specs.declared.State.{State}
 use Rattle.model.specs.Answers.{answerOf}
@@ -21,12 +20,12 @@ use Rattle.layout.specs.Interface.{Lent, lentGave}
 use Rattle.deadlines.specs.declared.DeadlineState.{DeadlineState}
 use Rattle.deadlines.specs.declared.DeadlineOutcome.{DeadlineOutcome}
 use Rattle.deadlines.specs.Deadlines.{soundWith, stepWith, freshWith}
-use Rattle.deadlines.specs.Matching.{matched, arrived, toDeadlines, toArrivals}
+use Rattle.deadlines.specs.Matching.{matched, toDeadlines, toArrivals}
 use Rattle.matching.specs.Facts.{AcceptedWith}
 use Rattle.matching.specs.Lists.{stepByDeadlines, stepsWith, runWith, Demand3With}
-use Rattle.deadline_layout.specs.Encodings.{deadlineLength, stateNumbersWith, isDeadlineTable, deadlineTableIn, isSoundDeadlineTable}
+use Rattle.deadline_layout.specs.Encodings.{deadlineLength, stateNumbersWith, isSoundDeadlineTable}
 use Rattle.deadline_layout.specs.Interface.{lentFreshWith, lentStepWith, lentToDeadlines, lentToArrivals}
-use Rattle.model.proofs.Tests.{by-test, by-cond}
+use Rattle.model.proofs.Tests.{by-test}
 use Rattle.model.proofs.Lists.{over-seam}
 use Rattle.model.proofs.Folds.{chain-results, chain-last, list-chain}
 use Rattle.theory.specs.Soundness.{ParametersStand}

@@ -1,6 +1,6 @@
 -- The statements about chains of the second engine: where one result alone is allowed for each call, a chain is the list of calls of the definitions,
 -- so what holds of every list holds of every chain; and every list has a chain. Assumes nothing.
-use mathlib.Core.Path.{_≡_, refl, sym}
+use mathlib.Core.Path.{_≡_, refl}
 use mathlib.Core.List.{List}
 use Rattle.model.specs.declared.State.{State}
 use Rattle.model.specs.declared.Parameters.{Parameters}

@@ -5,7 +5,6 @@ use mathlib.Core.List.{_∷_}
 use lib.ListN.{replicate}
 use Rattle.model.specs.Acts.{waitAct}
 use Rattle.model.specs.States.{parametersOf}
-use Rattle.model.specs.Answers.{answerOf}
 use Rattle.deadlines.specs.declared.DeadlineLocation.{DeadlineLocation}
 use Rattle.deadlines.specs.declared.DeadlineLocation.the-variants.{Testing, Checking}
 use Rattle.deadlines.specs.declared.DeadlineState.{DeadlineState}

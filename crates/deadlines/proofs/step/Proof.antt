@@ -17,7 +17,7 @@ use Rattle.model.proofs.Tests.{tests}
 use Rattle.deadlines.specs.declared.DeadlineLocation.{DeadlineLocation}
 use Rattle.deadlines.specs.Deadlines.{idleWith, entryIn, stepWith}
 use Rattle.deadlines.proofs.Passing.{PassedWith, numbers-fault-with, nothing-passed-with, turn-fault-with, turn-passed-with}
-use Rattle.deadlines.proofs.Passing.{size-with, passed-whole-with, idle-passed-with, settled-passed-with, SurveyedWith, faulty, whole, Small, small}
+use Rattle.deadlines.proofs.Passing.{size-with, passed-whole-with, idle-passed-with, settled-passed-with, SurveyedWith, faulty, small}
 use Rattle.deadlines.proofs.Judging.{GoesWith, goes-with, within, exit-unsound-with, exit-refused-with, exit-waited-with, exit-moved-with}
 use Rattle.deadlines.proofs.step.Statement.{statement}
 use Rattle.deadlines.proofs.step.Tie as tie
