@@ -1,7 +1,7 @@
 -- A deadline table comes back from its numbers, and numbers from what they tell: the laws of `Numbers`, of the front of a lent list.
 -- Assumes nothing.
 use Prim.Native.Nat.{ℕ, _≤_}
-use mathlib.Core.Path.{_≡_, refl}
+use mathlib.Core.Path.{_≡_, refl, ap}
 use mathlib.Core.Bool.{true}
 use mathlib.Core.List.{List, _++_}
 use native.Mathlib.Omega.{arith}
@@ -51,6 +51,16 @@ module _ (l : List ℕ) (told : isDeadlineTable l ≡ true) where
   -- they are its numbers
   pub table-numbers : stateNumbersWith (deadlineTableIn l) ≡ take deadlineLength l
   table-numbers = state-numbers-told (take deadlineLength l) (omega (arith, length-take-le deadlineLength l table-fits)) entries-are
+
+-- and it has 96 entries
+pub deadlines-are-whole : (l : List ℕ) → isDeadlineTable l ≡ true → length (deadlineTableIn l .processes) ≡ 96
+deadlines-are-whole l e =
+    omega (
+      arith,
+      length-state (deadlineTableIn l),
+      ap length (table-numbers l e),
+      length-take-le deadlineLength l (table-fits l e),
+    )
 
 pub deadline-numbers-come-back : DeadlineNumbersComeBack
 deadline-numbers-come-back l e = rw (table-numbers l e) (over-front deadlineLength l (table-fits l e))

@@ -1,6 +1,6 @@
 -- The statements about chains of calls on lent deadline tables: the contracts allow one result each, that of the definitions; a list of calls on the
 -- numbers of a state of deadlines is the list of its steps, in numbers; and the two ways to and fro undo each other. Assumes nothing.
-use Prim.Native.Nat.{ℕ, _+_, _≤_}
+use Prim.Native.Nat.{ℕ, _≤_}
 use mathlib.Core.Path.{_≡_, refl, sym, ap, _∙_}
 use mathlib.Core.Bool.{true}
 use mathlib.Core.List.{List, [], _∷_, _++_, map}
@@ -20,27 +20,28 @@ use Rattle.layout.specs.Interface.{Lent, lentGave}
 use Rattle.deadlines.specs.declared.DeadlineState.{DeadlineState}
 use Rattle.deadlines.specs.declared.DeadlineOutcome.{DeadlineOutcome}
 use Rattle.deadlines.specs.Deadlines.{soundWith, stepWith, freshWith}
-use Rattle.deadlines.specs.Matching.{matched, toDeadlines, toArrivals}
+use Rattle.deadlines.specs.Matching.{matched, arrived, toDeadlines, toArrivals}
 use Rattle.matching.specs.Facts.{AcceptedWith}
 use Rattle.matching.specs.Lists.{stepByDeadlines, stepsWith, runWith, Demand3With}
-use Rattle.deadline_layout.specs.Encodings.{deadlineLength, stateNumbersWith, isSoundDeadlineTable}
+use Rattle.deadline_layout.specs.Encodings.{deadlineLength, stateNumbersWith, deadlineTableIn, isSoundDeadlineTable}
 use Rattle.deadline_layout.specs.Interface.{lentFreshWith, lentStepWith, lentToDeadlines, lentToArrivals}
 use Rattle.model.proofs.Tests.{by-test}
 use Rattle.model.proofs.Lists.{over-seam}
 use Rattle.model.proofs.Folds.{chain-results, chain-last, list-chain}
 use Rattle.theory.specs.Soundness.{ParametersStand}
 use Rattle.theory.proofs.Soundness.{fresh-is-plain}
-use Rattle.layout.proofs.Encodings.{table-is-whole, sound-is-table, table-is-sound}
+use Rattle.layout.proofs.Encodings as tables
 use Rattle.deadlines.proofs.Judging.{exit-unsound-with}
-use Rattle.deadlines.proofs.Matched.{length-dated, sound-same, arrived-matched}
-use Rattle.deadline_layout.proofs.Encodings.{table-length, deadlines-come-back}
+use Rattle.deadlines.proofs.Matched.{length-dated, length-arrived, sound-same, sound-matched, arrived-matched}
+use Rattle.deadline_layout.proofs.Encodings.{table-length, deadlines-come-back, deadlines-are-whole, sound-is-table, table-is-sound}
 use Rattle.deadline_layout.proofs.Starting.{fresh-size}
 use Rattle.matching.proofs.Matchings.{matches-matched}
-use Rattle.matching.proofs.Engines.{fresh-match}
+use Rattle.matching.proofs.Engines.{fresh-match, arrived-matches, arrived-sound}
 use Rattle.matching.proofs.Acceptance.{next-is-changed-with, refused-stays-with}
 use Rattle.matching.proofs.Demand3.{every-list-with}
 use Rattle.exported.specs.DeadlineChains.{StartsDeadlines, StepsDeadlines, GoesToDeadlines, GoesToArrivals, MadeOnDeadlines, numbersAfter}
-use Rattle.exported.specs.DeadlineChains.{NotStuckOnDeadlines, inNumbersWith, EveryDeadlineTableChain, SomeDeadlineTableChain, EveryThereAndBack}
+use Rattle.exported.specs.DeadlineChains.{NotStuckOnDeadlines, inNumbersWith, EveryDeadlineTableChain, SomeDeadlineTableChain}
+use Rattle.exported.specs.DeadlineChains.{EveryThereAndBack, EveryBackAndThere}
 use Rattle.exported.proofs.Lending.{lending}
 
 -- One result is allowed
@@ -177,10 +178,10 @@ module _ (table : List ℕ) (sound : isSoundTable table ≡ true) where
   s = tableIn table
 
   s-sound : soundOf s ≡ true
-  s-sound = table-is-sound table sound
+  s-sound = tables.table-is-sound table sound
 
   matched-whole : Whole (matched s)
-  matched-whole = length-dated (s .parameters) 1 (s .processes) ∙ table-is-whole table (sound-is-table table sound)
+  matched-whole = length-dated (s .parameters) 1 (s .processes) ∙ tables.table-is-whole table (tables.sound-is-table table sound)
 
   -- what stands after the numbers of the deadline table
   goes-to : (deadlines : List ℕ) → deadlineLength ≤ length deadlines
@@ -211,4 +212,45 @@ every-there-and-back table deadlines out to fro sound long room t f =
       sound = rw there (sound-told table sound rest);
       matches = rw (there, told .1) (matches-matched (tableIn table));
       back = fro-is (to .table) out fro f ∙ rw there (comes-back table sound rest out room);
+    }
+
+module _ (deadlines : List ℕ) (sound : isSoundDeadlineTable deadlines ≡ true) where
+  abbrev d : DeadlineState
+  d = deadlineTableIn deadlines
+
+  d-sound : soundWith d ≡ true
+  d-sound = table-is-sound deadlines sound
+
+  arrived-whole : length (arrived d .processes) ≡ 96
+  arrived-whole = length-arrived (d .parameters) (d .processes) ∙ deadlines-are-whole deadlines (sound-is-table deadlines sound)
+
+  -- what stands after the numbers of the table
+  goes-fro : (table : List ℕ) → tableLength ≤ length table
+      → lentToArrivals deadlines table ≡ lentGave (answerOf 0 0 0) (stateNumbers (arrived d) ++ drop tableLength table)
+  unfolding lentToArrivals toArrivals
+  goes-fro table long =
+      rw (sound, le-ltb (length table) tableLength long, d-sound, tables.table-length (arrived d) arrived-whole)
+
+  arrivals-told : (rest : List ℕ) → isSoundTable (stateNumbers (arrived d) ++ rest) ≡ true
+  unfolding isSoundTable
+  arrivals-told rest = let told = tables.table-comes-back (arrived d) arrived-whole rest in rw (told .0, told .1) (arrived-sound d d-sound)
+
+  deadlines-back : (rest out : List ℕ) → deadlineLength ≤ length out
+      → lentToDeadlines (stateNumbers (arrived d) ++ rest) out ≡ lentGave (answerOf 0 0 0) (over (stateNumbersWith d) out)
+  unfolding lentToDeadlines isSoundTable toDeadlines
+  deadlines-back rest out long =
+      let told = tables.table-comes-back (arrived d) arrived-whole rest in
+      rw (told .0, told .1, arrived-sound d d-sound, le-ltb (length out) deadlineLength long)
+      (ap (λ (x : DeadlineState). lentGave (answerOf 0 0 0) (over (stateNumbersWith x) out)) (sound-matched d d-sound))
+
+pub every-back-and-there : EveryBackAndThere
+every-back-and-there deadlines table out fro to sound long room f t =
+    let back = fro-is deadlines table fro f ∙ goes-fro deadlines sound table long in
+    let rest = drop tableLength table in
+    let told = tables.table-comes-back (arrived (deadlineTableIn deadlines)) (arrived-whole deadlines sound) rest in
+    record {
+      answer = ap (λ (r : Lent). r .answer) back;
+      sound = rw back (arrivals-told deadlines sound rest);
+      matches = rw (back, told .1) (arrived-matches (deadlineTableIn deadlines) (d-sound deadlines sound));
+      back = to-is (fro .table) out to t ∙ rw back (deadlines-back deadlines sound rest out room);
     }

@@ -119,3 +119,15 @@ pub record ThereAndBack (table out : List ℕ) (to fro : Lent) : Type 0 where
 abbrev pub EveryThereAndBack : Type 0
 EveryThereAndBack = (table deadlines out : List ℕ) (to fro : Lent) → isSoundTable table ≡ true → deadlineLength ≤ length deadlines
     → tableLength ≤ length out → GoesToDeadlines table deadlines to → GoesToArrivals (to .table) out fro → ThereAndBack table out to fro
+
+-- [12.105] [12.140] and a sound deadline table goes to a table that matches, and its numbers come back
+pub record BackAndThere (deadlines out : List ℕ) (fro to : Lent) : Type 0 where
+  pub answer : fro .answer ≡ answerOf 0 0 0
+  pub sound : isSoundTable (fro .table) ≡ true
+  pub matches : Matches (tableIn (fro .table)) (deadlineTableIn deadlines)
+  pub back : to ≡ lentGave (answerOf 0 0 0) (over (stateNumbersWith (deadlineTableIn deadlines)) out)
+
+-- [12.105] [12.140] in lists that are long enough
+abbrev pub EveryBackAndThere : Type 0
+EveryBackAndThere = (deadlines table out : List ℕ) (fro to : Lent) → isSoundDeadlineTable deadlines ≡ true → tableLength ≤ length table
+    → deadlineLength ≤ length out → GoesToArrivals deadlines table fro → GoesToDeadlines (fro .table) out to → BackAndThere deadlines out fro to
