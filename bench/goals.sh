@@ -76,10 +76,12 @@ goals() {
             # it is 1.5 where the steps are run twice, in one byte less
             judge("spans_call", 2, 1.05, "funnelfawn_spans in as many bytes as the recording has, of funnelfawn_replay")
             judge("deadlines but one", 28, 1.0, "a step of the second engine through the C library, of the first, in every row but one")
-            # why these are missed is in docs/DECISIONS.md, "Speed": so they are told and do not decide
+            # why these are missed is in docs/DECISIONS.md, "Speed": so they are told, and only what they are now decides
             say("deadlines", 1.0, "the same in every row", met("deadlines", 29, 1.0) ? "met" : "NOT MET, as docs/DECISIONS.md tells")
+            judge("deadlines", 29, 1.03, "the same in every row, as it is")
             judge("deadlines_within idle", 7, 1.0, "a step of the second engine within Rattle, inlined, on an idle table that is sound, of the first")
             say("deadlines_within", 1.0, "the same in every row", met("deadlines_within", 29, 1.0) ? "met" : "NOT MET, as docs/DECISIONS.md tells")
+            judge("deadlines_within", 29, 1.42, "the same in every row, as it is")
             judge("board", 8, 1.0, "a board through the C library, in every row, of the reference")
             judge_number(dearest, empty == 2 && dearest < 200, "an empty board, adding or showing: less than 200 instructions")
             # 16,374 before the second engine came

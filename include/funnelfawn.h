@@ -33,9 +33,9 @@ extern "C" {
 
 /* [9.15] The layout: one number for what stands where in all that is lent, tables, deadline tables, summaries and boards. It goes up whenever
  * one of them comes to hold more numbers, or a number there to mean something else. FUNNELFAWN_LAYOUT is that of this header, and
- * funnelfawn_layout() that of the archive: a program compares the two once, at its start, so that a header and an archive of different versions are found out
- * before a list is lent. Of numbers that were stored by another program or on another day it says nothing, unless the layout is stored
- * with them.
+ * funnelfawn_layout() that of the archive: a program compares the two once, at its start, so that a header and an archive of different
+ * versions are found out before a list is lent. Of numbers that were stored by another program or on another day it says nothing, unless
+ * the layout is stored with them.
  *
  * Layout 2 has the lengths of layout 1; only waits differ. FUNNELFAWN_AT_TRIES is gone: from FUNNELFAWN_AT_WAITED, the same place, on stands
  * what each window has waited where its try moment stood; and the longest wait and a board's waits count unused time alone. So a summary
@@ -92,13 +92,14 @@ enum funnelfawn_place {
  * The second engine writes deadlines out. Its tables hold in place of an arrival the first and the last moment at which a window may act: in
  * a timed place the last is its latest moment, and the first its earliest, which is the arrival itself but for checking. They are lent as
  * FUNNELFAWN_DEADLINES_LENGTH numbers: the six that a table begins with, and then for each of the 96 windows its place, its first and its
- * last moment; remainder and selling have neither, and 0 stands for both [12.110]. Window w, from 1, has its place at
- * FUNNELFAWN_HEADER_LENGTH + FUNNELFAWN_DEADLINES_STRIDE * (w - 1).
+ * last moment; remainder and selling have neither, and 0 stands for both [12.110]; another number there, or a place above 7, tells no deadline
+ * table [12.115]. Window w, from 1, has its place at FUNNELFAWN_HEADER_LENGTH + FUNNELFAWN_DEADLINES_STRIDE * (w - 1).
  *
  * A table and a deadline table match if all else is equal and each window's two moments are its earliest and its latest [12.20]. A deadline
  * table is sound exactly if some sound table matches it; any other is refused with 1: first and last moments of different arrivals, of an
  * arrival after the clock, or a last moment before it, however near 2^64 the numbers are [12.35]. From matching tables the two engines give
- * the same answer to every act, and leave tables that match [12.80]; so all that is promised of lists of acts holds for both [12.90]. */
+ * the same answer to every act, and leave tables that match [12.80]; so all that is promised of lists of acts holds for both [12.90],
+ * and of a lock that is turned from one into the other [12.97]. */
 enum {
     FUNNELFAWN_DEADLINES_STRIDE = 3,
     FUNNELFAWN_DEADLINES_LENGTH = FUNNELFAWN_HEADER_LENGTH + FUNNELFAWN_DEADLINES_STRIDE * FUNNELFAWN_WINDOWS
@@ -285,7 +286,7 @@ struct funnelfawn_answer funnelfawn_step_deadlines(uint64_t *deadlines, size_t d
                                                    uint64_t moment);
 
 /* [12.140] To and fro: the deadline table that matches a sound table, and the table that matches a sound deadline table. What goes both ways
- * is the same again [12.105].
+ * is the same again [12.105]. Act on one of the two from then on: who acts on both has two locks [9.170].
  *   0, 0, 0 with the numbers in the second list; or 1, where the first holds no sound table, or, last, 16, where the second is too short. The
  *   first list is only read, and refused the second stays as it was. */
 struct funnelfawn_answer funnelfawn_to_deadlines(const uint64_t *FUNNELFAWN_RESTRICT table, size_t table_length,

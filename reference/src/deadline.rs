@@ -1,6 +1,6 @@
 //! The second engine, whose timed places hold the first and the last moment of their window where `machine.rs` has its arrival: section 12 of
-//! the specification. It steps from moments to moments, and makes no arrivals on the way. Below it stand what goes from one kind of table to
-//! the other, and a table as the numbers that a library is lent.
+//! the specification. It steps from moments to moments; an arrival is looked for only to tell whether a table is sound. Below it stand what
+//! goes from one kind of table to the other, and a table as the numbers that a library is lent.
 
 use crate::answer::*;
 use crate::list::number_of;
@@ -232,7 +232,7 @@ pub fn matching(table: &Table, deadlines: &DeadlineTable) -> bool {
         && table.places.iter().zip(&deadlines.places).all(alike)
 }
 
-/// [12.25] The table of deadlines that a sound table matches; for another 1, and the table of a refused fresh one.
+/// [12.100] The table of deadlines that a sound table matches; for another 1, and the table of a refused fresh one.
 pub fn to_deadlines(table: &Table) -> (Answer, DeadlineTable) {
     if !table.sound() {
         return (bare(NO_TABLE), deadline_fresh(Values::default()).1);
@@ -250,7 +250,7 @@ fn with_moments(table: &Table, window: u64) -> DeadlinePlace {
         .expect("a place's number")
 }
 
-/// [12.25] [12.35] The table that a sound table of deadlines matches; for another 1, and the table of a refused fresh one.
+/// [12.100] [12.35] The table that a sound table of deadlines matches; for another 1, and the table of a refused fresh one.
 pub fn to_arrivals(deadlines: &DeadlineTable) -> (Answer, Table) {
     if !deadlines.sound() {
         return (bare(NO_TABLE), fresh(Values::default()).1);

@@ -455,7 +455,7 @@ fn the_corpus_comes_to_what_is_stored() {
 
 // To and fro
 
-/// [12.25]
+/// [12.105]
 #[test]
 fn to_and_fro_are_inverse() {
     for index in 0..5_000 {

@@ -21,8 +21,8 @@ pub struct Moments {
 ///
 /// A table and a deadline table match if they are the same but for this, and each window's two moments are its earliest and its latest,
 /// [12.20]. From two that match, every act at every moment gets the same answer, and leaves two that match, [12.80]; so all that is promised
-/// of lists of acts holds here too, [12.90]. Like a table it cannot be cloned: the lock holds for one copy, handed on, and
-/// [`from_table`](DeadlineTable::from_table) and [`into_table`](DeadlineTable::into_table) hand it on from one engine to the other.
+/// of lists of acts holds here too, [12.90], and of a lock that is handed on, [12.97]. Like a table it cannot be cloned: the lock holds for
+/// one copy, handed on, and [`from_table`](DeadlineTable::from_table) and [`into_table`](DeadlineTable::into_table) hand it on from one engine to the other.
 ///
 /// ```
 /// use funnelfawn::{Accepted, Act, DeadlineTable, Moments, Place, Refusal};
@@ -57,6 +57,7 @@ impl DeadlineTable {
     /// on by itself, hand over a copy, `Table::from_numbers(*table.numbers())`, and make no act of it.
     ///
     /// A table that is not sound matches no sound one, and is [`NoTable`](Refusal::NoTable), as it is to every act.
+    /// It is gone then: who wants its numbers copies them before.
     pub fn from_table(table: Table) -> Result<DeadlineTable, Refusal> {
         let mut deadlines = DeadlineTable::from_numbers([0; raw::DEADLINES]);
         raw::to_deadlines(table.numbers(), &mut deadlines.numbers).result()?;

@@ -151,7 +151,8 @@ module _ (l : List ℕ) (f : Survey) (act p m at : ℕ) (at-is : at ≡ slotOf p
   answer-is : j ≡ answerIn l f act p m
   answer-is = j-is ∙ (λ i. judged f (sceneIn l p) (getD l (stagePlaceWith (at-is i)) 0) (getD l (firstPlace (at-is i)) 0) (t-is i) act m)
 
-  pub acted-accepted : j .code ≡ 0 → {new : List ℕ} → new ≡ actionPutWith l at (tableParameters l) act p t m → lentGave j new ≡ actedWith l f act p m
+  pub acted-accepted : j .code ≡ 0 → {new : List ℕ} → new ≡ actionPutWith l at (tableParameters l) act p t m
+      → lentGave j new ≡ actedWith l f act p m
   unfolding actedWith
   acted-accepted z e =
       let accepted : answerIn l f act p m .code ≡ 0 = sym (ap (λ (r : Answer). r .code) answer-is) ∙ z in

@@ -39,22 +39,22 @@ use Rattle.model.proofs.Tests.{by-test, by-cond, tests}
 use Rattle.rules.proofs.Pass.{Whole}
 use Rattle.rules.proofs.Pass as pass
 use Rattle.rules.proofs.Judged.{Goes, refuses, waits, moves, goes}
-use Rattle.deadlines.proofs.Matched.{dated-is, stage-arrived, length-arrived, entry-in, moved-same, outcomeMatched, step-same}
+use Rattle.deadlines.proofs.Matched.{add-zero, cond-map, dated-is, stage-arrived, length-arrived, entry-in, moved-same, outcomeMatched, step-same}
 use Rattle.deadlines.proofs.Matched.{sound-matched}
 use Rattle.deadlines.proofs.Passing.{Small, SurveyedWith, faulty, whole}
 
 -- The outcome o of the definitions goes with the answer j of the code
 pub data GoesWith (d : DeadlineState) (act p m : ℕ) (o : DeadlineOutcome) (j : Answer) : Type 0 where
   refuse : o ≡ record { answer = j; state = d } → j .code ≢ 0 → GoesWith d act p m o j
-  wait : act ≡ waitAct → p ≡ 0 → o ≡ record { answer = j; state = changedWith d m (d .word) (d .processes) } → j .code ≡ 0 → GoesWith d act p m o j
+  wait : act ≡ waitAct → p ≡ 0
+      → o ≡ record { answer = j; state = changedWith d m (d .word) (d .processes) } → j .code ≡ 0 → GoesWith d act p m o j
   move : act ≢ waitAct → act ≤ lastAct → 1 ≤ p → p ≤ 96
       → o ≡ record { answer = j; state = movedWith d p m (transitionOf (d .word) act p m) } → j .code ≡ 0 → GoesWith d act p m o j
 
 -- The answer looks at the time from which on a process may check only where it checks
 
 cond-same : (a : Answer) (t : Bool) {b c : Answer} → (t ≡ false → b ≡ c) → cond t a b ≡ cond t a c
-cond-same a true e = refl
-cond-same a false e = e refl
+cond-same a t e = cond-map (λ (r : Answer). r) t refl e
 
 module _ (f : Survey) (x : Scene) (place release other : ℕ) (t : Transition) (act m : ℕ)
     (e : unknown act ≡ false → misnamed (x .n) act (x .acting) ≡ false → act ≢ waitAct → eqb place (t .from) ≡ true → act ≡ checkAct
@@ -63,7 +63,8 @@ module _ (f : Survey) (x : Scene) (place release other : ℕ) (t : Transition) (
   abbrev ends : ℕ → Answer
   ends r = cond (eqb act checkAct && ltb m r) (answerOf 10 (x .acting) r) (answerOf 0 (lowestOf (f .critical) (x .acting) (t .to)) m)
 
-  ends-same : unknown act ≡ false → misnamed (x .n) act (x .acting) ≡ false → act ≢ waitAct → eqb place (t .from) ≡ true → ends release ≡ ends other
+  ends-same : unknown act ≡ false → misnamed (x .n) act (x .acting) ≡ false → act ≢ waitAct → eqb place (t .from) ≡ true
+      → ends release ≡ ends other
   ends-same known named some placed = by-test (eqb act checkAct) (λ c. ap ends (e known named some placed (eqb-true act checkAct c))) (λ c. rw c)
 
   pub judged-same : judged f x place release t act m ≡ judged f x place other t act m
@@ -108,23 +109,20 @@ module _ (s : State) (act p m : ℕ) where
     own-arrived : 1 ≤ p → p ≤ 96 → arrivedAt k own ≡ entryOf s p .location
     own-arrived from to = ap (arrivedAt k) (own-dated from to) ∙ dated-is k (1 + (p - 1)) (entryOf s p .location) .back
 
-    row-is : act ≢ waitAct → act ≤ lastAct → t ≡ transitionOf (s .word) act p m
-    row-is some known = t-is some known
-
     past : sinceOf (entryOf s p .location) ≤ s .clock
     unfolding entryOf
     past = sound-past s (found .sound) (p - 1)
 
     -- where it checks, its first time is b after its arrival
-    release-is : unknown act ≡ false → misnamed (k .n) act p ≡ false → act ≢ waitAct → eqb (stageOf (arrivedAt k own)) (t .from) ≡ true → act ≡ checkAct
-        → firstOf own ≡ checkFrom (arrivedAt k own) (k .b)
+    release-is : unknown act ≡ false → misnamed (k .n) act p ≡ false → act ≢ waitAct → eqb (stageOf (arrivedAt k own)) (t .from) ≡ true
+        → act ≡ checkAct → firstOf own ≡ checkFrom (arrivedAt k own) (k .b)
     unfolding leaves
     release-is known named some placed check =
         let h = simp tests at (rw (ne-eqb act waitAct some) at named) in
         let range : (1 ≤ p) × (p ≤ 96) = omega (arith, h, sound-numbers s (found .sound) .count) in
         let same = own-arrived (range .0) (range .1) in
         let from : t .from ≡ checking =
-        ap (λ (r : Transition). r .from) (row-is some (ltb-false lastAct act known)) ∙ row-leaves (s .word) act p m ∙ rw check in
+        ap (λ (r : Transition). r .from) (t-is some (ltb-false lastAct act known)) ∙ row-leaves (s .word) act p m ∙ rw check in
         let stage : stageOf (entryOf s p .location) ≡ checking = ap stageOf (sym same) ∙ eqb-true _ _ placed ∙ from in
         let first : firstOf own ≡ releaseIn k (entryOf s p .location) =
         ap firstOf (own-dated (range .0) (range .1)) ∙ dated-is k (1 + (p - 1)) (entryOf s p .location) .first in
@@ -135,8 +133,12 @@ module _ (s : State) (act p m : ℕ) where
     matched-goes : GoesWith (matched s) act p m (stepWith (matched s) act p m)
         (judged f (sceneOf k (s .clock) p) (stageWith own) (firstOf own) t act m)
     matched-goes =
-        rw (step-same s act p m, sym (stage-arrived k own), judged-same f (sceneOf k (s .clock) p) (stageOf (arrivedAt k own)) (firstOf own) (checkFrom (arrivedAt k own) (k .b)) t act m release-is)
-        (goes-matched (stepOf s act p m) _ (goes s act p m f (arrivedAt k own) t (pass.whole found) size own-arrived row-is))
+        rw (
+          step-same s act p m,
+          sym (stage-arrived k own),
+          judged-same f (sceneOf k (s .clock) p) (stageOf (arrivedAt k own)) (firstOf own) (checkFrom (arrivedAt k own) (k .b)) t act m release-is,
+        )
+        (goes-matched (stepOf s act p m) _ (goes s act p m f (arrivedAt k own) t (pass.whole found) size own-arrived t-is))
 
 -- Any state of deadlines
 
@@ -186,19 +188,21 @@ Row m t = Came m (t .to)
 row-since : (word act p m : ℕ) → sinceOf (transitionOf word act p m .to) ≤ m
 unfolding transitionOf
 row-since word act p m =
-    by-cond (Row m) (eqb act tryAct) (λ _. omega arith) (λ _. by-cond (Row m) (eqb act testAct) (λ _. by-cond (Came m) (eqb word 0) (λ _. omega arith) (λ _. omega arith))
-    (λ _. by-cond (Row m) (eqb act setAct) (λ _. omega arith) (λ _. by-cond (Row m) (eqb act checkAct) (λ _. by-cond (Came m) (eqb word p) (λ _. omega arith) (λ _. omega arith))
+    by-cond (Row m) (eqb act tryAct) (λ _. omega arith)
+    (λ _. by-cond (Row m) (eqb act testAct) (λ _. by-cond (Came m) (eqb word 0) (λ _. omega arith) (λ _. omega arith))
+    (λ _. by-cond (Row m) (eqb act setAct) (λ _. omega arith)
+    (λ _. by-cond (Row m) (eqb act checkAct) (λ _. by-cond (Came m) (eqb word p) (λ _. omega arith) (λ _. omega arith))
     (λ _. by-cond (Row m) (eqb act critAct) (λ _. omega arith) (λ _. by-cond (Row m) (eqb act exitAct) (λ _. omega arith)
     (λ _. by-cond (Row m) (eqb act resetAct) (λ _. omega arith) (λ _. by-cond (Row m) (eqb act remAct) (λ _. omega arith) (λ _. omega arith))))))))
 
 plain : (t : ℕ) → t ≡ t + 0
-plain t = omega arith
+plain t = sym (add-zero t)
 
 sum : (t x : ℕ) → t ≤ lastTime → x ≤ 10_000_000 → dueFrom t x ≡ t + x
 sum t x h g = mod-eq-of-lt (omega arith)
 
-pub dated-fits : (k : Parameters) (i : ℕ) (l : Location) → sinceOf l ≤ lastTime → k .b ≤ 10_000_000 → k .c ≤ 10_000_000 → limitIn k i ≤ 10_000_000
-    → datedWith k i l ≡ datedAt k i l
+pub dated-fits : (k : Parameters) (i : ℕ) (l : Location) → sinceOf l ≤ lastTime → k .b ≤ 10_000_000 → k .c ≤ 10_000_000
+    → limitIn k i ≤ 10_000_000 → datedWith k i l ≡ datedAt k i l
 dated-fits k i Remainder h b c a = refl
 dated-fits k i (Testing t) h b c a = λ j. with.Testing (plain t j) (sum t (limitIn k i) h a j)
 dated-fits k i (Setting t) h b c a = λ j. with.Setting (plain t j) (sum t (limitIn k i) h a j)
@@ -210,8 +214,8 @@ dated-fits k i (Leaving t) h b c a = λ j. with.Leaving (plain t j) (sum t (limi
 
 -- the entry of a process is stored at its slot, with sums that do not wrap
 pub exit-moved-with : (d : DeadlineState) (act p m slot : ℕ) (t : Transition) (o : DeadlineOutcome) (j : Answer)
-    → (p ≤ 96 → slot ≡ p - 1) → (act ≢ waitAct → act ≤ lastAct → t ≡ transitionOf (d .word) act p m) → m ≤ lastTime → Small d → GoesWith d act p m o j
-    → j .code ≡ 0 → act ≢ waitAct
+    → (p ≤ 96 → slot ≡ p - 1) → (act ≢ waitAct → act ≤ lastAct → t ≡ transitionOf (d .word) act p m) → m ≤ lastTime → Small d
+    → GoesWith d act p m o j → j .code ≡ 0 → act ≢ waitAct
     → record { answer = j; state = changedWith d m (t .word) (set (d .processes) slot (entryWith (datedWith (d .parameters) p (t .to)))) } ≡ o
 exit-moved-with d act p m slot t o j slot-is t-is last few (refuse e n) h a = absurd (n h)
 exit-moved-with d act p m slot t o j slot-is t-is last few (wait a′ z e h′) h a = absurd (a a′)

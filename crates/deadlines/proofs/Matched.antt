@@ -2,7 +2,7 @@
 -- same answer and states that match; and a sound state of deadlines is the one that matches the state of its arrivals. Assumes nothing.
 use Prim.Native.Nat.{ℕ, zero, suc, _+_, _-_, _≤_}
 use mathlib.Core.Path.{_≡_, refl, sym, ap, _∙_}
-use mathlib.Core.Bool.{Bool, true, false, cond, not, _&&_, false≢true}
+use mathlib.Core.Bool.{Bool, true, false, cond, not, _&&_}
 use mathlib.Core.List.{List, [], _∷_}
 use native.Mathlib.Omega.{arith}
 use lib.Dec.{leb, ltb, eqb}
@@ -17,7 +17,7 @@ use Rattle.model.specs.declared.Transition.{Transition}
 use Rattle.model.specs.declared.Outcome.{Outcome}
 use Rattle.model.specs.Stages.{remainder}
 use Rattle.model.specs.Acts.{waitAct}
-use Rattle.model.specs.States.{entry, idle, stageOf, sinceOf, timed, bounded, deadline, limitIn, deadlineIn, releaseIn}
+use Rattle.model.specs.States.{entry, idle, stageOf, timed, bounded, deadline, limitIn, deadlineIn, releaseIn}
 use Rattle.model.specs.States.{entrySound, entriesSound, soundOf, entryOf}
 use Rattle.model.specs.Actions.{transitionOf, moved, effect}
 use Rattle.model.specs.Answers.{beyond, unknown, misnamed, missed, misplaced, early, Due, due, sooner, firstBy, firstDeadline}
@@ -27,13 +27,13 @@ use Rattle.deadlines.specs.declared.DeadlineLocation.the-variants as wit
 use Rattle.deadlines.specs.declared.DeadlineProcess.{DeadlineProcess}
 use Rattle.deadlines.specs.declared.DeadlineState.{DeadlineState}
 use Rattle.deadlines.specs.declared.DeadlineOutcome.{DeadlineOutcome}
-use Rattle.deadlines.specs.Deadlines.{stageWith, timedWith, firstOf, lastOf, datedAt, entryWith, idleWith, entryIn, arrivalIn, ofOneArrival}
+use Rattle.deadlines.specs.Deadlines.{stageWith, timedWith, firstOf, lastOf, datedAt, entryWith, idleWith, entryIn, ofOneArrival}
 use Rattle.deadlines.specs.Deadlines.{entrySoundWith, entriesSoundWith, soundWith, firstLast, criticalWith, sightWith, movedWith, effectWith}
 use Rattle.deadlines.specs.Deadlines.{answersWith, acceptsWith, stepWith}
 use Rattle.deadlines.specs.Matching.{datedFrom, matched, arrivedAt, arrivedFrom, arrived}
 use Rattle.model.proofs.Tests.{by-test, clash, tests, and-true-iff}
 
-add-zero : (i : ℕ) → i + 0 ≡ i
+pub add-zero : (i : ℕ) → i + 0 ≡ i
 add-zero i = omega arith
 
 add-next : (i j : ℕ) → i + 1 + j ≡ i + suc j
@@ -44,10 +44,7 @@ add-next i j = omega arith
 -- what is written out of one, and what of that leads back
 pub record Dated (k : Parameters) (i : ℕ) (l : Location) : Type 0 where
   pub stage : stageWith (datedAt k i l) ≡ stageOf l
-  pub timed-same : timedWith (datedAt k i l) ≡ timed l
   pub first : firstOf (datedAt k i l) ≡ releaseIn k l
-  pub last : timed l ≡ true → lastOf (datedAt k i l) ≡ deadlineIn k i l
-  pub arrival : arrivalIn k (datedAt k i l) ≡ sinceOf l
   pub back : arrivedAt k (datedAt k i l) ≡ l
 
 -- an arrival comes back from the first time
@@ -55,22 +52,14 @@ pub less-opens : (t b : ℕ) → t + b - b ≡ t
 less-opens t b = omega arith
 
 pub dated-is : (k : Parameters) (i : ℕ) (l : Location) → Dated k i l
-dated-is k i Remainder =
-    record { stage = refl; timed-same = refl; first = refl; last = λ e. absurd (false≢true e); arrival = refl; back = refl }
-dated-is k i (Testing t) =
-    record { stage = refl; timed-same = refl; first = refl; last = λ _. refl; arrival = less-opens t 0; back = ap Testing (less-opens t 0) }
-dated-is k i (Setting t) =
-    record { stage = refl; timed-same = refl; first = refl; last = λ _. refl; arrival = less-opens t 0; back = ap Setting (less-opens t 0) }
-dated-is k i (Checking t) =
-    record { stage = refl; timed-same = refl; first = refl; last = λ _. refl; arrival = less-opens t (k .b); back = ap Checking (less-opens t (k .b)) }
-dated-is k i (Entering t) =
-    record { stage = refl; timed-same = refl; first = refl; last = λ _. refl; arrival = less-opens t 0; back = ap Entering (less-opens t 0) }
-dated-is k i Critical =
-    record { stage = refl; timed-same = refl; first = refl; last = λ e. absurd (false≢true e); arrival = refl; back = refl }
-dated-is k i (Resetting t) =
-    record { stage = refl; timed-same = refl; first = refl; last = λ _. refl; arrival = less-opens t 0; back = ap Resetting (less-opens t 0) }
-dated-is k i (Leaving t) =
-    record { stage = refl; timed-same = refl; first = refl; last = λ _. refl; arrival = less-opens t 0; back = ap Leaving (less-opens t 0) }
+dated-is k i Remainder = record { stage = refl; first = refl; back = refl }
+dated-is k i (Testing t) = record { stage = refl; first = refl; back = ap Testing (less-opens t 0) }
+dated-is k i (Setting t) = record { stage = refl; first = refl; back = ap Setting (less-opens t 0) }
+dated-is k i (Checking t) = record { stage = refl; first = refl; back = ap Checking (less-opens t (k .b)) }
+dated-is k i (Entering t) = record { stage = refl; first = refl; back = ap Entering (less-opens t 0) }
+dated-is k i Critical = record { stage = refl; first = refl; back = refl }
+dated-is k i (Resetting t) = record { stage = refl; first = refl; back = ap Resetting (less-opens t 0) }
+dated-is k i (Leaving t) = record { stage = refl; first = refl; back = ap Leaving (less-opens t 0) }
 
 -- the way back: a location whose times are those of one arrival, or that has none
 pub stage-arrived : (k : Parameters) (q : DeadlineLocation) → stageOf (arrivedAt k q) ≡ stageWith q
@@ -126,7 +115,8 @@ pub dated-set : (k : Parameters) (i : ℕ) (qs : List Process) (j : ℕ) (l : Lo
 unfolding datedFrom
 dated-set k i [] j l = refl
 dated-set k i (q ∷ qs) zero l = rw (add-zero i)
-dated-set k i (q ∷ qs) (suc j) l = ap (λ (es : List DeadlineProcess). entryWith (datedAt k i (q .location)) ∷ es) (rw (sym (add-next i j)) (dated-set k (i + 1) qs j l))
+dated-set k i (q ∷ qs) (suc j) l =
+    ap (λ (es : List DeadlineProcess). entryWith (datedAt k i (q .location)) ∷ es) (rw (sym (add-next i j)) (dated-set k (i + 1) qs j l))
 
 pub arrived-dated : (k : Parameters) (i : ℕ) (qs : List Process) → arrivedFrom k (datedFrom k i qs) ≡ qs
 unfolding datedFrom arrivedFrom
@@ -246,7 +236,7 @@ module _ (s : State) where
 
 -- A judgement, and a function of what it gives
 
-cond-map : {A B : Type 0} (f : A → B) (t : Bool) {x y : A} {u v : B} → u ≡ f x → (t ≡ false → v ≡ f y) → cond t u v ≡ f (cond t x y)
+pub cond-map : {A B : Type 0} (f : A → B) (t : Bool) {x y : A} {u v : B} → u ≡ f x → (t ≡ false → v ≡ f y) → cond t u v ≡ f (cond t x y)
 cond-map f true e g = e
 cond-map f false e g = g refl
 
@@ -298,7 +288,8 @@ entry-told d i q e = ap entryWith (dated-back (d .parameters) i (q .location) to
     told : timedWith (q .location) ≡ true → ofOneArrival (d .parameters) i (q .location) ≡ true
     told t =
         by-test (leb i (d .parameters .n))
-        (λ h. and-true-iff (ofOneArrival (d .parameters) i (q .location)) _ .0 (and-true-iff (ofOneArrival (d .parameters) i (q .location) && _) _ .0 (rw (h, t) at e) .0) .0)
+        (λ h. let one = ofOneArrival (d .parameters) i (q .location) in
+        and-true-iff one _ .0 (and-true-iff (one && _) _ .0 (rw (h, t) at e) .0) .0)
         (λ h. clash t (untimed-idle (q .location) (eqb-true _ _ (rw h at e))))
 
 entries-told : (d : DeadlineState) (i : ℕ) (es : List DeadlineProcess) → entriesSoundWith d i es ≡ true

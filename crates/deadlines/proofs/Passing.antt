@@ -28,7 +28,7 @@ use Rattle.deadlines.specs.Matching.{arrivedAt, arrived}
 use Rattle.deadlines.specs.Looks.{boundsNoted, backFrom, settledBy, locationNoted, settledAt}
 use Rattle.model.proofs.Tests.{by-test, by-cond, if-lt, tests}
 use Rattle.model.proofs.Lists.{drop-at, drop-end, row-at}
-use Rattle.rules.proofs.Pass.{standing, Passed, nothing-passed, turn-passed, passed-whole, Whole}
+use Rattle.rules.proofs.Pass.{Passed, nothing-passed, turn-passed, passed-whole, Whole}
 use Rattle.deadlines.proofs.Matched.{arrived-at, length-arrived}
 
 -- The numbers of a state of deadlines
@@ -128,7 +128,9 @@ module _ (d : DeadlineState) (acting i : ℕ) (f : Survey) (stand : standingWith
           (λ a. bad (refuted (λ t. omega (arith, simp tests at t, ltb-true (d .clock) since a))) (λ z. omega arith))
           (λ a. let past : since ≤ d .clock = ltb-false (d .clock) since a in
           by-cond (λ (g : Survey). Times areSound g found) (not (eqb last (dueFrom since closes)))
-          (λ o. bad (refuted (λ t. eqb-false last (dueFrom since closes) (not-true _ o) ((simp tests at t) .0 .0 .1 ∙ sym (fits past)))) (λ z. omega arith))
+          (λ o. bad
+          (refuted (λ t. eqb-false last (dueFrom since closes) (not-true _ o) ((simp tests at t) .0 .0 .1 ∙ sym (fits past))))
+          (λ z. omega arith))
           (λ o. told below past (eqb-true last (dueFrom since closes) (not-false _ o) ∙ fits past))))
 
   -- a look at a location finds what one at its arrival finds, or that the entry is not sound
@@ -207,6 +209,9 @@ pub nothing-passed-with : (d : DeadlineState) (acting : ℕ) → standingWith d 
 nothing-passed-with d acting stand size =
     record { passed = nothing-passed (arrived d) acting stand (length-arrived (d .parameters) (d .processes) ∙ size); sound = refl }
 
+pub size-with : (d : DeadlineState) (acting i : ℕ) (f : Survey) → PassedWith d acting i f → length (d .processes) ≡ 96
+size-with d acting i f so-far = sym (length-arrived (d .parameters) (d .processes)) ∙ so-far .passed .size
+
 -- a look at the next entry, that of process j
 module _ (d : DeadlineState) (acting i j : ℕ) (f : Survey) (so-far : PassedWith d acting i f) (more : i < 96) (next : j ≡ i + 1)
     (other : DeadlineProcess) (g : Survey)
@@ -216,7 +221,7 @@ module _ (d : DeadlineState) (acting i j : ℕ) (f : Survey) (so-far : PassedWit
   q = getD (d .processes) i other
 
   long : length (d .processes) ≡ 96
-  long = sym (length-arrived (d .parameters) (d .processes)) ∙ so-far .passed .size
+  long = size-with d acting i f so-far
 
   next-entry : drop i (d .processes) ≡ q ∷ drop (i + 1) (d .processes)
   next-entry = drop-at (d .processes) i other (omega (arith, long))
@@ -252,9 +257,6 @@ module _ (d : DeadlineState) (acting i j : ℕ) (f : Survey) (so-far : PassedWit
             (s ∙ ap (λ (l : Location). noted (sceneOf (d .parameters) (d .clock) acting) (i + 1) l (limitIn (d .parameters) (i + 1)) f) (sym place)) z;
         sound = rw t at sound-left;
       }
-
-pub size-with : (d : DeadlineState) (acting i : ℕ) (f : Survey) → PassedWith d acting i f → length (d .processes) ≡ 96
-size-with d acting i f so-far = sym (length-arrived (d .parameters) (d .processes)) ∙ so-far .passed .size
 
 -- nothing is left after 96 entries
 pub passed-whole-with : (d : DeadlineState) (acting i : ℕ) (f : Survey) → PassedWith d acting i f → 96 ≤ i → SurveyedWith d acting f

@@ -3,7 +3,6 @@
 use Prim.Native.Nat.{ℕ, zero, suc, _+_, _-_}
 use mathlib.Core.Path.{_≡_, refl, sym, ap, _∙_}
 use mathlib.Core.List.{List, [], _∷_}
-use native.Mathlib.Omega.{arith}
 use lib.ListN.{length, getD}
 use Rattle.model.specs.declared.Location.{Location}
 use Rattle.model.specs.declared.Location.the-variants.{Remainder, Testing, Setting, Checking, Entering, Critical, Resetting, Leaving}
@@ -16,25 +15,21 @@ use Rattle.deadlines.specs.declared.DeadlineProcess.{DeadlineProcess}
 use Rattle.deadlines.specs.declared.DeadlineState.{DeadlineState}
 use Rattle.deadlines.specs.Deadlines.{datedAt, entryWith, idleWith, entryIn}
 use Rattle.deadlines.specs.Matching.{LocationsMatch, EntriesMatch, Matches, datedFrom, matched, arrived}
-use Rattle.deadlines.proofs.Matched.{arrived-matched}
+use Rattle.deadlines.proofs.Matched.{add-zero, arrived-matched}
 use Rattle.matching.specs.Engines.{OneForOne}
 
 -- Locations
 
--- the first time is the arrival but in checking
-at-once : (t : ℕ) → t + 0 ≡ t
-at-once t = omega arith
-
 location-matched : (k : Parameters) (i : ℕ) (l : Location) → LocationsMatch (k .a) (k .b) (k .c) l (datedAt k i l)
 unfolding limitIn
 location-matched k i Remainder = LocationsMatch.remainder
-location-matched k i (Testing t) = rw (at-once t) LocationsMatch.testing
-location-matched k i (Setting t) = rw (at-once t) LocationsMatch.setting
+location-matched k i (Testing t) = rw (add-zero t) LocationsMatch.testing
+location-matched k i (Setting t) = rw (add-zero t) LocationsMatch.setting
 location-matched k i (Checking t) = LocationsMatch.checking
-location-matched k i (Entering t) = rw (at-once t) LocationsMatch.entering
+location-matched k i (Entering t) = rw (add-zero t) LocationsMatch.entering
 location-matched k i Critical = LocationsMatch.critical
-location-matched k i (Resetting t) = rw (at-once t) LocationsMatch.resetting
-location-matched k i (Leaving t) = rw (at-once t) LocationsMatch.leaving
+location-matched k i (Resetting t) = rw (add-zero t) LocationsMatch.resetting
+location-matched k i (Leaving t) = rw (add-zero t) LocationsMatch.leaving
 
 -- a location matches one location of deadlines
 pub one-location : {a b c : ℕ} {l : Location} {q r : DeadlineLocation} → LocationsMatch a b c l q → LocationsMatch a b c l r → q ≡ r

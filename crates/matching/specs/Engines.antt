@@ -37,7 +37,8 @@ UnsoundIffOneWith = (d : DeadlineState) (act p m : ℕ)
 
 -- [12.35] and that is all that it is answered, with the state given back
 abbrev pub UnmatchedIsOne : Type 0
-UnmatchedIsOne = (d : DeadlineState) → ((s : State) → soundOf s ≡ true → Matches s d → ⊥) → (act p m : ℕ) → stepWith d act p m ≡ answersWith 1 0 0 d
+UnmatchedIsOne = (d : DeadlineState) → ((s : State) → soundOf s ≡ true → Matches s d → ⊥)
+    → (act p m : ℕ) → stepWith d act p m ≡ answersWith 1 0 0 d
 
 -- One call of each engine
 

@@ -27,7 +27,7 @@ answerNumbers r = r .code ∷ r .process ∷ r .time ∷ []
 abbrev pub answers : ℕ → ℕ → ℕ → State → Outcome
 answers code process time s = record { answer = answerOf code process time; state = s }
 
--- The conditions. That of 1 is `soundOf`; those of 2 and 3 are the summary's.
+-- The conditions. That of 1 is `soundOf`, of the second engine `soundWith`; those of 2 and 3 are the summary's.
 
 -- [4.4]
 abbrev pub backward : ℕ → ℕ → Bool

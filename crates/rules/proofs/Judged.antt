@@ -16,7 +16,7 @@ use Rattle.model.specs.declared.Answer.{Answer}
 use Rattle.model.specs.declared.Outcome.{Outcome}
 use Rattle.model.specs.Stages.{checking}
 use Rattle.model.specs.Acts.{waitAct, checkAct, lastAct, leaves}
-use Rattle.model.specs.States.{deadline, lastTime, entry, stageOf, sinceOf, release, soundOf, entryOf}
+use Rattle.model.specs.States.{lastTime, entry, stageOf, sinceOf, release, soundOf, entryOf}
 use Rattle.model.specs.Actions.{transitionOf, changed, waited, moved, effect}
 use Rattle.model.specs.Answers.{answerOf, answers, backward, beyond, unknown, misnamed, Due, firstDeadline, missed, misplaced, early}
 use Rattle.model.specs.Answers.{criticalOf, accepts, stepOf}
@@ -107,7 +107,8 @@ module _ (s : State) (act p m : ℕ) (f : Survey) (found : Whole s p f) (size : 
         (turnJudged (f .critical) p (stageOf (entryOf s p .location)) own-release (transitionOf (s .word) act p m) act m)
     unfolding turnJudged
     turn-goes =
-        by-both (misplaced (stageOf (entryOf s p .location)) act) _ (rw (row-leaves (s .word) act p m) (simp (ne-eqb act waitAct some))) (λ _. refusal (λ z. omega arith))
+        by-both (misplaced (stageOf (entryOf s p .location)) act) _
+        (rw (row-leaves (s .word) act p m) (simp (ne-eqb act waitAct some))) (λ _. refusal (λ z. omega arith))
         (λ e. let placed : stageOf (entryOf s p .location) ≡ leaves act = eqb-true _ _ (not-false _ e) ∙ row-leaves (s .word) act p m in
         by-both (early (release s (entryOf s p)) act m) _ (early-is placed)
         (λ h. rw (check-release placed ((simp tests at h) .0)) (refusal (λ z. omega arith)))
@@ -181,8 +182,8 @@ exit-waited s act p m o j (moves some known from to e h′) h a = absurd (some a
 
 -- the entry of a process is stored at its slot
 pub exit-moved : (s : State) (act p m slot : ℕ) (t : Transition) (o : Outcome) (j : Answer)
-    → (p ≤ 96 → slot ≡ p - 1) → (act ≢ waitAct → act ≤ lastAct → t ≡ transitionOf (s .word) act p m) → Goes s act p m o j → j .code ≡ 0
-    → act ≢ waitAct → record { answer = j; state = changed s m (t .word) (set (s .processes) slot (entry (t .to))) } ≡ o
+    → (p ≤ 96 → slot ≡ p - 1) → (act ≢ waitAct → act ≤ lastAct → t ≡ transitionOf (s .word) act p m) → Goes s act p m o j
+    → j .code ≡ 0 → act ≢ waitAct → record { answer = j; state = changed s m (t .word) (set (s .processes) slot (entry (t .to))) } ≡ o
 exit-moved s act p m slot t o j slot-is t-is (refuses e n) h a = absurd (n h)
 exit-moved s act p m slot t o j slot-is t-is (waits a′ z e h′) h a = absurd (a a′)
 exit-moved s act p m slot t o j slot-is t-is (moves some known from to e h′) h a = rw (slot-is to, t-is some known) (sym e)

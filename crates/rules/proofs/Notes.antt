@@ -82,7 +82,8 @@ module _ (s : State) (acting k : ℕ) (f : Survey) (so-far : f .faulty ≡ 0) (a
         critical-next = λ rest. rw out;
       })
         where
-          next : {d : Due} → Finds (f .process) (f .due) d → Finds (f .process) (f .due) (cond (sooner (bounded s (entry l)) (deadline s k (entry l)) d) (due k time) d)
+          next : {d : Due} → Finds (f .process) (f .due) d
+              → Finds (f .process) (f .due) (cond (sooner (bounded s (entry l)) (deadline s k (entry l)) d) (due k time) d)
           next (none z e) = absurd (omega (arith, e, ends-below))
           next (one n) = rw (t, ne-eqb (f .process) 0 n, le-ltb time (f .due) a) (one n)
 

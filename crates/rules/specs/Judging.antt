@@ -1,5 +1,5 @@
 -- The answer to an action on numbers, from what the looks at the entries found. The acting process has the stage `place` and may check
--- from `release` on, and its act has the row t. `proofs/Rows` relates the row to the model, and `proofs/` of the machine the rest. Assumes nothing.
+-- from `release` on, and its act has the row t. `proofs/Rows` relates the row to the model, and `proofs/Judged` the rest. Assumes nothing.
 use Prim.Native.Nat.{ℕ, _+_, _-_, _%_, _^_}
 use mathlib.Core.Bool.{Bool, cond, not, _&&_, _||_}
 use mathlib.Core.List.{List, [], _∷_}

@@ -110,12 +110,13 @@ loop-less c = search needs
 
 loop-again : tie.Need-loop-again Inv-loop μ-loop
 loop-again c =
-    let a = c .before .before .before .before .before .before .before .before .before .before .before .before .before .before .before .before .before .before .before .args in
-    let v = c .before .before .before .before .before .before .before .before .before .before .before .before .before .loop in
+    let first = c .before .before .before .before .before .before .before .before .before in
+    let v = first .before .before .before .before .loop in
+    let a = first .before .before .before .before .before .before .before .before .before .before .args in
     let zero = simp tests at (sym (c .before .are-zero .ensures) ∙ c .if4 .taken) in
     let last : v .at ≤ 92 = c .before .before .before .before .before .before .before .before .if3 .taken in
     let one = idle-passed-with (a .t1) (a .process) (v .at) (v .found) (v .inv) (omega arith) idleWith
-    (sym (c .before .before .before .before .before .before .before .before .before .before .stage-with .ensures) ∙ c .before .before .before .before .before .before .before .before .before .if2 .taken) in
+    (sym (first .before .stage-with .ensures) ∙ first .if2 .taken) in
     let e2 : v .at + 1 + 1 ≡ v .at + 2 = omega arith in
     let e3 : v .at + 2 + 1 ≡ v .at + 3 = omega arith in
     let e4 : v .at + 3 + 1 ≡ v .at + 4 = omega arith in
@@ -156,12 +157,13 @@ loop-less-3 c = search needs
 
 loop-again-3 : tie.Need-loop-again-3 Inv-loop μ-loop
 loop-again-3 c =
-    let a = c .before .before .before .before .before .before .before .before .before .before .before .before .before .before .before .args in
+    let start = c .before .before .before .before .before .before .before .before .before .before .before in
+    let a = start .before .before .before .before .args in
     let v = c .before .before .before .before .before .before .before .before .before .loop in
     settled-passed-with (a .t1) (a .process) (v .at) (v .found) (v .inv) (omega arith) idleWith
-    (rw (c .before .before .before .before .before .before .before .before .before .before .before .scene-of .ensures) at (c .before .before .before .if5 .taken))
+    (rw (start .scene-of .ensures) at (c .before .before .before .if5 .taken))
     (c .before .is-settled-at .ensures .1 (c .if6 .taken))
-    (rw (c .before .before .limit-of .ensures, c .before .before .before .before .before .before .before .before .before .before .before .scene-of .ensures) at (sym (c .before .is-settled-at .ensures .0) ∙ c .if6 .taken))
+    (rw (c .before .before .limit-of .ensures, start .scene-of .ensures) at (sym (c .before .is-settled-at .ensures .0) ∙ c .if6 .taken))
 
 limit-of-requires-2 : tie.Need-limit-of-requires-2 Inv-loop μ-loop
 limit-of-requires-2 c κs = search needs
@@ -179,8 +181,9 @@ loop-again-4 : tie.Need-loop-again-4 Inv-loop μ-loop
 loop-again-4 c =
     let a = c .before .before .before .before .before .before .before .before .before .before .before .before .before .before .before .before .args in
     let v = c .before .before .before .before .before .before .before .before .before .before .loop in
+    let scene = c .before .before .before .before .before .before .before .before .before .before .before .before .scene-of .ensures in
     turn-passed-with (a .t1) (a .process) (v .at) (v .at + 1) (v .found) (v .inv) (omega arith) refl idleWith (c .before .before .note .result)
-    (rw (c .before .before .before .before .before .before .before .before .before .before .before .before .scene-of .ensures, c .before .before .before .limit-of2 .ensures) at (c .before .before .note .ensures)) (c .if7 .left)
+    (rw (scene, c .before .before .before .limit-of2 .ensures) at (c .before .before .note .ensures)) (c .if7 .left)
 
 transition-of-requires : tie.Need-transition-of-requires Inv-loop μ-loop
 transition-of-requires c κs = search needs
@@ -243,7 +246,8 @@ answered c =
     let a = c .before .before .before .before .before .before .before .before .before .before .before .before .before .args in
     let slot = c .before .before .before .before in
     let met = c .before .before .before .before .before in
-    rw (c .judge .ensures, c .before .first-of .ensures, c .before .before .stage-with5 .ensures, c .before .before .before .before .before .before .before .before .before .scene-of .ensures)
+    let start = met .before .before .before .before in
+    rw (c .judge .ensures, c .before .first-of .ensures, c .before .before .stage-with5 .ensures, start .scene-of .ensures)
     (goes-with (a .t1) (a .action) (a .process) (a .time) (met .before .loop-test .found) (own slot) (met .transition-of .result)
     (surveyed (met .before)) (let v = met .before .before .loop in size-with (a .t1) (a .process) (v .at) (v .found) (v .inv))
     (λ from to. ap (λ (i : ℕ). getD (a .t1 .processes) i idleWith .location) (slot .slot-of .ensures ∙ slot-in (a .process) to)) (is-row met))
@@ -262,16 +266,17 @@ element-set-from-state c = search (needs, own-fits (c .before .before .before .b
 
 returns-2 : tie.Need-returns-2 Inv-loop μ-loop
 returns-2 c =
-    let a = c .before .before .before .before .before .before .before .before .before .before .before .before .before .before .before .before .before .before .args in
     let slot = c .before .before .before .before .before .before .before .before .before .slot-of in
     let met = c .before .before .before .before .before .before .before .before .before .before in
+    let stand = met .before .before .before .before .before in
+    let a = stand .before .before .before .args in
     let judged = c .before .before .before .before .before in
     rw (c .entry-with .ensures, c .before .dated .ensures)
     (exit-moved-with (a .t1) (a .action) (a .process) (a .time) (slot .result) (met .transition-of .result)
     (stepWith (a .t1) (a .action) (a .process) (a .time)) (judged .judge .result)
     (λ to. slot .ensures ∙ slot-in (a .process) to) (is-row met)
     (within _ _ _ _ _ _ _ (sym (ap (λ (r : Answer). r .code) (judged .judge .ensures)) ∙ c .before .before .before .if8 .taken))
-    (small (a .t1) (sym (c .before .before .before .before .before .before .before .before .before .before .before .before .before .before .before .before .numbers-stand .ensures) ∙ not-false _ (c .before .before .before .before .before .before .before .before .before .before .before .before .before .before .before .if1 .left)))
+    (small (a .t1) (sym (stand .before .numbers-stand .ensures) ∙ not-false _ (stand .if1 .left)))
     (answered judged) (c .before .before .before .if8 .taken) (c .before .before .if9 .taken))
 
 returns-3 : tie.Need-returns-3 Inv-loop μ-loop
