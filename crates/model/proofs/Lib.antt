@@ -2,6 +2,7 @@ pub mod Lists
 pub mod Tests
 pub mod Locations
 pub mod Soundness
+pub mod OwnLimits
 pub mod Given
 pub mod Folds
 pub mod Rows

@@ -9,7 +9,7 @@ use lib.ListN.{getD}
 use borrow.Author.Tests.{leb-true, leb-false}
 use Rattle.model.specs.declared.Process.{Process}
 use Rattle.model.specs.declared.State.{State}
-use Rattle.model.specs.States.{lastTime, idle, sinceOf, entrySound, entriesSound, soundOf}
+use Rattle.model.specs.States.{lastTime, idle, sinceOf, entrySound, entriesSound, limitsStand, soundOf}
 use Rattle.model.proofs.Tests.{by-test, and-true-iff, tests}
 use Rattle.model.proofs.Locations.{stage-location}
 
@@ -19,7 +19,7 @@ pub record SoundNumbers (s : State) : Type 0 where
   pub clock : s .clock ≤ lastTime
 
 pub sound-numbers : (s : State) → soundOf s ≡ true → SoundNumbers s
-unfolding soundOf
+unfolding soundOf limitsStand
 sound-numbers s e = omega (arith, simp tests at e)
 
 -- an entry that may stand came at no time after the clock

@@ -153,7 +153,7 @@ blank = initial noParameters
 
 -- [4.90] [4.11] [4.12] what a call for a fresh state of either engine judges
 abbrev pub freshBy : {A : Type 0} → Parameters → (ℕ → A) → A → A
-freshBy k refuses accepted = cond (not (countStands k)) (refuses 11) (cond (not (limitsStand k)) (refuses 12) accepted)
+freshBy k refuses accepted = cond (not (countStands (k .n))) (refuses 11) (cond (not (limitsStand k)) (refuses 12) accepted)
 
 -- [2.65] [4.90] [4.100] [4.70]
 unfoldable pub freshOf : Parameters → Outcome

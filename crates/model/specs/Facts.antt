@@ -1,9 +1,10 @@
 -- The terms of the specification as plain facts about a state: what the theorems speak in. But for where a state comes from they use
 -- none of the tests that the step is defined by, so that the theorems check those from a second side. Assumes nothing.
-use Prim.Native.Nat.{ℕ, _+_, _≤_}
+use Prim.Native.Nat.{ℕ, _+_, _-_, _≤_}
 use mathlib.Core.Path.{_≡_}
 use mathlib.Core.Logic.{_≢_}
 use mathlib.Core.Bool.{true}
+use lib.ListN.{getD}
 use Rattle.model.specs.declared.Location.{Location}
 use Rattle.model.specs.declared.Location.the-variants.{Testing, Setting, Checking, Entering, Critical, Resetting, Leaving}
 use Rattle.model.specs.declared.Parameters.{Parameters}
@@ -62,7 +63,7 @@ pub data Deadline (a c : ℕ) : Location → ℕ → Type 0 where
   resetting : {t : ℕ} → Deadline a c (Resetting t) (t + a)
   leaving : {t : ℕ} → Deadline a c (Leaving t) (t + a)
 
--- [2.90] process i, from 1, has the deadline d; the two limits are named here, and not by what the step asks for them
+-- [2.90] process i, from 1, has the deadline d; the two limits are named here, its own a by its place, and not by what the step asks for them
 pub record HasDeadline (s : State) (i d : ℕ) : Type 0 where
   pub from : 1 ≤ i
-  pub is : Deadline (s .parameters .a) (s .parameters .c) (entryOf s i .location) d
+  pub is : Deadline (getD (s .parameters .a) (i - 1) 0) (s .parameters .c) (entryOf s i .location) d

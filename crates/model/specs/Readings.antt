@@ -4,19 +4,21 @@ use Prim.Native.Nat.{ℕ, zero, suc, _+_, _-_, _*_, min}
 use mathlib.Core.Bool.{Bool, true, false, cond, not, _&&_, _||_}
 use mathlib.Core.List.{List, [], _∷_, _++_, map}
 use lib.Dec.{leb, ltb, eqb}
-use lib.ListN.{length, drop, set, replicate}
+use lib.ListN.{length, getD, drop, set, replicate}
 use denote.Ref.{RefT, now}
 use Rattle.model.specs.declared.Field.{Field}
 use Rattle.model.specs.declared.Field.the-variants.{Value, Bad}
 use Rattle.model.specs.declared.Row.{Row}
 use Rattle.model.specs.declared.Row.the-variants.{Step, Unread}
 use Rattle.model.specs.declared.Line.{Line}
+use Rattle.model.specs.declared.Limits.{Limits}
 use Rattle.model.specs.declared.Scan.{Scan}
 use Rattle.model.specs.declared.Parameters.{Parameters}
 use Rattle.model.specs.declared.Reading.{Reading}
-use Rattle.model.specs.States.{parametersIn, noParameters, countStands, limitsStand}
+use Rattle.model.specs.States.{parametersOf, noParameters, countStands, limitsStand}
 use Rattle.model.specs.Answers.{answerOf}
-use Rattle.model.specs.Texts.{comma, newline, timeBound, numberBound, words, Event, event, valueNames, eventNames, firstLine, textLimit}
+use Rattle.model.specs.Texts.{comma, newline, timeBound, numberBound, words, Event, event, valueNames, limitNames, eventNames, textLimit}
+use Rattle.model.specs.Texts.{formerNames, formerParameters}
 
 -- Fields
 
@@ -83,6 +85,32 @@ numbersFrom line (suc more) i at got s =
 abbrev pub numbersAt : ℕ → ℕ → List ℕ → Line
 numbersAt line more s = numbersFrom line more 0 0 (replicate 4 0) s
 
+-- The lines of a
+
+-- [6.34] [4.14] the line of process i, which has the number i + 3: that number and the a; another number in the place of i fails it
+abbrev pub ordered : ℕ → Line → Line
+ordered i l = cond (eqb (l .code) 0 && not (eqb (getD (l .numbers) 0 0) i)) (lineFails (i + 3)) l
+
+-- [6.34] [6.80] at the start of a text
+abbrev pub limitLine : ℕ → List ℕ → Line
+limitLine i s = ordered i (numbersAt (i + 3) 1 s)
+
+-- helper: lines of a that were read
+abbrev pub limitsOf : List ℕ → ℕ → Limits
+limitsOf a size = record { code = 0; line = 0; a = a; size = size }
+
+-- [4.14] [6.34] a line of them is refused
+abbrev pub limitsFail : ℕ → ℕ → Limits
+limitsFail code line = record { code = code; line = line; a = replicate 96 0; size = 0 }
+
+-- [6.34] [6.100] `more` lines from that of process i on, after `at` bytes of such lines; `a` has the values before
+unfoldable pub limitsFrom : ℕ → ℕ → ℕ → List ℕ → List ℕ → Limits
+limitsFrom zero i at a s = limitsOf a at
+limitsFrom (suc more) i at a s =
+    cond (eqb (limitLine i s .code) 0)
+    (limitsFrom more (i + 1) (at + limitLine i s .size) (set a (i - 1) (getD (limitLine i s .numbers) 1 0)) (drop (limitLine i s .size) s))
+    (limitsFail (limitLine i s .code) (limitLine i s .line))
+
 -- Whole texts
 
 -- helper: what was found of a text, its parameters and the line of its first step; `size` is in bytes or in steps
@@ -93,26 +121,51 @@ scanOf line k size = record { code = 0; line = line; parameters = k; size = size
 abbrev pub scanFails : ℕ → ℕ → Scan
 scanFails code line = record { code = code; line = line; parameters = noParameters; size = 0 }
 
--- [6.90] [6.100] [6.15] [6.40] [4.11] [4.12] [4.13] [7.35] the parameters of line 2, 11 and 12, and then line 3, which stands after
--- the `size` bytes of line 2
-abbrev pub afterValues : List ℕ → ℕ → Parameters → Scan
-afterValues text size k =
-    cond (not (countStands k)) (scanFails 11 2)
-    (cond (not (limitsStand k)) (scanFails 12 2)
-    (cond (not (startsWith eventNames (drop (length valueNames + size) text))) (scanFails 13 3)
-    (scanOf (firstLine k) k (length valueNames + size + length eventNames))))
+-- [6.90] [6.100] [6.15] [6.40] [4.13] the names of the steps, which stand on this line after `at` bytes: the last of the first lines, in both shapes
+abbrev pub afterLimits : List ℕ → ℕ → ℕ → Parameters → Scan
+afterLimits text at line k =
+    cond (not (startsWith eventNames (drop at text))) (scanFails 13 line) (scanOf (line + 1) k (at + length eventNames))
 
--- [6.90] [6.100] [6.120] [4.14] line 2 as it was read
+-- [6.36] [6.90] [4.12] [7.35] the limits are judged once all are read, at the line of the last of them
+abbrev pub judgeLimits : List ℕ → ℕ → ℕ → Parameters → Scan
+judgeLimits text at line k = cond (not (limitsStand k)) (scanFails 12 line) (afterLimits text at (line + 1) k)
+
+-- [6.34] [6.90] the lines of a as they were read, after `at` bytes
+abbrev pub ofLimits : List ℕ → ℕ → ℕ → ℕ → ℕ → Limits → Scan
+ofLimits text at n b c l =
+    cond (not (eqb (l .code) 0)) (scanFails (l .code) (l .line)) (judgeLimits text (at + l .size) (n + 3) (parametersOf n b c (l .a)))
+
+-- [6.32] [6.90] [6.100] [6.15] [4.11] [4.13] [7.35] n, and then line 3, which stands after `at` bytes
+abbrev pub afterValues : List ℕ → ℕ → ℕ → ℕ → ℕ → Scan
+afterValues text at n b c =
+    cond (not (countStands n)) (scanFails 11 2)
+    (cond (not (startsWith limitNames (drop at text))) (scanFails 13 3)
+    (ofLimits text (at + length limitNames) n b c (limitsFrom n 1 0 (replicate 96 0) (drop (at + length limitNames) text))))
+
+-- [6.30] [6.90] [6.100] [6.120] [4.14] line 2 as it was read
 abbrev pub ofValues : List ℕ → Line → Scan
-ofValues text l = cond (not (eqb (l .code) 0)) (scanFails (l .code) (l .line)) (afterValues text (l .size) (parametersIn (l .numbers)))
+ofValues text l =
+    cond (not (eqb (l .code) 0)) (scanFails (l .code) (l .line))
+    (afterValues text (length valueNames + l .size) (getD (l .numbers) 0 0) (getD (l .numbers) 1 0) (getD (l .numbers) 2 0))
 
--- [6.90] [6.100] [6.15] [6.20] [4.13] [4.15] [7.35] the parameters, the line of the first step, and how many bytes the first lines
--- take; or the first refusal
+-- [6.45] [6.90] [4.11] [4.12] [7.35] the former shape: n and the limits of line 2, and then line 3
+abbrev pub afterFormer : List ℕ → ℕ → ℕ → ℕ → ℕ → ℕ → Scan
+afterFormer text at n a b c = cond (not (countStands n)) (scanFails 11 2) (judgeLimits text at 2 (formerParameters n a b c))
+
+-- [6.45] [6.90] [6.100] [6.120] [4.14] line 2 of the former shape as it was read
+abbrev pub ofFormer : List ℕ → Line → Scan
+ofFormer text l =
+    cond (not (eqb (l .code) 0)) (scanFails (l .code) (l .line))
+    (afterFormer text (length formerNames + l .size) (getD (l .numbers) 0 0) (getD (l .numbers) 1 0) (getD (l .numbers) 2 0) (getD (l .numbers) 3 0))
+
+-- [6.20] [6.45] [6.90] [6.100] [6.15] [4.13] [4.15] [7.35] the parameters, the line of the first step, and how many bytes the first lines
+-- take; or the first refusal. Line 1 tells the two shapes apart
 unfoldable pub headOf : List ℕ → Scan
 headOf text =
     cond (ltb textLimit (length text)) (scanFails 15 0)
-    (cond (not (startsWith valueNames text)) (scanFails 13 1)
-    (ofValues text (numbersAt 2 3 (drop (length valueNames) text))))
+    (cond (startsWith valueNames text) (ofValues text (numbersAt 2 2 (drop (length valueNames) text)))
+    (cond (startsWith formerNames text) (ofFormer text (numbersAt 2 3 (drop (length formerNames) text)))
+    (scanFails 13 1)))
 
 -- [6.50] the steps up to the end of a text or to its first line that is no step; `fault` is the number of that line, or 0
 pub record Body : Type 0 where

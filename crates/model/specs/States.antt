@@ -1,9 +1,9 @@
 -- Section 2 of the specification: which numbers stand, the locations and their times, the fresh state and the sound ones.
 -- Assumes nothing.
-use Prim.Native.Nat.{ℕ, _+_, _-_}
+use Prim.Native.Nat.{ℕ, _+_, _-_, max}
 use mathlib.Core.Bool.{Bool, true, false, cond, not, _&&_}
-use mathlib.Core.List.{List, [], _∷_}
-use lib.ListN.{getD, replicate}
+use mathlib.Core.List.{List, [], _∷_, _++_}
+use lib.ListN.{length, getD, take, replicate}
 use lib.Dec.{leb, ltb, eqb}
 use Rattle.model.specs.declared.Location.{Location}
 use Rattle.model.specs.declared.Location.the-variants.{Remainder, Testing, Setting, Checking, Entering, Critical, Resetting, Leaving}
@@ -14,29 +14,51 @@ use Rattle.model.specs.Stages.{remainder, testing, setting, checking, en
 
 -- Parameters
 
--- [2.10] of the numbers
-abbrev pub parametersOf : ℕ → ℕ → ℕ → ℕ → Parameters
-parametersOf n a b c = record { n = n; a = a; b = b; c = c }
+-- [2.10] of the numbers, and of the values of a from process 1 on
+abbrev pub parametersOf : ℕ → ℕ → ℕ → List ℕ → Parameters
+parametersOf n b c a = record { n = n; b = b; c = c; a = a }
 
--- [6.30] of a list that starts with n, a, b and c
-abbrev pub parametersIn : List ℕ → Parameters
-parametersIn l = parametersOf (getD l 0 0) (getD l 1 0) (getD l 2 0) (getD l 3 0)
+-- [9.45] 96 values of a, of a list that may have fewer, and then 0 stands for the others, or more
+unfoldable pub limitsIn : List ℕ → List ℕ
+limitsIn l = take 96 l ++ replicate (96 - length l) 0
+
+-- [6.45] the same a for each of the processes
+abbrev pub equalLimits : ℕ → ℕ → List ℕ
+equalLimits n a = limitsIn (replicate n a)
 
 -- [4.100] [6.140] all of them 0, where there are none
 abbrev pub noParameters : Parameters
-noParameters = parametersOf 0 0 0 0
+noParameters = parametersOf 0 0 0 (replicate 96 0)
 
 -- [2.20]
-abbrev pub countStands : Parameters → Bool
-countStands k = leb 1 (k .n) && leb (k .n) 96
+abbrev pub countStands : ℕ → Bool
+countStands n = leb 1 n && leb n 96
 
--- [2.30]
-abbrev pub limitsStand : Parameters → Bool
-limitsStand k = leb 1 (k .a) && ltb (k .a) (k .b) && leb (k .b) (k .c) && leb (k .c) 10_000_000
+-- [2.30] [2.32] the a of process i: that of a process from 1 to n is below b and not 0, and any other is 0
+abbrev pub limitStands : ℕ → ℕ → ℕ → ℕ → Bool
+limitStands n b i a = cond (leb i n) (leb 1 a && ltb a b) (eqb a 0)
+
+-- [2.30] [2.32] the values of a from process i on
+unfoldable pub ownStand : ℕ → ℕ → ℕ → List ℕ → Bool
+ownStand n b i [] = true
+ownStand n b i (x ∷ a) = limitStands n b i x && ownStand n b (i + 1) a
+
+-- [2.10] [2.30] [2.32] there are 96 values of a, as the type of the code has it
+unfoldable pub limitsStand : Parameters → Bool
+limitsStand k = eqb (length (k .a)) 96 && ownStand (k .n) (k .b) 1 (k .a) && leb (k .b) (k .c) && leb (k .c) 10_000_000
 
 -- [2.20] [2.30] both
 abbrev pub parametersStand : Parameters → Bool
-parametersStand k = countStands k && limitsStand k
+parametersStand k = countStands (k .n) && limitsStand k
+
+-- [2.92] the largest of a list, 0 where there is none
+unfoldable pub greatest : List ℕ → ℕ
+greatest [] = 0
+greatest (x ∷ xs) = max x (greatest xs)
+
+-- [2.92] the largest a, of the processes from 1 to n
+abbrev pub largestLimit : Parameters → ℕ
+largestLimit k = greatest (take (k .n) (k .a))
 
 -- Numbers
 
@@ -101,9 +123,13 @@ sinceOf (Leaving t) = t
 
 -- Times: process i has the entry q
 
--- [2.90] the bound a of process i
-unfoldable pub limitIn : Parameters → ℕ → ℕ
-limitIn k i = k .a
+-- [2.90] the a of process i in a list of them
+unfoldable pub limitAt : List ℕ → ℕ → ℕ
+limitAt a i = getD a (i - 1) 0
+
+-- [2.90] in parameters
+abbrev pub limitIn : Parameters → ℕ → ℕ
+limitIn k i = limitAt (k .a) i
 
 -- [2.90] in a state
 abbrev pub limitOf : State → ℕ → ℕ

@@ -6,8 +6,9 @@ use Prim.Native.String.{String, [] as nothing, _∷_ as _then_}
 use mathlib.Core.Bool.{Bool, true, false, _&&_}
 use mathlib.Core.List.{List, [], _∷_, _++_}
 use lib.Dec.{ltb}
-use lib.ListN.{length, getD}
+use lib.ListN.{length, getD, take}
 use Rattle.model.specs.declared.Parameters.{Parameters}
+use Rattle.model.specs.States.{parametersOf, equalLimits}
 
 -- [6.10] the bytes of a quoted text, in ASCII
 abbrev pub bytes : String → List ℕ
@@ -76,11 +77,20 @@ numbersText v (w ∷ ws) = numberText comma v ++ numbersText w ws
 
 -- [6.20]
 abbrev pub valueNames : List ℕ
-valueNames = bytes "windows,a,b,c\n"
+valueNames = bytes "windows,b,c\n"
 
 -- [6.30]
-unfoldable pub valuesText : Parameters → List ℕ
-valuesText k = numbersText (k .n) (k .a ∷ k .b ∷ k .c ∷ [])
+unfoldable pub valuesText : ℕ → ℕ → ℕ → List ℕ
+valuesText n b c = numbersText n (b ∷ c ∷ [])
+
+-- [6.32]
+abbrev pub limitNames : List ℕ
+limitNames = bytes "window,a\n"
+
+-- [6.34] a line for each of these values of a, the first of them of process i
+unfoldable pub limitsText : ℕ → List ℕ → List ℕ
+limitsText i [] = []
+limitsText i (x ∷ a) = numbersText i (x ∷ []) ++ limitsText (i + 1) a
 
 -- [6.40]
 abbrev pub eventNames : List ℕ
@@ -92,13 +102,13 @@ eventText e = numberText comma (e .time) ++ (numberText comma (e .process) ++ wo
 
 -- Whole texts
 
--- [6.20] [6.30] [6.40] the first lines
+-- [6.20] [6.30] [6.32] [6.34] [6.40] the first lines
 unfoldable pub headText : Parameters → List ℕ
-headText k = valueNames ++ (valuesText k ++ eventNames)
+headText k = valueNames ++ (valuesText (k .n) (k .b) (k .c) ++ (limitNames ++ (limitsText 1 (take (k .n) (k .a)) ++ eventNames)))
 
 -- [6.50] the line of the first step, after the first lines
 unfoldable pub firstLine : Parameters → ℕ
-firstLine k = 4
+firstLine k = k .n + 5
 
 -- [6.50] the lines of the steps
 unfoldable pub eventsText : List Event → List ℕ
@@ -108,6 +118,28 @@ eventsText (e ∷ es) = eventText e ++ eventsText es
 -- [6.153] the text of a trace
 abbrev pub traceText : Parameters → List Event → List ℕ
 traceText k events = headText k ++ eventsText events
+
+-- The former shape, which is read and no longer written
+
+-- [6.45] its first line
+abbrev pub formerNames : List ℕ
+formerNames = bytes "windows,a,b,c\n"
+
+-- [6.45] what n, a, b and c of its second line are
+abbrev pub formerParameters : ℕ → ℕ → ℕ → ℕ → Parameters
+formerParameters n a b c = parametersOf n b c (equalLimits n a)
+
+-- [6.45] the second line
+unfoldable pub formerValuesText : ℕ → ℕ → ℕ → ℕ → List ℕ
+formerValuesText n a b c = numbersText n (a ∷ b ∷ c ∷ [])
+
+-- [6.45] the first lines
+unfoldable pub formerHeadText : ℕ → ℕ → ℕ → ℕ → List ℕ
+formerHeadText n a b c = formerNames ++ (formerValuesText n a b c ++ eventNames)
+
+-- [6.45] the line of the first step
+abbrev pub formerFirstLine : ℕ
+formerFirstLine = 4
 
 -- [4.15] the most bytes of a text
 abbrev pub textLimit : ℕ

@@ -57,7 +57,7 @@ fitted text out = cond (ltb (length out) (length text)) (unwritten 16 0 out) (wr
 -- [6.170] [6.153] [6.180] [4.11] [4.12] [4.14] [4.15] one condition a line
 unfoldable pub writeOf : Parameters → List Event → List ℕ → Written
 writeOf k events out =
-    cond (not (countStands k)) (unwritten 11 0 out)
+    cond (not (countStands (k .n))) (unwritten 11 0 out)
     (cond (not (limitsStand k)) (unwritten 12 0 out)
     (cond (not (eqb (formlessFrom (firstLine k) events) 0)) (unwritten 14 (formlessFrom (firstLine k) events) out)
     (cond (ltb textLimit (length (traceText k events))) (unwritten 15 0 out)

@@ -18,15 +18,15 @@ pub struct Process {
     pub location: Location,
 }
 
-// [2.10] What a lock is made with and keeps. Its fields lie as in C, as those of an `Answer` and of a `Reading` do, for `funnelfawn`.
-#[repr(C)]
+// [2.10] What a lock is made with and keeps.
 pub struct Parameters {
     // how many of the entries are processes
     pub n: u64,
-    // the limits: a step takes at most a, but a check at least b and at most c
-    pub a: u64,
+    // the limits of a check: it takes at least b and at most c
     pub b: u64,
     pub c: u64,
+    // how long any other step of a process takes at most: process p, from 1, has the place p - 1
+    pub a: [u64; 96],
 }
 
 // [2.10] [21.50] Process p, from 1, has the entry at place p - 1.
@@ -46,7 +46,7 @@ pub struct Transition {
     pub word: u64,
 }
 
-// [4.50] An answer.
+// [4.50] An answer. Its fields lie as in C, for `funnelfawn`.
 #[repr(C)]
 pub struct Answer {
     pub code: u64,
@@ -81,9 +81,18 @@ pub struct Line {
     pub size: usize,
 }
 
+// [6.34] The lines of a: the values as parameters have them, and how many bytes the lines take; or a refusal's code, which is not 0, and
+// line.
+pub struct Limits {
+    pub code: u64,
+    pub line: u64,
+    pub a: [u64; 96],
+    pub size: usize,
+}
+
 // [6.145] What is found of a text: its parameters, the line of its first step, and a size, that of the first lines in
 // bytes or that of all in steps; or a refusal's code, which is not 0, and the line that it is reported at. It is no enum, which could not
-// hold an array: parameters may come to hold one.
+// hold the array of the parameters.
 pub struct Scan {
     pub code: u64,
     pub line: u64,
@@ -92,7 +101,6 @@ pub struct Scan {
 }
 
 // [6.130] [6.140] What a reading answers; the parameters are 0 where it is refused.
-#[repr(C)]
 pub struct Reading {
     pub answer: Answer,
     pub parameters: Parameters,
