@@ -37,43 +37,54 @@ extern "C" {
  * versions are found out before a list is lent. Of numbers that were stored by another program or on another day it says nothing, unless
  * the layout is stored with them.
  *
+ * Layout 3 gives each window an a of its own. A table and a deadline table begin with n, b, c, the clock, the word and 96 values of a, where
+ * those of layout 2 began with n, a, b, c, the clock and the word; so they have 95 numbers more, 293 and 389 for 198 and 294. Their entries,
+ * summaries, boards, acts and answers are as they were, and recordings that were stored can be read.
+ *   A table of either kind that was stored with layout 2 must not be lent as it is: in a list that is long enough its numbers may well be
+ *   sound, as those of quite another table, so that no call refuses them, and only the layout stored beside them tells. To use it on, lay it
+ *   out anew: n, b, c, the clock, the word; n times its a, and zeros up to 96 values; and then its entries, as they are. It is the same lock
+ *   then, with the same latest moments.
+ *   A program for layout 2 has to change its calls of funnelfawn_fresh, funnelfawn_fresh_deadlines, funnelfawn_read and funnelfawn_write,
+ *   which take other arguments: its compiler names them. It names neither a place that is looked up by a bare number nor FUNNELFAWN_AT_A,
+ *   where the a of window 1 stands now.
+ *
  * Layout 2 has the lengths of layout 1; only waits differ. FUNNELFAWN_AT_TRIES is gone: from FUNNELFAWN_AT_WAITED, the same place, on stands
  * what each window has waited where its try moment stood; and the longest wait and a board's waits count unused time alone. So a summary
- * that an older program kept must not be lent to this archive: its numbers may well be sound, so that no call refuses them, and only the
+ * that was stored with layout 1 must not be lent to this archive: its numbers may well be sound, so that no call refuses them, and only the
  * layout stored beside them tells. Start it anew, and a board too; beside a table in use, a new summary counts the waits of those who are
- * in the line already from there on only. Tables, acts, answers and calls are as they were: a stored table can be used on. */
-enum { FUNNELFAWN_LAYOUT = 2 };
+ * in the line already from there on only. */
+enum { FUNNELFAWN_LAYOUT = 3 };
 
 uint64_t funnelfawn_layout(void);
 
 /* Tables: [9.10], and section 2 of the specification
  *
- * A table of windows is lent as FUNNELFAWN_TABLE_LENGTH numbers: n, a, b, c, the clock, the shared word (0, or a window), and then for
- * each of the 96 windows its place and its arrival, the moment at which it came there. Window w, from 1, has its place at
- * FUNNELFAWN_HEADER_LENGTH + FUNNELFAWN_STRIDE * (w - 1), and its arrival after it. Timed places are all but remainder and selling; these
- * two have no arrival, and 0 stands for it.
+ * A table of windows is lent as FUNNELFAWN_TABLE_LENGTH numbers: n, b, c, the clock, the shared word (0, or a window); the 96 values of a;
+ * and then for each of the 96 windows its place and its arrival, the moment at which it came there. Window w, from 1, has its a at
+ * FUNNELFAWN_AT_A + w - 1, its place at FUNNELFAWN_HEADER_LENGTH + FUNNELFAWN_STRIDE * (w - 1), and its arrival after that. Timed places are
+ * all but remainder and selling; these two have no arrival, and 0 stands for it.
  *
- * The latest moment of a window is its arrival + c in checking and + a in the other timed places; the earliest moment of a check is its
- * arrival + b. A table is sound when n is 1 to 96, 1 <= a < b <= c <= 10,000,000, the clock is in range, the word is at most n, all
- * windows past n are in remainder, and every window in a timed place has its arrival <= the clock <= its latest moment [2.120]. A place
- * above 7, or an arrival other than 0 in remainder or selling, tells no table, and is refused as one that is not sound [9.20].
+ * The a of a window is the time that its till has for a step, and each may have another; b and c are for all. The latest moment of a window
+ * is its arrival + c in checking and + its own a in the other timed places; the earliest moment of a check is its arrival + b. A table is
+ * sound when n is 1 to 96, 1 <= a < b <= c <= 10,000,000 for the a of each window up to n, the values of a above n are 0, the clock is in
+ * range, the word is at most n, all windows above n are in remainder, and every window in a timed place has its arrival <= the clock <= its
+ * latest moment [2.120]. A place above 7, or an arrival other than 0 in remainder or selling, tells no table, and is refused as one that is
+ * not sound [9.20].
  *
  * Each call judges the numbers anew, so damage that makes a table unsound is found. An older copy of a table is not found, nor one with
  * two sellers: the lock holds for a table that came from funnelfawn_fresh and was handed on as each call left it, in one copy [9.170]. */
-enum {
-    FUNNELFAWN_WINDOWS = 96,
-    FUNNELFAWN_HEADER_LENGTH = 6,
-    FUNNELFAWN_STRIDE = 2,
-    FUNNELFAWN_TABLE_LENGTH = FUNNELFAWN_HEADER_LENGTH + FUNNELFAWN_STRIDE * FUNNELFAWN_WINDOWS
-};
+enum { FUNNELFAWN_WINDOWS = 96 };
 
 enum {
     FUNNELFAWN_AT_N,
-    FUNNELFAWN_AT_A,
     FUNNELFAWN_AT_B,
     FUNNELFAWN_AT_C,
     FUNNELFAWN_AT_CLOCK,
-    FUNNELFAWN_AT_WORD
+    FUNNELFAWN_AT_WORD,
+    FUNNELFAWN_AT_A,
+    FUNNELFAWN_HEADER_LENGTH = FUNNELFAWN_AT_A + FUNNELFAWN_WINDOWS, /* the numbers before the entries */
+    FUNNELFAWN_STRIDE = 2,
+    FUNNELFAWN_TABLE_LENGTH = FUNNELFAWN_HEADER_LENGTH + FUNNELFAWN_STRIDE * FUNNELFAWN_WINDOWS
 };
 
 enum funnelfawn_place {
@@ -91,9 +102,9 @@ enum funnelfawn_place {
  *
  * The second engine writes deadlines out. Its tables hold in place of an arrival the first and the last moment at which a window may act: in
  * a timed place the last is its latest moment, and the first its earliest, which is the arrival itself but for checking. They are lent as
- * FUNNELFAWN_DEADLINES_LENGTH numbers: the six that a table begins with, and then for each of the 96 windows its place, its first and its
- * last moment; remainder and selling have neither, and 0 stands for both [12.110]; another number there, or a place above 7, tells no deadline
- * table [12.115]. Window w, from 1, has its place at FUNNELFAWN_HEADER_LENGTH + FUNNELFAWN_DEADLINES_STRIDE * (w - 1).
+ * FUNNELFAWN_DEADLINES_LENGTH numbers: the FUNNELFAWN_HEADER_LENGTH that a table begins with, and then for each of the 96 windows its place,
+ * its first and its last moment; remainder and selling have neither, and 0 stands for both [12.110]; another number there, or a place above 7,
+ * tells no deadline table [12.115]. Window w, from 1, has its place at FUNNELFAWN_HEADER_LENGTH + FUNNELFAWN_DEADLINES_STRIDE * (w - 1).
  *
  * A table and a deadline table match if all else is equal and each window's two moments are its earliest and its latest [12.20]. A deadline
  * table is sound exactly if some sound table matches it; any other is refused with 1: first and last moments of different arrivals, of an
@@ -118,7 +129,7 @@ enum {
  * withdraw ends no wait.
  *
  * A summary is sound when neither accepted + refused nor the longest wait exceeds 1,000,000,000,000, entries + exits <= accepted, and none
- * of the 96 numbers from FUNNELFAWN_AT_WAITED on exceeds the table's clock, those of windows past n among them [5.40]. No more is asked of
+ * of the 96 numbers from FUNNELFAWN_AT_WAITED on exceeds the table's clock, those of windows above n among them [5.40]. No more is asked of
  * these: that of a window which is not trying need not be 0. */
 enum {
     FUNNELFAWN_AT_ACCEPTED,
@@ -161,9 +172,10 @@ enum {
  * table is as it was but for its clock [9.135].
  *
  * A window is trying while it is testing, setting, checking or entering. From any point after funnelfawn_fresh at which some window is
- * trying and nobody sells, the clock moves on by at most 2c + 5a until a window is let in, as long as some window that was trying at that
- * point has not withdrawn since [8.78] [8.80]. Once all of them have, the clock may run on. Nobody sells until then, so all of it is
- * unused time. For the wait of one window no bound is promised, as others may be let in before it [8.85]. */
+ * trying and nobody sells, the clock moves on by at most 2c + 5a, with the largest a of the windows up to n [2.92], until a window is let in,
+ * as long as some window that was trying at that point has not withdrawn since [8.78] [8.80]. It is the largest whoever tries: one old till
+ * makes the bound longer for all. Once all of them have withdrawn, the clock may run on. Nobody sells until then, so all of it is unused
+ * time. For the wait of one window no bound is promised, as others may be let in before it [8.85]. */
 enum funnelfawn_act {
     FUNNELFAWN_ACT_WAIT,    /* none (the window is 0): nothing but the clock changes */
     FUNNELFAWN_ACT_TRY,     /* remainder: to testing */
@@ -202,22 +214,28 @@ enum funnelfawn_number {
     FUNNELFAWN_REFUSED_OUT_OF_PLACE = 9,  /* the window is not in the place that the act leaves: the window, 0 */
     FUNNELFAWN_REFUSED_EARLY = 10,        /* a check comes before the window's earliest moment: the window, that moment */
     FUNNELFAWN_REFUSED_WINDOW_COUNT = 11, /* n is outside 1 to 96; from funnelfawn_spans: 0, its line, which is 2 */
-    FUNNELFAWN_REFUSED_LIMITS = 12,       /* a, b, c break 1 <= a < b <= c <= 10,000,000; from funnelfawn_spans: 0, its line, which is 2 */
-    FUNNELFAWN_REFUSED_NAMES = 13,        /* line 1 or line 3 is not the line of names due there, or is absent: 0, its line */
-    FUNNELFAWN_REFUSED_LINE = 14,         /* line 2 lacks its form or is absent, or a step lacks its form; writing: a step has no form:
-                                             0, its line */
+    FUNNELFAWN_REFUSED_LIMITS = 12,       /* b, c or the a of a window up to n break 1 <= a < b <= c <= 10,000,000, or an a above n is not 0;
+                                             from funnelfawn_spans: 0, the last line of a, which is 3 + n; in the former shape 2 */
+    FUNNELFAWN_REFUSED_NAMES = 13,        /* a line of names is not the one due there, or is absent: 0, its line */
+    FUNNELFAWN_REFUSED_LINE = 14,         /* line 2 or a line of a lacks its form or is absent, a line of a has another window than is due
+                                             there, or a step lacks its form; writing: a step has no form: 0, its line */
     FUNNELFAWN_REFUSED_LENGTH = 15,       /* the text is longer than 65,536 bytes */
     FUNNELFAWN_REFUSED_SHORT_OUTPUT = 16, /* a list that is only an output is too short */
     FUNNELFAWN_REFUSED_WIDTH = 17,        /* the W of a board is outside 1 to 1,000,000,000 */
     FUNNELFAWN_REFUSED_BOARD_FULL = 18    /* FUNNELFAWN_BOARD_PLACES entries of the board still count */
 };
 
-/* [9.50] A fresh table of n windows with the limits a, b, c: all in remainder, clock 0, word 0.
+/* [9.50] A fresh table of n windows with the limits b and c and an a for each of them: all in remainder, clock 0, word 0.
+ *   The list `a` has the values of a from window 1 on [9.45]: n of them are enough. Where it has fewer numbers than FUNNELFAWN_WINDOWS, 0 stands
+ *   for the others, and what comes after so many is not looked at. So fewer than n give 12, and so does a number above n that is not 0.
+ *   Tills of one age have the same number n times. The values of another table are such a list too, at FUNNELFAWN_AT_A; but those of the very
+ *   list that is to take the fresh table overlap with it, and have to be copied first.
  *   0, 0, 0 with the table's numbers in `table`; or 11, 12, or, last, 16.
  *   Look at the answer before stepping on the list. Refused, it is as it was: one that held an older table holds that table still, sound
  *   if it was sound, and steps go on from there. (Within Rattle it is otherwise: a `fresh` that is refused gives back a table that is not
  *   sound, on which every step is refused.) */
-struct funnelfawn_answer funnelfawn_fresh(uint64_t n, uint64_t a, uint64_t b, uint64_t c, uint64_t *table, size_t table_length);
+struct funnelfawn_answer funnelfawn_fresh(uint64_t n, uint64_t b, uint64_t c, const uint64_t *FUNNELFAWN_RESTRICT a, size_t a_length,
+                                          uint64_t *FUNNELFAWN_RESTRICT table, size_t table_length);
 
 /* [9.60] One act of a window at a moment, the clock from then on.
  *   0, the lowest of the windows that are selling after it (0 if none is; from a fresh table on there is at most one), and the clock, with
@@ -276,9 +294,10 @@ struct funnelfawn_told funnelfawn_record_and_tell(uint64_t *FUNNELFAWN_RESTRICT 
                                                   uint64_t *FUNNELFAWN_RESTRICT board, size_t board_length, uint64_t act, uint64_t window,
                                                   uint64_t moment);
 
-/* [12.120] A fresh deadline table, as funnelfawn_fresh makes a table: 0, 0, 0 with its numbers in `deadlines`; or 11, 12, or, last, 16. */
-struct funnelfawn_answer funnelfawn_fresh_deadlines(uint64_t n, uint64_t a, uint64_t b, uint64_t c, uint64_t *deadlines,
-                                                    size_t deadlines_length);
+/* [12.120] A fresh deadline table, as funnelfawn_fresh makes a table, out of the same list of values of a: 0, 0, 0 with its numbers in
+ * `deadlines`; or 11, 12, or, last, 16. */
+struct funnelfawn_answer funnelfawn_fresh_deadlines(uint64_t n, uint64_t b, uint64_t c, const uint64_t *FUNNELFAWN_RESTRICT a,
+                                                    size_t a_length, uint64_t *FUNNELFAWN_RESTRICT deadlines, size_t deadlines_length);
 
 /* [12.130] One act on a deadline table, with the answers of funnelfawn_step. Accepted, it writes the clock, the word and the three numbers of
  * the acting window; refused, nothing. */
@@ -295,31 +314,40 @@ struct funnelfawn_answer funnelfawn_to_arrivals(const uint64_t *FUNNELFAWN_RESTR
                                                 uint64_t *FUNNELFAWN_RESTRICT table, size_t table_length);
 
 /* Recordings, section 6 of the specification: text of at most FUNNELFAWN_MOST_TEXT bytes, of at most FUNNELFAWN_MOST_STEPS steps, and its
- * steps in three lists. The acts are written wait, try, test, set, check, crit, exit, reset, rem, withdraw. */
+ * values of a in a list and its steps in three. The acts are written wait, try, test, set, check, crit, exit, reset, rem, withdraw.
+ *
+ * A recording begins with `windows,b,c`, a line of these values, `window,a`, a line for each window from 1 to n, such as `1,5`, and
+ * `time,window,act`; so its first step is on line 5 + n [6.20] to [6.40]. In the former shape it begins with `windows,a,b,c`, a line of these
+ * values and `time,window,act`, and its first step is on line 4: it is read as n values of a that are equal [6.45]. Line 1 tells which of the
+ * two it is. In the former shape nothing is written any more: a recording that was read comes out of the writing byte by byte if it begins
+ * with `windows,b,c`, and otherwise as one that is read as the same steps with the same values [6.200] [6.202]. That one has n + 1 lines more,
+ * so that of a former recording of nearly FUNNELFAWN_MOST_TEXT bytes the writing may give 15. */
 enum { FUNNELFAWN_MOST_TEXT = 65536, FUNNELFAWN_MOST_STEPS = 8187 };
 
-/* n, a, b, c are 0 where a reading is refused. */
+/* n, b, c are 0 where a reading is refused. */
 struct funnelfawn_reading {
     struct funnelfawn_answer answer;
     uint64_t n;
-    uint64_t a;
     uint64_t b;
     uint64_t c;
 };
 
-/* [9.90] Reads a recording. 0, 0, the count of steps, with the steps in the three lists and n, a, b, c in the reading; or 15, or 13, 14,
- * 11 or 12 for the first fault of the text, or, last, 16 where the shortest list has no room for all steps. */
-struct funnelfawn_reading funnelfawn_read(const uint8_t *FUNNELFAWN_RESTRICT text, size_t text_length,
-                                          uint64_t *FUNNELFAWN_RESTRICT moments, size_t moments_length,
+/* [9.90] Reads a recording. 0, 0, the count of steps, with n, b, c in the reading, the values of a in the first FUNNELFAWN_WINDOWS places of `a`,
+ * which are 0 above n, and the steps in the three lists; or 15, or 13, 14, 11 or 12 for the first fault of the text, or, last, 16 where `a`
+ * has fewer places, whatever n is, or the shortest of the three no room for all steps. With FUNNELFAWN_WINDOWS places in `a` and
+ * FUNNELFAWN_MOST_STEPS in each of the three it is never answered 16. */
+struct funnelfawn_reading funnelfawn_read(const uint8_t *FUNNELFAWN_RESTRICT text, size_t text_length, uint64_t *FUNNELFAWN_RESTRICT a,
+                                          size_t a_length, uint64_t *FUNNELFAWN_RESTRICT moments, size_t moments_length,
                                           uint64_t *FUNNELFAWN_RESTRICT windows, size_t windows_length,
                                           uint64_t *FUNNELFAWN_RESTRICT acts, size_t acts_length);
 
-/* [9.100] Writes a recording of the steps in the three lists, as many as the shortest has. 0, 0, the count of bytes, with the text in
- * `out`; or 11, 12, 14 with the line of the first step without a form (a moment of more than 13 digits, a window of more than 8, no such
- * act), 15, or, last, 16. An `out` of FUNNELFAWN_MOST_TEXT bytes always suffices. */
-struct funnelfawn_answer funnelfawn_write(uint64_t n, uint64_t a, uint64_t b, uint64_t c, const uint64_t *moments, size_t moments_length,
-                                          const uint64_t *windows, size_t windows_length, const uint64_t *acts, size_t acts_length,
-                                          uint8_t *FUNNELFAWN_RESTRICT out, size_t out_length);
+/* [9.100] Writes a recording of the steps in the three lists, as many as the shortest has, with the values of a in the list `a`, which is as
+ * funnelfawn_fresh has it [9.45]; what a reading has put there is such a list. 0, 0, the count of bytes, with the text in `out`; or 11, 12, 14
+ * with the line of the first step without a form (a moment of more than 13 digits, a window of more than 8, no such act), 5 + n being that of
+ * the first step, 15, or, last, 16. An `out` of FUNNELFAWN_MOST_TEXT bytes always suffices. */
+struct funnelfawn_answer funnelfawn_write(uint64_t n, uint64_t b, uint64_t c, const uint64_t *a, size_t a_length, const uint64_t *moments,
+                                          size_t moments_length, const uint64_t *windows, size_t windows_length, const uint64_t *acts,
+                                          size_t acts_length, uint8_t *FUNNELFAWN_RESTRICT out, size_t out_length);
 
 /* [9.110] What the program `replay` prints for a recording, faulty or not. 0, 0, the count of bytes, with the text in `out`; or 16, which
  * never comes where `out` has FUNNELFAWN_MOST_REPORT bytes. */
@@ -333,8 +361,8 @@ struct funnelfawn_answer funnelfawn_replay(const uint8_t *FUNNELFAWN_RESTRICT te
  * moment, and the moment of the next accepted exit of that window, or `-` where the recording has none and the span is still open
  * [11.20] [11.30] [11.45]. No span begins before the one before it has ended, so only the last one can be open [11.85] [11.90].
  *   0, 0, the count of bytes, with the text in `out`, of which the bytes after it stay;
- *   or, for a faulty recording, the number of its first fault, 0, and the line that `replay` prints: with 13 and 14 that of the fault, with
- *   11 and 12 it is 2, where funnelfawn_read has 0, and with 15 it is 0 [11.55];
+ *   or, for a faulty recording, the number of its first fault, 0, and the line that `replay` prints: with 13 and 14 that of the fault; with
+ *   11 line 2 and with 12 the last line of a, 3 + n, or line 2 in the former shape, where funnelfawn_read has 0; and with 15 it is 0 [11.55];
  *   or, last, 16. Refused, `out` is as it was.
  *   The text is never longer than the recording [11.65]: an `out` of text_length bytes always suffices, and so does one of
  *   FUNNELFAWN_MOST_TEXT. With an `out` at least as long as the recording the steps are run once; with a shorter one twice, unless it is

@@ -1,5 +1,5 @@
 /* A small box office: acts come in on standard input as they happen, and out goes what the seat ledger reads.
- * The input starts like a recording (README.md, "Recordings"), with its three lines of head, and then has one act a line, without end.
+ * The input starts like a recording (README.md, "Recordings"), with a head of either shape, and then has one act a line, without end.
  * Exit status: 0; 1 where the head is refused; 2 where the input or the output breaks; 3 where the archive has another layout than the
  * header. */
 #include "funnelfawn.h"
@@ -7,12 +7,14 @@
 #include <inttypes.h>
 #include <stdio.h>
 
-/* The longest head that can be read has 66 bytes, the longest act 32. */
-enum { HEAD_ROOM = 128, LINE_ROOM = 64 };
+/* The longest head of which every line has its form has 1,201 bytes, the longest act 32. */
+enum { HEAD_ROOM = 1280, LINE_ROOM = 64 };
 
 struct office {
     uint8_t text[HEAD_ROOM + LINE_ROOM]; /* the head, and behind it the line that is judged */
     size_t head;
+    uint64_t lines; /* of the head */
+    uint64_t a[FUNNELFAWN_WINDOWS];
     uint64_t table[FUNNELFAWN_TABLE_LENGTH];
     uint64_t summary[FUNNELFAWN_SUMMARY_LENGTH];
     uint64_t selling;
@@ -41,24 +43,40 @@ static size_t cut_line(uint8_t *line, size_t room)
 }
 
 /* The proved reader judges the head and so many bytes behind it, which are one line or none. */
-static struct funnelfawn_reading judge(const struct office *office, size_t length, struct act *act)
+static struct funnelfawn_reading judge(struct office *office, size_t length, struct act *act)
 {
-    return funnelfawn_read(office->text, office->head + length, &act->moment, 1, &act->window, 1, &act->act, 1);
+    return funnelfawn_read(office->text, office->head + length, office->a, FUNNELFAWN_WINDOWS, &act->moment, 1, &act->window, 1, &act->act,
+                           1);
+}
+
+/* The head, line by line: as long as the reader misses the next line and nothing else, that line is fetched. So it is the reader that knows
+ * the shapes, and how many lines a head has. Its last word is given back. */
+static struct funnelfawn_reading fetch_head(struct office *office)
+{
+    struct act none;
+    struct funnelfawn_reading read = judge(office, 0, &none);
+
+    while (read.answer.moment == office->lines + 1) {
+        size_t length = cut_line(office->text + office->head, HEAD_ROOM - office->head);
+
+        if (length == 0)
+            break;
+        office->head += length;
+        office->lines++;
+        read = judge(office, 0, &none);
+    }
+    return read;
 }
 
 /* The table and the summary of a head, or the answer that refuses it. */
 static struct funnelfawn_answer open_office(struct office *office)
 {
-    struct funnelfawn_reading read;
-    struct act none;
+    struct funnelfawn_reading read = fetch_head(office);
 
-    for (int line = 1; line <= 3; line++)
-        office->head += cut_line(office->text + office->head, HEAD_ROOM - office->head);
-    read = judge(office, 0, &none);
     if (read.answer.number != FUNNELFAWN_OK)
         return read.answer;
     funnelfawn_new_summary(office->summary, FUNNELFAWN_SUMMARY_LENGTH);
-    return funnelfawn_fresh(read.n, read.a, read.b, read.c, office->table, FUNNELFAWN_TABLE_LENGTH);
+    return funnelfawn_fresh(read.n, read.b, read.c, office->a, FUNNELFAWN_WINDOWS, office->table, FUNNELFAWN_TABLE_LENGTH);
 }
 
 static void say_refusal(struct funnelfawn_answer answer)
@@ -120,7 +138,7 @@ static void run(struct office *office)
     uint8_t *line = office->text + office->head;
     size_t length;
 
-    for (uint64_t number = 4; (length = cut_line(line, LINE_ROOM)) != 0; number++) {
+    for (uint64_t number = office->lines + 1; (length = cut_line(line, LINE_ROOM)) != 0; number++) {
         struct act act;
         struct funnelfawn_reading read = judge(office, length, &act);
 
@@ -151,8 +169,9 @@ int main(void)
     }
     opened = open_office(&office);
     if (opened.number != FUNNELFAWN_OK) {
-        /* of its refusals 13 and 14 carry their line, and 11 and 12 are about line 2 */
-        fprintf(stderr, "the head is refused (%" PRIu64 "): line %" PRIu64 "\n", opened.number, opened.moment ? opened.moment : 2);
+        /* of its refusals 13 and 14 carry their line, and 11 and 12 came as soon as theirs was fetched */
+        fprintf(stderr, "the head is refused (%" PRIu64 "): line %" PRIu64 "\n", opened.number,
+                opened.moment ? opened.moment : office.lines);
         return 1;
     }
     run(&office);

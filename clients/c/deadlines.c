@@ -57,18 +57,32 @@ static int take(struct box *box, uint64_t line, uint64_t act, uint64_t window, u
     return same(answer, second) && match(box);
 }
 
+/* The line of the first step. In either shape the lines of the steps are the last ones of a recording. */
+static uint64_t first_line(const uint8_t *text, size_t length, uint64_t steps)
+{
+    uint64_t lines = 0;
+
+    for (size_t i = 0; i < length; i++)
+        lines += text[i] == '\n';
+    return lines - steps + 1;
+}
+
 int main(void)
 {
     /* one byte more than a recording may have, so that a longer one is refused and not cut */
     static uint8_t text[FUNNELFAWN_MOST_TEXT + 1];
+    static uint64_t a[FUNNELFAWN_WINDOWS];
     static uint64_t moments[FUNNELFAWN_MOST_STEPS], windows[FUNNELFAWN_MOST_STEPS], acts[FUNNELFAWN_MOST_STEPS];
     static struct box box;
     struct funnelfawn_reading read;
+    size_t length;
+    uint64_t first;
     int agree;
 
     if (funnelfawn_layout() != FUNNELFAWN_LAYOUT)
         return 3;
-    read = funnelfawn_read(text, fread(text, 1, sizeof text, stdin), moments, FUNNELFAWN_MOST_STEPS, windows, FUNNELFAWN_MOST_STEPS, acts,
+    length = fread(text, 1, sizeof text, stdin);
+    read = funnelfawn_read(text, length, a, FUNNELFAWN_WINDOWS, moments, FUNNELFAWN_MOST_STEPS, windows, FUNNELFAWN_MOST_STEPS, acts,
                            FUNNELFAWN_MOST_STEPS);
     if (ferror(stdin))
         return 2;
@@ -76,11 +90,12 @@ int main(void)
         fprintf(stderr, "the recording is refused (%" PRIu64 ")\n", read.answer.number);
         return 1;
     }
-    agree = same(funnelfawn_fresh(read.n, read.a, read.b, read.c, box.table, FUNNELFAWN_TABLE_LENGTH),
-                 funnelfawn_fresh_deadlines(read.n, read.a, read.b, read.c, box.deadlines, FUNNELFAWN_DEADLINES_LENGTH)) &&
+    agree = same(funnelfawn_fresh(read.n, read.b, read.c, a, FUNNELFAWN_WINDOWS, box.table, FUNNELFAWN_TABLE_LENGTH),
+                 funnelfawn_fresh_deadlines(read.n, read.b, read.c, a, FUNNELFAWN_WINDOWS, box.deadlines, FUNNELFAWN_DEADLINES_LENGTH)) &&
             match(&box);
+    first = first_line(text, length, read.answer.moment);
     for (uint64_t i = 0; agree && i < read.answer.moment; i++)
-        agree = take(&box, i + 4, acts[i], windows[i], moments[i]);
+        agree = take(&box, first + i, acts[i], windows[i], moments[i]);
     if (fflush(stdout) != 0 || ferror(stdout))
         return 2;
     return agree ? 0 : 4;

@@ -19,7 +19,9 @@ struct box {
 
 static int open_box(struct box *box)
 {
-    return funnelfawn_fresh(2, 5, 8, 12, box->table, FUNNELFAWN_TABLE_LENGTH).number == FUNNELFAWN_OK &&
+    static const uint64_t a[] = {5, 5};
+
+    return funnelfawn_fresh(2, 8, 12, a, 2, box->table, FUNNELFAWN_TABLE_LENGTH).number == FUNNELFAWN_OK &&
            funnelfawn_new_summary(box->summary, FUNNELFAWN_SUMMARY_LENGTH).number == FUNNELFAWN_OK &&
            funnelfawn_set_up_board(WIDTH, box->board, FUNNELFAWN_BOARD_LENGTH).number == FUNNELFAWN_OK;
 }

@@ -5,13 +5,11 @@
 
 static uint8_t report[FUNNELFAWN_MOST_REPORT];
 
-/* Whether the recording is faulty, by the reader's word and not by the look of the report. The reader is lent no room for steps: room is
- * the last that it asks for [9.90], so a recording without a fault is answered 0 or 16, and any other number tells a fault. */
+/* Whether the recording is faulty, by the reader's word and not by the look of the report. The reader is lent no room at all: room is the
+ * last that it asks for [9.90], and for values of a it always does, so a recording without a fault is answered 16, and no other is. */
 static bool is_faulty(const uint8_t *recording, size_t length)
 {
-    uint64_t number = funnelfawn_read(recording, length, NULL, 0, NULL, 0, NULL, 0).answer.number;
-
-    return number != FUNNELFAWN_OK && number != FUNNELFAWN_REFUSED_SHORT_OUTPUT;
+    return funnelfawn_read(recording, length, NULL, 0, NULL, 0, NULL, 0, NULL, 0).answer.number != FUNNELFAWN_REFUSED_SHORT_OUTPUT;
 }
 
 /* Never refused, with room for any report. */

@@ -9,10 +9,12 @@
 
 static uint64_t table[FUNNELFAWN_TABLE_LENGTH], summary[FUNNELFAWN_SUMMARY_LENGTH], board[FUNNELFAWN_BOARD_LENGTH];
 
-/* Of n windows, with a = 80, b = 90 and c = 100. */
-static void start(uint64_t n)
+/* Of n windows, up to 8, with a = 80, b = 90 and c = 100. */
+static void start(size_t n)
 {
-    CHECK(funnelfawn_fresh(n, 80, 90, 100, table, FUNNELFAWN_TABLE_LENGTH).number == FUNNELFAWN_OK);
+    static const uint64_t a[] = {80, 80, 80, 80, 80, 80, 80, 80};
+
+    CHECK(funnelfawn_fresh(n, 90, 100, a, n, table, FUNNELFAWN_TABLE_LENGTH).number == FUNNELFAWN_OK);
     CHECK(funnelfawn_new_summary(summary, FUNNELFAWN_SUMMARY_LENGTH).number == FUNNELFAWN_OK);
     CHECK(funnelfawn_set_up_board(UINT64_C(1000000000), board, FUNNELFAWN_BOARD_LENGTH).number == FUNNELFAWN_OK);
 }

@@ -66,12 +66,13 @@ impl DeadlinePlace {
         }
     }
 
-    /// The arrival that both moments are of, if there is one. It is found by differences: no moment is so great that a sum could overflow.
-    pub fn arrival(self, values: &Values) -> Option<u64> {
+    /// The arrival that both moments of a window at this place are of, if there is one. It is found by differences: no moment is so great that
+    /// a sum could overflow.
+    pub fn arrival(self, values: &Values, window: u64) -> Option<u64> {
         let Moments { first, last } = self.moments()?;
-        let &Values { a, b, c, .. } = values;
         // how long after it the window may act, and how long after it the window has to
-        let (least, most) = if matches!(self, Checking(_)) { (b, c) } else { (0, a) };
+        let (least, most) =
+            if matches!(self, Checking(_)) { (values.b, values.c) } else { (0, values.a_of(window)) };
         let arrival = first.checked_sub(least)?;
         (last.checked_sub(most) == Some(arrival)).then_some(arrival)
     }
@@ -124,7 +125,7 @@ impl DeadlineTable {
     fn sound_at(&self, window: u64) -> bool {
         let place = self.place(window);
         let in_time = |moments: Moments| {
-            let arrival = place.arrival(&self.values);
+            let arrival = place.arrival(&self.values, window);
             arrival.is_some_and(|arrival| arrival <= self.clock) && self.clock <= moments.last
         };
         (window <= self.values.n || place == Remainder) && place.moments().is_none_or(in_time)
@@ -204,8 +205,8 @@ fn accepted(mut table: DeadlineTable, act: u64, window: u64, moment: u64) -> (An
 
 /// [12.60] Where the act leads, and until when. The moment is within the clock's range, so that the sums fit.
 fn destination(table: &DeadlineTable, act: u64, window: u64, moment: u64) -> DeadlinePlace {
-    let Values { a, b, c, .. } = table.values;
-    let from_now = Moments { first: moment, last: moment + a };
+    let Values { b, c, .. } = table.values;
+    let from_now = Moments { first: moment, last: moment + table.values.a_of(window) };
     match act {
         TRY => Testing(from_now),
         TEST if table.word == 0 => Setting(from_now),
@@ -225,11 +226,12 @@ fn destination(table: &DeadlineTable, act: u64, window: u64, moment: u64) -> Dea
 
 /// [12.20] Whether two tables match, sound or not.
 pub fn matching(table: &Table, deadlines: &DeadlineTable) -> bool {
-    let alike = |(&place, &held): (&Place, &DeadlinePlace)| {
-        number_of(place) == held.number() && place.arrival() == held.arrival(&table.values)
+    let alike = |window| {
+        let (place, held) = (table.place(window), deadlines.place(window));
+        number_of(place) == held.number() && place.arrival() == held.arrival(&table.values, window)
     };
     (table.values, table.clock, table.word) == (deadlines.values, deadlines.clock, deadlines.word)
-        && table.places.iter().zip(&deadlines.places).all(alike)
+        && (1..=WINDOWS as u64).all(alike)
 }
 
 /// [12.100] The table of deadlines that a sound table matches; for another 1, and the table of a refused fresh one.
@@ -255,29 +257,36 @@ pub fn to_arrivals(deadlines: &DeadlineTable) -> (Answer, Table) {
     if !deadlines.sound() {
         return (bare(NO_TABLE), fresh(Values::default()).1);
     }
-    let &DeadlineTable { values, clock, word, places } = deadlines;
-    let with_arrival = |place: DeadlinePlace| {
-        let arrival = place.arrival(&values).unwrap_or_default();
-        Place::numbered(place.number(), arrival).expect("a place's number")
-    };
-    (bare(ACCEPTED), Table { values, clock, word, places: places.map(with_arrival) })
+    let &DeadlineTable { values, clock, word, .. } = deadlines;
+    let places = from_fn(|entry| with_arrival(deadlines, entry as u64 + 1));
+    (bare(ACCEPTED), Table { values, clock, word, places })
+}
+
+/// [12.20] The place of a window of a sound table of deadlines, with the arrival that its moments are of.
+fn with_arrival(deadlines: &DeadlineTable, window: u64) -> Place {
+    let place = deadlines.place(window);
+    let arrival = place.arrival(&deadlines.values, window).unwrap_or_default();
+    Place::numbered(place.number(), arrival).expect("a place's number")
 }
 
 // As numbers
 
-/// n, a, b, c, the clock and the word.
-const HEADER: usize = 6;
+/// Where the values of a stand, after n, b, c, the clock and the word.
+const LIMITS_AT: usize = 5;
+/// All that comes before the entries.
+const HEADER: usize = LIMITS_AT + WINDOWS;
 /// The place of a window, its first and its last moment.
 const STRIDE: usize = 3;
 /// How many numbers a table of deadlines is lent as.
 pub const DEADLINE_NUMBERS: usize = HEADER + STRIDE * WINDOWS;
 
 impl DeadlineTable {
-    /// Remainder and selling have 0 for both moments.
+    /// [12.110] Remainder and selling have 0 for both moments.
     pub fn numbers(&self) -> [u64; DEADLINE_NUMBERS] {
-        let Values { n, a, b, c } = self.values;
+        let Values { n, b, c, a } = self.values;
         let mut numbers = [0; DEADLINE_NUMBERS];
-        numbers[..HEADER].copy_from_slice(&[n, a, b, c, self.clock, self.word]);
+        numbers[..LIMITS_AT].copy_from_slice(&[n, b, c, self.clock, self.word]);
+        numbers[LIMITS_AT..HEADER].copy_from_slice(&a);
         for (entry, place) in numbers[HEADER..].chunks_mut(STRIDE).zip(&self.places) {
             let Moments { first, last } = place.moments().unwrap_or_default();
             entry.copy_from_slice(&[place.number(), first, last]);
@@ -287,18 +296,17 @@ impl DeadlineTable {
 
     /// The table that a list starts with, if it is long enough and its numbers tell one, sound or not.
     pub fn from_numbers(numbers: &[u64]) -> Option<DeadlineTable> {
-        let &[n, a, b, c, clock, word, ref entries @ ..] = numbers.get(..DEADLINE_NUMBERS)? else {
-            return None;
-        };
+        let (header, entries) = numbers.get(..DEADLINE_NUMBERS)?.split_at(HEADER);
+        let &[n, b, c, clock, word, ref a @ ..] = header else { return None };
         let mut places = [Remainder; WINDOWS];
         for (place, entry) in places.iter_mut().zip(entries.chunks(STRIDE)) {
             *place = place_in(entry[0], Moments { first: entry[1], last: entry[2] })?;
         }
-        Some(DeadlineTable { values: Values { n, a, b, c }, clock, word, places })
+        Some(DeadlineTable { values: Values::new(n, b, c, a), clock, word, places })
     }
 }
 
-/// None where a place without moments has a number beside it.
+/// [12.115] None where a place without moments has a number beside it.
 fn place_in(number: u64, moments: Moments) -> Option<DeadlinePlace> {
     let place = DeadlinePlace::numbered(number, moments)?;
     (place.moments().unwrap_or_default() == moments).then_some(place)

@@ -1,5 +1,5 @@
-//! Seeded recordings for `compare`: walks that follow the machine and hit its edges, damaged texts, long texts; lists of calls, of steps
-//! and of boards; and pairs of tables for the two engines. The same seed and index always give the same recording, list or pair.
+//! Seeded recordings of both shapes for `compare`: walks that follow the machine and hit its edges, damaged texts, long texts; lists of calls,
+//! of steps and of boards; and pairs of tables for the two engines. The same seed and index always give the same recording, list or pair.
 
 pub mod boards;
 mod damage;
@@ -7,10 +7,12 @@ pub mod deadlines;
 mod length;
 pub mod lists;
 pub mod random;
+pub mod shapes;
 pub mod walk;
 
 use crate::list::List;
 use random::Random;
+use shapes::Shape;
 
 pub struct Generated {
     pub family: &'static str,
@@ -23,9 +25,14 @@ pub fn generate(seed: u64, index: u64) -> Generated {
     match random.below(200) {
         0..=3 => length::long_text(&mut random),
         4 => Generated { family: "empty", text: Vec::new() },
-        5..=109 => walk::recording(&mut random, 5_200),
+        5..=109 => a_walk(&mut random),
         _ => damage::damaged(&mut random),
     }
+}
+
+fn a_walk(random: &mut Random) -> Generated {
+    let shape = Shape::any(random);
+    walk::recording(random, shape, 5_200)
 }
 
 /// The list number `index` of a seed, of so many calls.

@@ -1,6 +1,6 @@
 //! A list of calls, as text, and what comes of it: sections 8 and 5 of the specification.
-//! Line 1 has n, a, b, c. Each further line is a call: 1 with a summary or 0 without, act, window, moment, then the summary that is
-//! lent: its four counts, the longest wait and what each window has waited. What a line leaves out at its end is 0.
+//! Line 1 has n, b, c and the values of a. Each further line is a call: 1 with a summary or 0 without, act, window, moment, then the summary
+//! that is lent: its four counts, the longest wait and what each window has waited. What a line leaves out at its end is 0.
 
 use crate::answer::Answer;
 use crate::machine::*;
@@ -33,23 +33,28 @@ pub fn make(table: Table, call: &mut Call) -> (Answer, Table) {
 // The list as text
 
 pub fn text(list: &List) -> String {
-    let Values { n, a, b, c } = list.values;
     let calls = list.calls.iter().map(call_line);
-    [joined(&[n, a, b, c])].into_iter().chain(calls).map(|line| line + "\n").collect()
+    [values_line(&list.values)].into_iter().chain(calls).map(|line| line + "\n").collect()
+}
+
+fn values_line(values: &Values) -> String {
+    let &Values { n, b, c, ref a } = values;
+    joined(&[&[n, b, c], up_to_the_last(a)].concat())
 }
 
 fn call_line(call: &Call) -> String {
     let mut numbers = vec![call.recorded as u64, call.act, call.window, call.moment];
     if call.summary != Summary::new() {
-        numbers.extend(summary_numbers(&call.summary));
+        numbers.extend(counts(&call.summary));
+        numbers.extend_from_slice(up_to_the_last(&call.summary.waited));
     }
     joined(&numbers)
 }
 
-/// What the windows have waited up to the last sum that is not 0.
-fn summary_numbers(summary: &Summary) -> Vec<u64> {
-    let shown = summary.waited.iter().rposition(|&waited| waited != 0).map_or(0, |last| last + 1);
-    [&counts(summary), &summary.waited[..shown]].concat()
+/// The numbers up to the last that is not 0.
+fn up_to_the_last(numbers: &[u64]) -> &[u64] {
+    let shown = numbers.iter().rposition(|&number| number != 0).map_or(0, |last| last + 1);
+    &numbers[..shown]
 }
 
 fn counts(summary: &Summary) -> [u64; 5] {
@@ -64,7 +69,7 @@ fn joined(numbers: &[u64]) -> String {
 pub fn read(text: &str) -> Option<List> {
     let mut lines = text.lines().map(numbers);
     let first = lines.next()??;
-    let values = Values { n: first[0], a: first[1], b: first[2], c: first[3] };
+    let values = Values::new(first[0], first[1], first[2], &first[3..]);
     Some(List { values, calls: lines.map(|line| Some(call(&line?))).collect::<Option<_>>()? })
 }
 
@@ -127,12 +132,12 @@ fn summary_line(n: u64, summary: &Summary) -> String {
     line("summary", &[&counts(summary), &summary.waited[..shown(n)]].concat())
 }
 
-/// n, a, b, c, the clock, the word, and place and arrival of the windows 1 to the n that was asked for.
+/// n, b, c, the clock, the word; and of the windows 1 to the n that was asked for the values of a, and then place and arrival.
 fn table_line(asked: u64, table: &Table) -> String {
-    let Values { n, a, b, c } = table.values;
-    let places = table.places[..shown(asked)].iter();
-    let numbers = places.flat_map(|&place| [number_of(place), place.arrival().unwrap_or(0)]);
-    line("table", &[n, a, b, c, table.clock, table.word].into_iter().chain(numbers).collect::<Vec<u64>>())
+    let &Table { values: Values { n, b, c, ref a }, clock, word, ref places } = table;
+    let entry = |&place: &Place| [number_of(place), place.arrival().unwrap_or(0)];
+    let entries: Vec<u64> = places[..shown(asked)].iter().flat_map(entry).collect();
+    line("table", &[&[n, b, c, clock, word], &a[..shown(asked)], &entries].concat())
 }
 
 /// How many windows are shown of a table that was asked for with that n.

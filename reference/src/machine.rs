@@ -67,27 +67,76 @@ impl Place {
     }
 }
 
-/// The number of windows and the limits: the values of a recording's line 2.
-#[derive(Clone, Copy, Debug, Default, PartialEq, Eq)]
+/// [2.10] The number of windows and the limits.
+#[derive(Clone, Copy, Debug, PartialEq, Eq)]
 pub struct Values {
     pub n: u64,
-    pub a: u64,
     pub b: u64,
     pub c: u64,
+    /// The a of window w is `a[w - 1]`.
+    pub a: [u64; WINDOWS],
 }
 
 impl Values {
+    /// [9.45] The values of a are the first of a list, of which one may have too few: the others are 0.
+    pub fn new(n: u64, b: u64, c: u64, list: &[u64]) -> Values {
+        let mut values = Values { n, b, c, a: [0; WINDOWS] };
+        for (a, &given) in values.a.iter_mut().zip(list) {
+            *a = given;
+        }
+        values
+    }
+
+    /// [6.45] The same a for each of n windows.
+    pub const fn equal(n: u64, a: u64, b: u64, c: u64) -> Values {
+        let mut values = Values { n, b, c, a: [0; WINDOWS] };
+        let mut entry = 0;
+        while entry < WINDOWS && (entry as u64) < n {
+            values.a[entry] = a;
+            entry += 1;
+        }
+        values
+    }
+
     /// [4.90] The number of the refusal, if they do not stand.
     pub fn refusal(&self) -> Option<u64> {
-        if !(1..=WINDOWS as u64).contains(&self.n) {
+        if !count_stands(self.n) {
             return Some(WINDOW_COUNT);
         }
-        // [2.30]
-        if !(1 <= self.a && self.a < self.b && self.b <= self.c && self.c <= LIMIT_END) {
-            return Some(LIMITS);
-        }
-        None
+        (!self.limits_stand()).then_some(LIMITS)
     }
+
+    /// [2.30] [2.32] Of an n that stands.
+    fn limits_stand(&self) -> bool {
+        let (own, above) = self.a.split_at(self.n as usize);
+        self.b <= self.c
+            && self.c <= LIMIT_END
+            && own.iter().all(|a| (1..self.b).contains(a))
+            && above.iter().all(|&a| a == 0)
+    }
+
+    /// The a of a window.
+    pub fn a_of(&self, window: u64) -> u64 {
+        self.a[window as usize - 1]
+    }
+
+    /// [2.92] Of windows 1 to n.
+    pub fn largest_a(&self) -> u64 {
+        let count = self.n.min(WINDOWS as u64) as usize;
+        self.a[..count].iter().copied().max().unwrap_or(0)
+    }
+}
+
+impl Default for Values {
+    /// [4.100] Where there are none, all are 0.
+    fn default() -> Self {
+        Values::equal(0, 0, 0, 0)
+    }
+}
+
+/// [2.20]
+pub fn count_stands(n: u64) -> bool {
+    (1..=WINDOWS as u64).contains(&n)
 }
 
 /// The table; the entry of window w is `places[w - 1]`.
@@ -122,11 +171,11 @@ impl Table {
         }
     }
 
-    /// [2.90]
+    /// [2.90] By the window's own a, but for checking.
     pub fn latest(&self, window: u64) -> Option<u64> {
         match self.place(window) {
             Checking(arrival) => Some(arrival + self.values.c),
-            place => place.arrival().map(|arrival| arrival + self.values.a),
+            place => place.arrival().map(|arrival| arrival + self.values.a_of(window)),
         }
     }
 
@@ -153,9 +202,9 @@ impl Table {
     fn sound_at(&self, window: u64) -> bool {
         let place = self.place(window);
         // The arrival is looked at first: one within the clock's range leaves the latest moment no overflow.
-        (window <= self.values.n || place == Remainder)
-            && place.arrival().is_none_or(|arrival| arrival <= self.clock)
-            && self.latest(window).is_none_or(|latest| self.clock <= latest)
+        let in_time =
+            |arrival| arrival <= self.clock && self.latest(window).is_some_and(|latest| self.clock <= latest);
+        (window <= self.values.n || place == Remainder) && place.arrival().is_none_or(in_time)
     }
 }
 

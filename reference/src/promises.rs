@@ -58,10 +58,10 @@ impl Promises {
         self.spans.retain(|span| span.staying != 0);
     }
 
-    /// [8.80]
+    /// [8.80] By the largest a.
     fn owed_wait(&self, table: &Table) -> Kept {
-        let Values { a, c, .. } = table.values;
-        let broken = |span: &&Span| table.clock > span.start + 2 * c + 5 * a;
+        let owed = 2 * table.values.c + 5 * table.values.largest_a();
+        let broken = |span: &&Span| table.clock > span.start + owed;
         match self.spans.iter().find(broken) {
             Some(span) => Err(format!("nobody is let in from {} to {}", span.start, table.clock)),
             None => Ok(()),

@@ -1,18 +1,19 @@
-//! The reader and the writer of recordings: section 6 of the specification.
+//! The reader and the writer of recordings: section 6 of the specification. Two shapes are read, of which one is written.
 //! The reader checks the whole text before it stores a step: 16 comes last, and a refusal leaves the lists alone.
 
 use crate::answer::*;
-use crate::machine::{Values, WAIT};
+use crate::machine::{count_stands, Values, WAIT, WINDOWS};
 
 /// The longest text, in bytes.
 pub const TEXT_END: usize = 65_536;
-/// The line of the first step.
-pub const FIRST_STEP: u64 = 4;
 /// The words of the acts, each at the place of its number.
 pub const WORDS: [&str; 10] =
     ["wait", "try", "test", "set", "check", "crit", "exit", "reset", "rem", "withdraw"];
 
-const VALUE_NAMES: &str = "windows,a,b,c";
+// The lines of names. Line 1 is one of the first two, and tells the shape.
+const VALUE_NAMES: &str = "windows,b,c";
+const FORMER_NAMES: &str = "windows,a,b,c";
+const LIMIT_NAMES: &str = "window,a";
 const STEP_NAMES: &str = "time,window,act";
 
 /// [6.65]
@@ -35,7 +36,14 @@ impl Step {
 #[derive(Clone, Debug, PartialEq, Eq)]
 pub struct Recording {
     pub values: Values,
+    /// The line of the first step.
+    pub first_line: u64,
     pub steps: Vec<Step>,
+}
+
+/// [6.50] The line of the first step of a recording as it is written.
+pub fn first_line(n: u64) -> u64 {
+    n + 5
 }
 
 /// Why a text is no recording: the answer's number, and the line that `replay` prints with it.
@@ -61,14 +69,14 @@ pub fn read(text: &[u8]) -> Result<Recording, Fault> {
         return Err(Fault { number: LENGTH, line: 0 });
     }
     let mut lines = Lines { rest: text, line: 0 };
-    lines.names(VALUE_NAMES)?;
-    let values = lines.values()?;
+    let values = lines.standing_values()?;
     lines.names(STEP_NAMES)?;
+    let first_line = lines.line + 1;
     let mut steps = Vec::new();
     while !lines.rest.is_empty() {
         steps.push(lines.step()?);
     }
-    Ok(Recording { values, steps })
+    Ok(Recording { values, first_line, steps })
 }
 
 /// The text still to be read, and the number of the line last taken from it.
@@ -99,12 +107,56 @@ impl<'a> Lines<'a> {
         }
     }
 
-    fn values(&mut self) -> Result<Values, Fault> {
-        let values = self.take().and_then(values_of).ok_or(self.fault(LINE))?;
+    /// [6.36] They are judged once all are read, at the line of the last of them.
+    fn standing_values(&mut self) -> Result<Values, Fault> {
+        let values = self.values()?;
         match values.refusal() {
             Some(number) => Err(self.fault(number)),
             None => Ok(values),
         }
+    }
+
+    fn values(&mut self) -> Result<Values, Fault> {
+        let first = self.take();
+        if first == Some(VALUE_NAMES.as_bytes()) {
+            self.own_values()
+        } else if first == Some(FORMER_NAMES.as_bytes()) {
+            self.former_values()
+        } else {
+            Err(self.fault(NAMES))
+        }
+    }
+
+    /// [6.30] to [6.34]: each window has a line for its a. Without an n that stands nobody knows how many there are.
+    fn own_values(&mut self) -> Result<Values, Fault> {
+        let [n, b, c] = self.numbers()?;
+        if !count_stands(n) {
+            return Err(self.fault(WINDOW_COUNT));
+        }
+        self.names(LIMIT_NAMES)?;
+        let mut a = [0; WINDOWS];
+        for (window, a) in (1..=n).zip(&mut a) {
+            *a = self.limit(window)?;
+        }
+        Ok(Values { n, b, c, a })
+    }
+
+    /// [6.45]
+    fn former_values(&mut self) -> Result<Values, Fault> {
+        let [n, a, b, c] = self.numbers()?;
+        Ok(Values::equal(n, a, b, c))
+    }
+
+    /// [6.34] The a of that window, whose line is next.
+    fn limit(&mut self, window: u64) -> Result<u64, Fault> {
+        match self.numbers()? {
+            [named, a] if named == window => Ok(a),
+            _ => Err(self.fault(LINE)),
+        }
+    }
+
+    fn numbers<const COUNT: usize>(&mut self) -> Result<[u64; COUNT], Fault> {
+        self.take().and_then(numbers_of).ok_or(self.fault(LINE))
     }
 
     fn step(&mut self) -> Result<Step, Fault> {
@@ -112,10 +164,12 @@ impl<'a> Lines<'a> {
     }
 }
 
-fn values_of(line: &[u8]) -> Option<Values> {
-    let [n, a, b, c] = fields(line)?;
-    let value = |field| number(field, OTHER_DIGITS);
-    Some(Values { n: value(n)?, a: value(a)?, b: value(b)?, c: value(c)? })
+fn numbers_of<const COUNT: usize>(line: &[u8]) -> Option<[u64; COUNT]> {
+    let mut numbers = [0; COUNT];
+    for (value, field) in numbers.iter_mut().zip(fields::<COUNT>(line)?) {
+        *value = number(field, OTHER_DIGITS)?;
+    }
+    Some(numbers)
 }
 
 fn step_of(line: &[u8]) -> Option<Step> {
@@ -148,22 +202,29 @@ fn number(field: &[u8], most_digits: usize) -> Option<u64> {
     Some(value)
 }
 
-/// [6.130] to [6.140]: the reader with its three lent lists.
-pub fn read_into(text: &[u8], times: &mut [u64], windows: &mut [u64], acts: &mut [u64]) -> (Answer, Values) {
-    let recording = match read(text) {
+/// [6.130] to [6.140]: the reader with its four lent lists; that of the values of a takes all 96.
+pub fn read_into(
+    text: &[u8],
+    a: &mut [u64],
+    times: &mut [u64],
+    windows: &mut [u64],
+    acts: &mut [u64],
+) -> (Answer, Values) {
+    let Recording { values, steps, .. } = match read(text) {
         Ok(recording) => recording,
         Err(fault) => return (fault.answer(), Values::default()),
     };
     let room = times.len().min(windows.len()).min(acts.len());
-    if recording.steps.len() > room {
+    if steps.len() > room || a.len() < WINDOWS {
         return (bare(SHORT_OUTPUT), Values::default());
     }
-    for (index, step) in recording.steps.iter().enumerate() {
+    a[..WINDOWS].copy_from_slice(&values.a);
+    for (index, step) in steps.iter().enumerate() {
         times[index] = step.time;
         windows[index] = step.window;
         acts[index] = step.act;
     }
-    (answer(ACCEPTED, 0, recording.steps.len() as u64), recording.values)
+    (answer(ACCEPTED, 0, steps.len() as u64), values)
 }
 
 /// [6.150] to [6.156], [6.180]: the writer.
@@ -191,7 +252,7 @@ fn text_of(values: Values, steps: &[Step]) -> Result<String, Answer> {
         return Err(bare(number));
     }
     let mut text = head(values);
-    for (line, step) in (FIRST_STEP..).zip(steps) {
+    for (line, step) in (first_line(values.n)..).zip(steps) {
         text += &line_of(step).ok_or(answer(LINE, 0, line))?;
     }
     if text.len() > TEXT_END {
@@ -200,10 +261,11 @@ fn text_of(values: Values, steps: &[Step]) -> Result<String, Answer> {
     Ok(text)
 }
 
-/// The first three lines.
+/// [6.20] to [6.40]: the lines before the steps, of an n that stands.
 pub fn head(values: Values) -> String {
-    let Values { n, a, b, c } = values;
-    format!("{VALUE_NAMES}\n{n},{a},{b},{c}\n{STEP_NAMES}\n")
+    let Values { n, b, c, a } = values;
+    let limits: String = (1..=n).zip(a).map(|(window, a)| format!("{window},{a}\n")).collect();
+    format!("{VALUE_NAMES}\n{n},{b},{c}\n{LIMIT_NAMES}\n{limits}{STEP_NAMES}\n")
 }
 
 /// The line of a step; none if it has no form: a number with too many digits, an act without a word.

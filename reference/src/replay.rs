@@ -3,7 +3,7 @@
 
 use crate::answer::{bare, Answer};
 use crate::machine::{fresh, step};
-use crate::recording::{read, Fault, Recording, Step, FIRST_STEP};
+use crate::recording::{read, Fault, Recording, Step};
 
 const NAMES: &str = "line,answer,window,moment\n";
 
@@ -30,7 +30,7 @@ pub struct Taken {
 /// [7.40] [7.45]
 pub fn run(recording: &Recording) -> impl Iterator<Item = Taken> + '_ {
     let (_, mut table) = fresh(recording.values);
-    (FIRST_STEP..).zip(&recording.steps).map(move |(line, &recorded)| {
+    (recording.first_line..).zip(&recording.steps).map(move |(line, &recorded)| {
         let answer;
         (answer, table) = step(table, recorded.act, recorded.window, recorded.time);
         Taken { line, step: recorded, answer }

@@ -106,16 +106,16 @@ module _ (s : State) (act p m : ℕ) where
     own-dated : 1 ≤ p → p ≤ 96 → own ≡ datedAt k (1 + (p - 1)) (entryOf s p .location)
     own-dated from to = own-is from to ∙ ap (λ (q : DeadlineProcess). q .location) (entry-in s p)
 
-    own-arrived : 1 ≤ p → p ≤ 96 → arrivedAt k own ≡ entryOf s p .location
-    own-arrived from to = ap (arrivedAt k) (own-dated from to) ∙ dated-is k (1 + (p - 1)) (entryOf s p .location) .back
+    own-arrived : 1 ≤ p → p ≤ 96 → arrivedAt (k .b) own ≡ entryOf s p .location
+    own-arrived from to = ap (arrivedAt (k .b)) (own-dated from to) ∙ dated-is k (1 + (p - 1)) (entryOf s p .location) .back
 
     past : sinceOf (entryOf s p .location) ≤ s .clock
     unfolding entryOf
     past = sound-past s (found .sound) (p - 1)
 
     -- where it checks, its first time is b after its arrival
-    release-is : unknown act ≡ false → misnamed (k .n) act p ≡ false → act ≢ waitAct → eqb (stageOf (arrivedAt k own)) (t .from) ≡ true
-        → act ≡ checkAct → firstOf own ≡ checkFrom (arrivedAt k own) (k .b)
+    release-is : unknown act ≡ false → misnamed (k .n) act p ≡ false → act ≢ waitAct → eqb (stageOf (arrivedAt (k .b) own)) (t .from) ≡ true
+        → act ≡ checkAct → firstOf own ≡ checkFrom (arrivedAt (k .b) own) (k .b)
     unfolding leaves
     release-is known named some placed check =
         let h = simp tests at (rw (ne-eqb act waitAct some) at named) in
@@ -126,7 +126,7 @@ module _ (s : State) (act p m : ℕ) where
         let stage : stageOf (entryOf s p .location) ≡ checking = ap stageOf (sym same) ∙ eqb-true _ _ placed ∙ from in
         let first : firstOf own ≡ releaseIn k (entryOf s p .location) =
         ap firstOf (own-dated (range .0) (range .1)) ∙ dated-is k (1 + (p - 1)) (entryOf s p .location) .first in
-        let fit : checkFrom (arrivedAt k own) (k .b) ≡ sinceOf (entryOf s p .location) + k .b =
+        let fit : checkFrom (arrivedAt (k .b) own) (k .b) ≡ sinceOf (entryOf s p .location) + k .b =
         rw same (mod-eq-of-lt (omega (arith, past, sound-numbers s (found .sound)))) in
         (rw (eq-eqb (stageOf (entryOf s p .location)) checking stage) at first) ∙ sym fit
 
@@ -135,10 +135,10 @@ module _ (s : State) (act p m : ℕ) where
     matched-goes =
         rw (
           step-same s act p m,
-          sym (stage-arrived k own),
-          judged-same f (sceneOf k (s .clock) p) (stageOf (arrivedAt k own)) (firstOf own) (checkFrom (arrivedAt k own) (k .b)) t act m release-is,
+          sym (stage-arrived (k .b) own),
+          judged-same f (sceneOf k (s .clock) p) (stageOf (arrivedAt (k .b) own)) (firstOf own) (checkFrom (arrivedAt (k .b) own) (k .b)) t act m release-is,
         )
-        (goes-matched (stepOf s act p m) _ (goes s act p m f (arrivedAt k own) t (pass.whole found) size own-arrived t-is))
+        (goes-matched (stepOf s act p m) _ (goes s act p m f (arrivedAt (k .b) own) t (pass.whole found) size own-arrived t-is))
 
 -- Any state of deadlines
 
@@ -202,7 +202,7 @@ sum : (t x : ℕ) → t ≤ lastTime → x ≤ 10_000_000 → dueFrom t x ≡ t 
 sum t x h g = mod-eq-of-lt (omega arith)
 
 pub dated-fits : (k : Parameters) (i : ℕ) (l : Location) → sinceOf l ≤ lastTime → k .b ≤ 10_000_000 → k .c ≤ 10_000_000
-    → limitIn k i ≤ 10_000_000 → datedWith k i l ≡ datedAt k i l
+    → limitIn k i ≤ 10_000_000 → datedWith (k .b) (k .c) (limitIn k i) l ≡ datedAt k i l
 dated-fits k i Remainder h b c a = refl
 dated-fits k i (Testing t) h b c a = λ j. with.Testing (plain t j) (sum t (limitIn k i) h a j)
 dated-fits k i (Setting t) h b c a = λ j. with.Setting (plain t j) (sum t (limitIn k i) h a j)
@@ -216,7 +216,7 @@ dated-fits k i (Leaving t) h b c a = λ j. with.Leaving (plain t j) (sum t (limi
 pub exit-moved-with : (d : DeadlineState) (act p m slot : ℕ) (t : Transition) (o : DeadlineOutcome) (j : Answer)
     → (p ≤ 96 → slot ≡ p - 1) → (act ≢ waitAct → act ≤ lastAct → t ≡ transitionOf (d .word) act p m) → m ≤ lastTime → Small d
     → GoesWith d act p m o j → j .code ≡ 0 → act ≢ waitAct
-    → record { answer = j; state = changedWith d m (t .word) (set (d .processes) slot (entryWith (datedWith (d .parameters) p (t .to)))) } ≡ o
+    → record { answer = j; state = changedWith d m (t .word) (set (d .processes) slot (entryWith (datedWith (d .parameters .b) (d .parameters .c) (limitIn (d .parameters) p) (t .to)))) } ≡ o
 exit-moved-with d act p m slot t o j slot-is t-is last few (refuse e n) h a = absurd (n h)
 exit-moved-with d act p m slot t o j slot-is t-is last few (wait a′ z e h′) h a = absurd (a a′)
 exit-moved-with d act p m slot t o j slot-is t-is last few (move some known from to e h′) h a =

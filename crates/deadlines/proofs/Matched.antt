@@ -45,7 +45,7 @@ add-next i j = omega arith
 pub record Dated (k : Parameters) (i : ℕ) (l : Location) : Type 0 where
   pub stage : stageWith (datedAt k i l) ≡ stageOf l
   pub first : firstOf (datedAt k i l) ≡ releaseIn k l
-  pub back : arrivedAt k (datedAt k i l) ≡ l
+  pub back : arrivedAt (k .b) (datedAt k i l) ≡ l
 
 -- an arrival comes back from the first time
 pub less-opens : (t b : ℕ) → t + b - b ≡ t
@@ -62,18 +62,18 @@ dated-is k i (Resetting t) = record { stage = refl; first = refl; back = ap Rese
 dated-is k i (Leaving t) = record { stage = refl; first = refl; back = ap Leaving (less-opens t 0) }
 
 -- the way back: a location whose times are those of one arrival, or that has none
-pub stage-arrived : (k : Parameters) (q : DeadlineLocation) → stageOf (arrivedAt k q) ≡ stageWith q
-stage-arrived k with.Remainder = refl
-stage-arrived k (with.Testing f l) = refl
-stage-arrived k (with.Setting f l) = refl
-stage-arrived k (with.Checking f l) = refl
-stage-arrived k (with.Entering f l) = refl
-stage-arrived k with.Critical = refl
-stage-arrived k (with.Resetting f l) = refl
-stage-arrived k (with.Leaving f l) = refl
+pub stage-arrived : (b : ℕ) (q : DeadlineLocation) → stageOf (arrivedAt b q) ≡ stageWith q
+stage-arrived b with.Remainder = refl
+stage-arrived b (with.Testing f l) = refl
+stage-arrived b (with.Setting f l) = refl
+stage-arrived b (with.Checking f l) = refl
+stage-arrived b (with.Entering f l) = refl
+stage-arrived b with.Critical = refl
+stage-arrived b (with.Resetting f l) = refl
+stage-arrived b (with.Leaving f l) = refl
 
 pub dated-back : (k : Parameters) (i : ℕ) (q : DeadlineLocation) → (timedWith q ≡ true → ofOneArrival k i q ≡ true)
-    → datedAt k i (arrivedAt k q) ≡ q
+    → datedAt k i (arrivedAt (k .b) q) ≡ q
 dated-back k i with.Remainder told = refl
 dated-back k i (with.Testing f l) told = let h = simp tests at (told refl) in λ j. with.Testing (sym (h .0) j) (sym (h .1) j)
 dated-back k i (with.Setting f l) told = let h = simp tests at (told refl) in λ j. with.Setting (sym (h .0) j) (sym (h .1) j)
@@ -104,7 +104,7 @@ dated-at k i (q ∷ qs) zero = rw (add-zero i)
 dated-at k i (q ∷ qs) (suc j) = dated-at k (i + 1) qs j ∙ rw (add-next i j)
 
 pub arrived-at : (k : Parameters) (es : List DeadlineProcess) (j : ℕ)
-    → getD (arrivedFrom k es) j idle ≡ entry (arrivedAt k (getD es j idleWith .location))
+    → getD (arrivedFrom k es) j idle ≡ entry (arrivedAt (k .b) (getD es j idleWith .location))
 unfolding arrivedFrom
 arrived-at k [] j = refl
 arrived-at k (e ∷ es) zero = refl
@@ -282,7 +282,7 @@ untimed-idle (with.Resetting f l) e = absurd (omega (arith, e))
 untimed-idle (with.Leaving f l) e = absurd (omega (arith, e))
 
 entry-told : (d : DeadlineState) (i : ℕ) (q : DeadlineProcess) → entrySoundWith d i q ≡ true
-    → entryWith (datedAt (d .parameters) i (arrivedAt (d .parameters) (q .location))) ≡ q
+    → entryWith (datedAt (d .parameters) i (arrivedAt (d .parameters .b) (q .location))) ≡ q
 entry-told d i q e = ap entryWith (dated-back (d .parameters) i (q .location) told)
   where
     told : timedWith (q .location) ≡ true → ofOneArrival (d .parameters) i (q .location) ≡ true

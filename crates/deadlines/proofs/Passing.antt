@@ -28,6 +28,7 @@ use Rattle.deadlines.specs.Matching.{arrivedAt, arrived}
 use Rattle.deadlines.specs.Looks.{boundsNoted, backFrom, settledBy, locationNoted, settledAt}
 use Rattle.model.proofs.Tests.{by-test, by-cond, if-lt, tests}
 use Rattle.model.proofs.Lists.{drop-at, drop-end, row-at}
+use Rattle.model.proofs.OwnLimits.{limits-parts, limit-fits}
 use Rattle.rules.proofs.Pass.{Passed, nothing-passed, turn-passed, passed-whole, Whole}
 use Rattle.deadlines.proofs.Matched.{arrived-at, length-arrived}
 
@@ -52,10 +53,17 @@ pub record Small (d : DeadlineState) : Type 0 where
   pub few : d .parameters .n ≤ 96
 
 pub small : (d : DeadlineState) → standingWith d ≡ true → Small d
-unfolding numbersStand limitIn
+unfolding numbersStand
 small d e =
     let h = simp tests at e in
-    record { clock = omega (arith, h); opens = omega (arith, h); closes = omega (arith, h); limit = λ i. omega (arith, h); few = omega (arith, h) }
+    let parts = limits-parts (d .parameters) (h .0 .0 .1) in
+    record {
+      clock = omega (arith, h);
+      opens = omega (arith, parts .order, parts .most);
+      closes = parts .most;
+      limit = limit-fits (d .parameters) (h .0 .0 .1);
+      few = omega (arith, h);
+    }
 
 -- What is settled leaves what was found, where no sum wraps and the last time is a number of 64 bits
 
@@ -136,7 +144,7 @@ module _ (d : DeadlineState) (acting i : ℕ) (f : Survey) (stand : standingWith
   -- a look at a location finds what one at its arrival finds, or that the entry is not sound
   pub data Looked (q : DeadlineLocation) (g : Survey) : Type 0 where
     fault : entrySoundWith d i (entryWith q) ≡ false → g .faulty ≢ 0 → Looked q g
-    same : entrySoundWith d i (entryWith q) ≡ true → g ≡ noted scene i (arrivedAt k q) (limitIn k i) f → g .faulty ≡ 0 → Looked q g
+    same : entrySoundWith d i (entryWith q) ≡ true → g ≡ noted scene i (arrivedAt (k .b) q) (limitIn k i) f → g .faulty ≡ 0 → Looked q g
 
   up-to : i ≤ k .n → (q : DeadlineLocation) → entrySoundWith d i (entryWith q) ≡ not (timedWith q) || timesSound k (d .clock) i q
   up-to h q = simp (le-leb i (k .n) h)
@@ -148,7 +156,7 @@ module _ (d : DeadlineState) (acting i : ℕ) (f : Survey) (stand : standingWith
   -- a timed location, of which the tests of a look are computed
   timed-looked : (q : DeadlineLocation) (opens closes : ℕ) → closes ≤ 10_000_000 → eqb (stageWith q) remainder ≡ false
       → (ltb (k .n) i ≡ false → entrySoundWith d i (entryWith q) ≡ areSound (firstOf q) (lastOf q) opens closes)
-      → (ltb (k .n) i ≡ false → noted scene i (arrivedAt k q) (limitIn k i) f ≡ found (firstOf q) (lastOf q) opens closes)
+      → (ltb (k .n) i ≡ false → noted scene i (arrivedAt (k .b) q) (limitIn k i) f ≡ found (firstOf q) (lastOf q) opens closes)
       → Looked q (cond (ltb (k .n) i) unsound (boundsNoted (d .clock) i (firstOf q) (lastOf q) opens closes f))
   timed-looked q opens closes few away sound-is noted-is =
       by-cond (Looked q) (ltb (k .n) i) (above q away)
@@ -233,10 +241,10 @@ module _ (d : DeadlineState) (acting i j : ℕ) (f : Survey) (so-far : PassedWit
   unfolding entriesSoundWith
   sound-left = rw next-entry at (so-far .sound)
 
-  place : getD (arrived d .processes) i idle .location ≡ arrivedAt (d .parameters) (q .location)
+  place : getD (arrived d .processes) i idle .location ≡ arrivedAt (d .parameters .b) (q .location)
   place =
       ap (λ (x : Process). x .location) (arrived-at (d .parameters) (d .processes) i)
-      ∙ ap (λ (x : DeadlineProcess). arrivedAt (d .parameters) (x .location)) (row-at (d .processes) i idleWith other (omega (arith, long)))
+      ∙ ap (λ (x : DeadlineProcess). arrivedAt (d .parameters .b) (x .location)) (row-at (d .processes) i idleWith other (omega (arith, long)))
 
   -- where it is not sound, neither is the state; and where it is, the pass over the arrivals goes on
   pub turn-fault-with : g .faulty ≢ 0 → soundWith d ≡ false

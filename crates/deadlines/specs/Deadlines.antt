@@ -110,18 +110,18 @@ abbrev pub closesAfter : ℕ → ℕ → ℕ → ℕ
 closesAfter c limit stage = cond (eqb stage checking) c limit
 
 -- [12.30] the arrival that the first time tells
-abbrev pub arrivalIn : Parameters → DeadlineLocation → ℕ
-arrivalIn k q = firstOf q - opensAfter (k .b) (stageWith q)
+abbrev pub arrivalIn : ℕ → DeadlineLocation → ℕ
+arrivalIn b q = firstOf q - opensAfter b (stageWith q)
 
 -- [12.30] the two times are those of one arrival; the sums are exact
 abbrev pub ofOneArrival : Parameters → ℕ → DeadlineLocation → Bool
 ofOneArrival k i q =
-    eqb (firstOf q) (arrivalIn k q + opensAfter (k .b) (stageWith q))
-    && eqb (lastOf q) (arrivalIn k q + closesAfter (k .c) (limitIn k i) (stageWith q))
+    eqb (firstOf q) (arrivalIn (k .b) q + opensAfter (k .b) (stageWith q))
+    && eqb (lastOf q) (arrivalIn (k .b) q + closesAfter (k .c) (limitIn k i) (stageWith q))
 
 -- [12.30] of the times of process i at the clock: one arrival, which is not after it, and a last time that is not before it
 abbrev pub timesSound : Parameters → ℕ → ℕ → DeadlineLocation → Bool
-timesSound k clock i q = ofOneArrival k i q && leb (arrivalIn k q) clock && not (ltb (lastOf q) clock)
+timesSound k clock i q = ofOneArrival k i q && leb (arrivalIn (k .b) q) clock && not (ltb (lastOf q) clock)
 
 -- [12.30] of the entry q of process i
 abbrev pub entrySoundWith : DeadlineState → ℕ → DeadlineProcess → Bool

@@ -4,9 +4,8 @@ use Prim.Native.Nat.{ℕ, _+_, _-_, _%_, _^_}
 use mathlib.Core.Bool.{Bool, false, cond, not, _&&_, _||_}
 use lib.Dec.{leb, ltb, eqb}
 use Rattle.model.specs.declared.Location.{Location}
-use Rattle.model.specs.declared.Parameters.{Parameters}
 use Rattle.model.specs.Stages.{remainder, checking, critical}
-use Rattle.model.specs.States.{limitIn, stageOf, sinceOf}
+use Rattle.model.specs.States.{stageOf, sinceOf}
 use Rattle.rules.specs.declared.survey.Scene.{Scene}
 use Rattle.rules.specs.declared.survey.Survey.{Survey}
 use Rattle.rules.specs.Survey.{unsound, criticalNoted, dueFrom, dueNoted}
@@ -15,11 +14,10 @@ use Rattle.deadlines.specs.Deadlines.{stageWith, firstOf, lastOf, deadli
 
 -- A location with its times written out, by sums that may wrap
 
--- helper: of process i
-abbrev pub datedWith : Parameters → ℕ → Location → DeadlineLocation
-datedWith k i l =
-    deadlineAt (stageOf l) (cond (eqb (stageOf l) checking) (dueFrom (sinceOf l) (k .b)) (sinceOf l))
-    (dueFrom (sinceOf l) (closesAfter (k .c) (limitIn k i) (stageOf l)))
+-- helper: of a process with the bound `limit`
+abbrev pub datedWith : ℕ → ℕ → ℕ → Location → DeadlineLocation
+datedWith b c limit l =
+    deadlineAt (stageOf l) (cond (eqb (stageOf l) checking) (dueFrom (sinceOf l) b) (sinceOf l)) (dueFrom (sinceOf l) (closesAfter c limit (stageOf l)))
 
 -- One entry more, that of process k
 

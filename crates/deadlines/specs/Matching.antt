@@ -1,9 +1,10 @@
 -- Section 12 of the specification, the two engines side by side: the relation of a state and a state of deadlines that match, in plain facts, and
 -- the two ways from one to the other. Assumes nothing.
-use Prim.Native.Nat.{ℕ, _+_}
+use Prim.Native.Nat.{ℕ, _+_, _-_}
 use mathlib.Core.Path.{_≡_}
 use mathlib.Core.Bool.{cond}
 use mathlib.Core.List.{List, [], _∷_}
+use lib.ListN.{getD}
 use Rattle.model.specs.declared.Location.{Location}
 use Rattle.model.specs.declared.Location.the-variants.{Remainder, Testing, Setting, Checking, Entering, Critical, Resetting, Leaving}
 use Rattle.model.specs.declared.Process.{Process}
@@ -32,18 +33,19 @@ pub data LocationsMatch (a b c : ℕ) : Location → DeadlineLocation → Type 0
   resetting : {t : ℕ} → LocationsMatch a b c (Resetting t) (with.Resetting t (t + a))
   leaving : {t : ℕ} → LocationsMatch a b c (Leaving t) (with.Leaving t (t + a))
 
--- [12.20] as many entries, one by one
-pub data EntriesMatch (k : Parameters) : List Process → List DeadlineProcess → Type 0 where
-  ended : EntriesMatch k [] []
-  both : {q : Process} {e : DeadlineProcess} {qs : List Process} {es : List DeadlineProcess}
-      → LocationsMatch (k .a) (k .b) (k .c) (q .location) (e .location) → EntriesMatch k qs es → EntriesMatch k (q ∷ qs) (e ∷ es)
+-- [12.20] as many entries, one by one, from process i on; the a of each is named by its place, and not by what the step asks for it
+pub data EntriesMatch (k : Parameters) : ℕ → List Process → List DeadlineProcess → Type 0 where
+  ended : {i : ℕ} → EntriesMatch k i [] []
+  both : {i : ℕ} {q : Process} {e : DeadlineProcess} {qs : List Process} {es : List DeadlineProcess}
+      → LocationsMatch (getD (k .a) (i - 1) 0) (k .b) (k .c) (q .location) (e .location) → EntriesMatch k (i + 1) qs es
+      → EntriesMatch k i (q ∷ qs) (e ∷ es)
 
 -- [12.20]
 pub record Matches (s : State) (d : DeadlineState) : Type 0 where
   pub parameters : d .parameters ≡ s .parameters
   pub clock : d .clock ≡ s .clock
   pub word : d .word ≡ s .word
-  pub entries : EntriesMatch (s .parameters) (s .processes) (d .processes)
+  pub entries : EntriesMatch (s .parameters) 1 (s .processes) (d .processes)
 
 -- To and fro
 
@@ -57,13 +59,13 @@ abbrev pub matched : State → DeadlineState
 matched s = record { parameters = s .parameters; clock = s .clock; word = s .word; processes = datedFrom (s .parameters) 1 (s .processes) }
 
 -- [12.100] a location with the arrival that its first time tells
-abbrev pub arrivedAt : Parameters → DeadlineLocation → Location
-arrivedAt k q = locationAt (stageWith q) (arrivalIn k q)
+abbrev pub arrivedAt : ℕ → DeadlineLocation → Location
+arrivedAt b q = locationAt (stageWith q) (arrivalIn b q)
 
 -- helper: entries with their arrivals
 unfoldable pub arrivedFrom : Parameters → List DeadlineProcess → List Process
 arrivedFrom k [] = []
-arrivedFrom k (q ∷ qs) = entry (arrivedAt k (q .location)) ∷ arrivedFrom k qs
+arrivedFrom k (q ∷ qs) = entry (arrivedAt (k .b) (q .location)) ∷ arrivedFrom k qs
 
 -- [12.100] the state that matches a sound state of deadlines
 abbrev pub arrived : DeadlineState → State

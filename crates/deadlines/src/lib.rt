@@ -20,9 +20,9 @@ use rules::stages::REMAINDER;
 use rules::survey::empty;
 use rules::survey::scene_of;
 use values::answer_with;
-use values::count_stands;
-use values::limit_of;
-use values::limits_stand;
+use values::limits::count_stands;
+use values::limits::limit_of;
+use values::limits::parameters_stand;
 use values::no_parameters;
 ghost use mathlib.Core.Path.{_≡_};
 ghost use Prim.Native.Nat.{ℕ, _<_};
@@ -97,10 +97,10 @@ fn refused(code: u64) -> DeadlineOutcome
 pub fn fresh(parameters: Parameters) -> DeadlineOutcome
     ensures { λ r. ⌜ r ≡ freshWith parameters ⌝ }
 {
-    if !count_stands(parameters) {
+    if !count_stands(parameters.n) {
         return refused(11);
     }
-    if !limits_stand(parameters) {
+    if !parameters_stand(parameters.n, parameters.b, parameters.c, &parameters.a) {
         return refused(12);
     }
     DeadlineOutcome {
@@ -115,14 +115,17 @@ pub fn fresh(parameters: Parameters) -> DeadlineOutcome
 pub fn step(mut state: DeadlineState, action: u64, process: u64, time: u64) -> DeadlineOutcome
     ensures { λ r. ⌜ r ≡ stepWith state action process time ⌝ }
 {
-    let parameters = state.parameters;
-    if !numbers_stand(parameters, state.clock, state.word) {
+    let n = state.parameters.n;
+    let b = state.parameters.b;
+    let c = state.parameters.c;
+    let clock = state.clock;
+    if !numbers_stand(n, b, c, &state.parameters.a, clock, state.word) {
         return DeadlineOutcome {
             answer: answer_with(1, 0, 0),
             state: state,
         };
     }
-    let scene = scene_of(parameters, state.clock, process);
+    let scene = scene_of(n, c, clock, process);
     let mut found = empty();
     let mut at: usize = 0;
     while at < 96 {
@@ -145,20 +148,14 @@ pub fn step(mut state: DeadlineState, action: u64, process: u64, time: u64) -> D
             continue;
         }
         let here = (at as u64) + 1;
-        if here <= scene.n {
-            if is_settled_at(location, found.due, scene.clock, limit_of(parameters, here)) {
+        let limit = limit_of(&state.parameters.a, here);
+        if here <= n {
+            if is_settled_at(location, found.due, clock, limit) {
                 at += 1;
                 continue;
             }
         }
-        found = note(
-            found,
-            scene,
-            here,
-            location,
-            parameters.b,
-            limit_of(parameters, here),
-        );
+        found = note(found, scene, here, location, b, limit);
         if found.faulty != 0 {
             break;
         }
@@ -182,7 +179,8 @@ pub fn step(mut state: DeadlineState, action: u64, process: u64, time: u64) -> D
         if action != WAIT {
             let to = transition.to;
             state.word = transition.word;
-            state.processes[slot] = entry_with(dated(parameters, process, to));
+            let limit = limit_of(&state.parameters.a, process);
+            state.processes[slot] = entry_with(dated(b, c, limit, to));
         }
     }
     DeadlineOutcome {

@@ -1,7 +1,6 @@
 // The locations of the second engine: the stage and the two times of each, and the ways from a location with an arrival and back.
 use crate::DeadlineLocation;
 use model::Location;
-use model::Parameters;
 use rules::stages::CHECKING;
 use rules::stages::CRITICAL;
 use rules::stages::ENTERING;
@@ -11,7 +10,6 @@ use rules::stages::RESETTING;
 use rules::stages::SETTING;
 use rules::stages::TESTING;
 use std::num::wrapping_add_u64;
-use values::limit_of;
 ghost use mathlib.Core.Path.{_≡_};
 ghost use Prim.Native.Nat.{_-_};
 ghost use Rattle.deadlines.specs.Deadlines.{stageWith, firstOf, lastOf};
@@ -67,19 +65,16 @@ pub fn last_of(location: DeadlineLocation) -> u64
 }
 
 // [12.20] [12.60] A location with its two times written out. The sums may wrap, of an arrival that no sound state has, and are of no account then.
-pub fn dated(parameters: Parameters, process: u64, location: Location) -> DeadlineLocation
-    ensures { λ r. ⌜ r ≡ datedWith parameters process location ⌝ }
+// `limit` is the process's own a.
+pub fn dated(b: u64, c: u64, limit: u64, location: Location) -> DeadlineLocation
+    ensures { λ r. ⌜ r ≡ datedWith b c limit location ⌝ }
 {
-    let limit = limit_of(parameters, process);
     match location {
         Location::Remainder => DeadlineLocation::Remainder,
         Location::Testing(t) => DeadlineLocation::Testing(t, wrapping_add_u64(t, limit)),
         Location::Setting(t) => DeadlineLocation::Setting(t, wrapping_add_u64(t, limit)),
         Location::Checking(t) => {
-            DeadlineLocation::Checking(
-                wrapping_add_u64(t, parameters.b),
-                wrapping_add_u64(t, parameters.c),
-            )
+            DeadlineLocation::Checking(wrapping_add_u64(t, b), wrapping_add_u64(t, c))
         }
         Location::Entering(t) => DeadlineLocation::Entering(t, wrapping_add_u64(t, limit)),
         Location::Critical => DeadlineLocation::Critical,
@@ -99,14 +94,14 @@ pub fn less(first: u64, b: u64) -> u64
 }
 
 // [12.100] A location with the arrival that its first time tells.
-pub fn arrived(parameters: Parameters, location: DeadlineLocation) -> Location
-    ensures { λ r. ⌜ r ≡ arrivedAt parameters location ⌝ }
+pub fn arrived(b: u64, location: DeadlineLocation) -> Location
+    ensures { λ r. ⌜ r ≡ arrivedAt b location ⌝ }
 {
     match location {
         DeadlineLocation::Remainder => Location::Remainder,
         DeadlineLocation::Testing(first, _) => Location::Testing(first),
         DeadlineLocation::Setting(first, _) => Location::Setting(first),
-        DeadlineLocation::Checking(first, _) => Location::Checking(less(first, parameters.b)),
+        DeadlineLocation::Checking(first, _) => Location::Checking(less(first, b)),
         DeadlineLocation::Entering(first, _) => Location::Entering(first),
         DeadlineLocation::Critical => Location::Critical,
         DeadlineLocation::Resetting(first, _) => Location::Resetting(first),

@@ -2,6 +2,7 @@ pub mod Digits
 pub mod Tables
 pub mod Fields
 pub mod Lines
+pub mod LinesOfA
 pub mod Bodies
 pub mod Faults
 pub mod Heads

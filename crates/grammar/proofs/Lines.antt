@@ -17,14 +17,11 @@ use Rattle.model.specs.declared.Field.the-variants.{Value, Bad}
 use Rattle.model.specs.declared.Row.{Row}
 use Rattle.model.specs.declared.Row.the-variants.{Step, Unread}
 use Rattle.model.specs.declared.Line.{Line}
-use Rattle.model.specs.declared.Parameters.{Parameters}
 use Rattle.model.specs.Texts.{comma, newline, timeBound, numberBound, decimal, numberText, words, wordText}
-use Rattle.model.specs.Texts.{Event, event, numbersText, valuesText, eventText, hasForm}
-use Rattle.model.specs.States.{parametersIn}
+use Rattle.model.specs.Texts.{Event, event, numbersText, eventText, hasForm}
 use Rattle.model.specs.Readings.{numberAt, wordAt, opened, eventAt, lineOf, lineFails, numbersFrom, numbersAt}
 use Rattle.model.proofs.Tests.{tests}
-use Rattle.grammar.specs.Digits.{digitsOf}
-use Rattle.grammar.specs.Faults.{Short}
+use Rattle.grammar.specs.Digits.{digitsOf, Few}
 use Rattle.grammar.proofs.Tables.{every-at}
 use Rattle.grammar.proofs.Digits.{some-digit, bounds-are-digits}
 use Rattle.grammar.proofs.Fields.{Took, number-was, number-reads, word-was, word-reads}
@@ -81,10 +78,9 @@ took-both {s} {x} {y} {i} {j} f g =
 
 -- A line of numbers
 
--- each of these is small enough for its field
-abbrev pub Small : List ℕ → Type 0
-Small [] = Unit
-Small (v ∷ vs) = (v < numberBound) × Small vs
+-- small enough for its field, and of few digits
+pub few : (v : ℕ) → (v < numberBound) ↔ (digitsOf v ≤ 8)
+few = bounds-are-digits .number
 
 -- the numbers at the first `many` places from i on
 abbrev pub numbersIn : ℕ → ℕ → List ℕ → List ℕ
@@ -94,14 +90,14 @@ numbersIn (suc many) i l = getD l i 0 ∷ numbersIn many (i + 1) l
 -- l was read from s: `more` numbers and one before them stand in its first places
 pub record LineTook (s : List ℕ) (more : ℕ) (l : Line) : Type 0 where
   pub took : Took s (numbersText (getD (l .numbers) 0 0) (numbersIn more 1 (l .numbers))) (l .size)
-  pub small : Small (numbersIn (suc more) 0 (l .numbers))
+  pub digits : Few (numbersIn (suc more) 0 (l .numbers))
 
 -- the same from place i on, after `at` bytes; the places before i are those of `got`
 record TookFrom (s : List ℕ) (more i at : ℕ) (got : List ℕ) (l : Line) : Type 0 where
   bytes : ℕ
   sized : l .size ≡ at + bytes
   took : Took s (numbersText (getD (l .numbers) i 0) (numbersIn more (i + 1) (l .numbers))) bytes
-  small : Small (numbersIn (suc more) i (l .numbers))
+  digits : Few (numbersIn (suc more) i (l .numbers))
   kept : (j : ℕ) → j < i → getD (l .numbers) j 0 ≡ getD got j 0
 
 abbrev TellsFrom : List ℕ → ℕ → ℕ → ℕ → List ℕ → Line → Type 0
@@ -117,7 +113,7 @@ from-was line zero i at got s h =
       bytes = k;
       sized = refl;
       took = rw here (w .0);
-      small = rw here (w .1, tt);
+      digits = rw here (few v .0 (w .1), tt);
       kept = λ j g. getD-set-other got i j v 0 (λ (q : j ≡ i). omega arith);
     })
 from-was line (suc more) i at got s h =
@@ -130,7 +126,7 @@ from-was line (suc more) i at got s h =
       bytes = k + r .bytes;
       sized = omega (arith, r .sized);
       took = rw here (took-both (w .0) (r .took));
-      small = rw here (w .1, r .small);
+      digits = rw here (few v .0 (w .1), r .digits);
       kept = λ j g. r .kept j (omega arith) ∙ getD-set-other got i j v 0 (λ (q : j ≡ i). omega arith);
     })
 
@@ -139,7 +135,7 @@ pub numbers-was : (line more : ℕ) (s : List ℕ) (l : Line) → more < 4 → n
 numbers-was line more s l h e z =
     let r = rw e at (from-was line more 0 0 (replicate 4 0) s (omega arith)) z in
     let sized : l .size ≡ r .bytes = omega (arith, r .sized) in
-    record { took = rw sized (r .took); small = r .small }
+    record { took = rw sized (r .took); digits = r .digits }
 
 -- any other is refused
 abbrev FailsAt : ℕ → Line → Type 0
@@ -155,57 +151,21 @@ from-fails line (suc more) i at got s =
 pub numbers-fail : (line more : ℕ) (s : List ℕ) (l : Line) → numbersAt line more s ≡ l → l .code ≢ 0 → l ≡ lineFails line
 numbers-fail line more s l e = rw e at (from-fails line more 0 0 (replicate 4 0) s)
 
-from-reads : (line v : ℕ) (ws : List ℕ) (i at : ℕ) (got s : List ℕ) → Small (v ∷ ws)
+from-reads : (line v : ℕ) (ws : List ℕ) (i at : ℕ) (got s : List ℕ) → Few (v ∷ ws)
     → numbersFrom line (length ws) i at got (numbersText v ws ++ s) ≡ lineOf line (sets got i (v ∷ ws)) (at + length (numbersText v ws))
 unfolding numbersFrom numbersText
-from-reads line v [] i at got s h = rw (number-reads numberBound newline (omega arith) v s (h .0))
+from-reads line v [] i at got s h = rw (number-reads numberBound newline (omega arith) v s (few v .1 (h .0)))
 from-reads line v (w ∷ ws) i at got s h =
     let size : at + length (numberText comma v) + length (numbersText w ws) ≡ at + length (numberText comma v ++ numbersText w ws) =
     omega (arith, length-append (numberText comma v) (numbersText w ws)) in
     rw (append-assoc (numberText comma v) (numbersText w ws) s)
-    (rw (number-reads numberBound comma (omega arith) v (numbersText w ws ++ s) (h .0), drop-append-seam, ← size, add-one i)
+    (rw (number-reads numberBound comma (omega arith) v (numbersText w ws ++ s) (few v .1 (h .0)), drop-append-seam, ← size, add-one i)
     (from-reads line w ws (suc i) (at + length (numberText comma v)) (set got i v) s (h .1)))
 
 -- a line that is written is read: its numbers in the first places, and zeros after them
-pub numbers-reads : (line v : ℕ) (ws s : List ℕ) → Small (v ∷ ws)
+pub numbers-reads : (line v : ℕ) (ws s : List ℕ) → Few (v ∷ ws)
     → numbersAt line (length ws) (numbersText v ws ++ s) ≡ lineOf line (sets (replicate 4 0) 0 (v ∷ ws)) (length (numbersText v ws))
 numbers-reads line v ws s h = rw zero-add at (from-reads line v ws 0 0 (replicate 4 0) s h)
-
--- The parameters: line 2 is such a line
-
-pub record Below (k : Parameters) : Type 0 where
-  pub n : k .n < numberBound
-  pub a : k .a < numberBound
-  pub b : k .b < numberBound
-  pub c : k .c < numberBound
-
--- below the bound, and of few digits
-few : (v : ℕ) → (v < numberBound) ↔ (digitsOf v ≤ 8)
-few = bounds-are-digits .number
-
-pub short-values : (k : Parameters) → Below k → Short k
-short-values k h = omega (arith, few (k .n) .0 (h .n), few (k .a) .0 (h .a), few (k .b) .0 (h .b), few (k .c) .0 (h .c))
-
-values-below : (k : Parameters) → Short k → Below k
-values-below k h = record {
-  n = few (k .n) .1 (omega arith);
-  a = few (k .a) .1 (omega arith);
-  b = few (k .b) .1 (omega arith);
-  c = few (k .c) .1 (omega arith);
-}
-
-module _ (line : ℕ) (s : List ℕ) (l : Line) (e : numbersAt line 3 s ≡ l) (z : l .code ≡ 0) where
-  pub values-was : Took s (valuesText (parametersIn (l .numbers))) (l .size)
-  unfolding valuesText
-  values-was = numbers-was line 3 s l (omega arith) e z .took
-
-  pub values-short : Short (parametersIn (l .numbers))
-  values-short = let h = numbers-was line 3 s l (omega arith) e z .small in short-values (parametersIn (l .numbers)) (omega arith)
-
-pub values-reads : (line : ℕ) (k : Parameters) (s : List ℕ) → Short k
-    → numbersAt line 3 (valuesText k ++ s) ≡ lineOf line (k .n ∷ k .a ∷ k .b ∷ k .c ∷ []) (length (valuesText k))
-unfolding valuesText
-values-reads line k s h = let v = values-below k h in numbers-reads line (k .n) (k .a ∷ k .b ∷ k .c ∷ []) s (omega arith)
 
 -- A step
 

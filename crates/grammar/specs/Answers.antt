@@ -6,7 +6,7 @@ use mathlib.Core.Logic.{_≢_, _↔_}
 use mathlib.Core.List.{List}
 use lib.ListN.{length, take, drop}
 use Rattle.model.specs.declared.Parameters.{Parameters}
-use Rattle.model.specs.States.{parametersOf}
+use Rattle.model.specs.States.{noParameters}
 use Rattle.model.specs.Answers.{answerOf}
 use Rattle.model.specs.Texts.{Event, traceText}
 use Rattle.model.specs.Readings.{Lists, room, stored, Read, readOf}
@@ -43,7 +43,7 @@ ReadIff = (text : List ℕ) (l : Lists)
 -- [6.110] a refusal with this code that is reported at one line tells its caller another: none for 11 and 12
 pub data TellsLine : ℕ → ℕ → ℕ → Type 0 where
   of-count : TellsLine 11 2 0
-  of-limits : TellsLine 12 2 0
+  of-limits : {line : ℕ} → TellsLine 12 line 0
   of-names : {line : ℕ} → TellsLine 13 line line
   of-line : {line : ℕ} → TellsLine 14 line line
   of-text : TellsLine 15 0 0
@@ -57,7 +57,7 @@ pub data Unreadable (text : List ℕ) (l : Lists) : ℕ → ℕ → Type 0 where
 -- [6.110] [6.140] what a refused reading gives back: its answer, 0 for each parameter, and the lists as they were lent
 pub record RefusedRead (l : Lists) (code time : ℕ) (r : Read) : Type 0 where
   pub answer : r .reading .answer ≡ answerOf code 0 time
-  pub parameters : r .reading .parameters ≡ parametersOf 0 0 0 0
+  pub parameters : r .reading .parameters ≡ noParameters
   pub lists-stay : r .kept ≡ l
 
 -- [6.90] [6.110] [6.133] [6.140] [6.195] a reading is refused exactly so

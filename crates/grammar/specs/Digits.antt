@@ -4,6 +4,7 @@ use Prim.Native.Nat.{ℕ, _≤_, _<_, _^_}
 use mathlib.Core.Path.{_≡_}
 use mathlib.Core.Logic.{_↔_}
 use mathlib.Core.Bool.{true}
+use mathlib.Core.List.{List, [], _∷_}
 use lib.ListN.{length}
 use Rattle.model.specs.Acts.{lastAct}
 use Rattle.model.specs.Texts.{decimal, timeBound, numberBound, Event, hasForm}
@@ -20,6 +21,11 @@ DigitsIffBelow = (d v : ℕ) → 1 ≤ d → (digitsOf v ≤ d) ↔ (v < 10 ^ d)
 pub record BoundsAreDigits : Type 0 where
   pub time : (v : ℕ) → (v < timeBound) ↔ (digitsOf v ≤ 13)
   pub number : (v : ℕ) → (v < numberBound) ↔ (digitsOf v ≤ 8)
+
+-- [6.65] [6.120] each of these, none of which is a time, has no more digits than it may have
+abbrev pub Few : List ℕ → Type 0
+Few [] = Unit
+Few (v ∷ vs) = (digitsOf v ≤ 8) × Few vs
 
 -- [6.160] a step that can be written
 pub record HasForm (e : Event) : Type 0 where

@@ -1,14 +1,16 @@
--- Section 6 of the specification, the grammar from a second side: which texts are read, said by what is written. Assumes nothing.
+-- Section 6 of the specification, the grammar from a second side: which texts are read, said by what is written, in the shape that is written
+-- and in the former one. Assumes nothing.
 use Prim.Native.Nat.{ℕ, _+_, _≤_}
 use mathlib.Core.Path.{_≡_}
 use mathlib.Core.Logic.{_↔_}
 use mathlib.Core.Bool.{true}
-use mathlib.Core.List.{List}
+use mathlib.Core.List.{List, _++_}
 use lib.ListN.{length}
 use Rattle.model.specs.declared.Parameters.{Parameters}
 use Rattle.model.specs.Acts.{lastAct}
 use Rattle.model.specs.States.{parametersStand}
-use Rattle.model.specs.Texts.{words, Event, firstLine, traceText, textLimit}
+use Rattle.model.specs.Texts.{words, Event, headText, firstLine, eventsText, traceText, textLimit}
+use Rattle.model.specs.Texts.{formerParameters, formerHeadText, formerFirstLine}
 use Rattle.model.specs.Readings.{trace, traceOf}
 use Rattle.model.specs.Writings.{formlessFrom}
 
@@ -19,11 +21,20 @@ pub record Formed (k : Parameters) (events : List Event) : Type 0 where
   pub forms : formlessFrom (firstLine k) events ≡ 0
   pub short : length (traceText k events) ≤ textLimit
 
+-- [6.20] [6.45] [6.50] the first lines of a trace with these parameters, in either shape, and the line of its first step
+pub data FirstLines : Parameters → List ℕ → ℕ → Type 0 where
+  new : (k : Parameters) → FirstLines k (headText k) (firstLine k)
+  former : (n a b c : ℕ) → FirstLines (formerParameters n a b c) (formerHeadText n a b c) formerFirstLine
+
 -- [6.190] a text says this trace, whose first step stands on this line
 pub record Says (text : List ℕ) (line : ℕ) (k : Parameters) (events : List Event) : Type 0 where
-  pub line-is : line ≡ firstLine k
-  pub text-is : text ≡ traceText k events
-  pub formed : Formed k events
+  pub head : List ℕ
+  pub shape : FirstLines k head line
+  pub text-is : text ≡ head ++ eventsText events
+  pub stand : parametersStand k ≡ true
+  -- [6.160] as above
+  pub forms : formlessFrom line events ≡ 0
+  pub short : length text ≤ textLimit
 
 -- [6.190] [6.125] of a text that is read
 abbrev pub ReadExactly : Type 0

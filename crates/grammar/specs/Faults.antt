@@ -4,54 +4,70 @@ use Prim.Native.Nat.{ℕ, _+_, _≤_, _<_}
 use mathlib.Core.Path.{_≡_}
 use mathlib.Core.Logic.{_≢_, _↔_}
 use mathlib.Core.Bool.{true, false}
-use mathlib.Core.List.{List, _++_}
+use mathlib.Core.List.{List, [], _∷_, _++_}
 use lib.ListN.{length}
 use Rattle.model.specs.declared.Parameters.{Parameters}
-use Rattle.model.specs.States.{countStands, limitsStand, parametersStand}
-use Rattle.model.specs.Texts.{Event, valueNames, valuesText, eventNames, eventText, headText, firstLine, eventsText, textLimit}
+use Rattle.model.specs.States.{parametersOf, limitsIn, countStands, limitsStand, parametersStand}
+use Rattle.model.specs.Texts.{Event, numbersText, valueNames, valuesText, limitNames, limitsText, eventNames, eventText, eventsText, textLimit}
+use Rattle.model.specs.Texts.{formerNames, formerParameters, formerValuesText}
 use Rattle.model.specs.Readings.{refused, traceOf}
 use Rattle.model.specs.Writings.{formlessFrom}
-use Rattle.grammar.specs.Digits.{digitsOf, HasForm}
+use Rattle.grammar.specs.Digits.{digitsOf, Few, HasForm}
+use Rattle.grammar.specs.Exact.{FirstLines}
 
 -- helper: a text does not start with this one
 abbrev pub Differs : List ℕ → List ℕ → Type 0
 Differs start text = (more : List ℕ) → text ≢ start ++ more
 
--- [6.65] [6.120] each is written with at most eight digits
-pub record Short (k : Parameters) : Type 0 where
-  pub n : digitsOf (k .n) ≤ 8
-  pub a : digitsOf (k .a) ≤ 8
-  pub b : digitsOf (k .b) ≤ 8
-  pub c : digitsOf (k .c) ≤ 8
+-- [6.20] [6.30] [6.45] line 1 of either shape, and how many numbers follow n on line 2
+pub data Shape : List ℕ → ℕ → Type 0 where
+  new : Shape valueNames 2
+  former : Shape formerNames 3
 
--- helper: a text that is not too long and starts with these values, each with no more digits than it may have
-pub record StartsWithValues (text : List ℕ) (k : Parameters) (rest : List ℕ) : Type 0 where
+-- helper: a text that is not too long and starts with this line 1 and these numbers on line 2, each with no more digits than it may have
+pub record StartsWithValues (text first : List ℕ) (n : ℕ) (others rest : List ℕ) : Type 0 where
   pub short : length text ≤ textLimit
-  pub is : text ≡ valueNames ++ (valuesText k ++ rest)
+  pub is : text ≡ first ++ (numbersText n others ++ rest)
   -- [6.120]
-  pub digits : Short k
+  pub digits : Few (n ∷ others)
+
+-- [6.34] [6.36] [6.45] [6.120] the lines that these parameters stand on, in either shape, and the last of these lines
+pub data LimitLines : Parameters → List ℕ → ℕ → Type 0 where
+  new : (n b c : ℕ) (a : List ℕ) → length a ≡ n → Few (n ∷ b ∷ c ∷ a)
+      → LimitLines (parametersOf n b c (limitsIn a)) (valueNames ++ (valuesText n b c ++ (limitNames ++ limitsText 1 a))) (n + 3)
+  former : (n a b c : ℕ) → Few (n ∷ a ∷ b ∷ c ∷ []) → LimitLines (formerParameters n a b c) (formerNames ++ formerValuesText n a b c) 2
 
 -- [6.195] [6.90] [7.35] The number of a refusal and the line that it is reported at, each with what it says of the text; what would be
 -- refused before it is ruled out.
 pub data Fault (text : List ℕ) : ℕ → ℕ → Type 0 where
   -- [4.15]
   long : textLimit < length text → Fault text 15 0
-  -- [4.13] [6.20] [6.15] [6.100] line 1
-  names : length text ≤ textLimit → Differs valueNames text → Fault text 13 1
-  -- [4.14] [6.30] [6.15] [6.100] line 2
-  values : (rest : List ℕ) → length text ≤ textLimit → text ≡ valueNames ++ rest
-      → ((k : Parameters) → Short k → Differs (valuesText k) rest) → Fault text 14 2
+  -- [4.13] [6.20] [6.45] [6.15] [6.100] line 1, of neither shape
+  names : length text ≤ textLimit → Differs valueNames text → Differs formerNames text → Fault text 13 1
+  -- [4.14] [6.30] [6.45] [6.15] [6.100] line 2
+  values : (first rest : List ℕ) (more : ℕ) → Shape first more → length text ≤ textLimit → text ≡ first ++ rest
+      → ((n : ℕ) (others : List ℕ) → length others ≡ more → Few (n ∷ others) → Differs (numbersText n others) rest) → Fault text 14 2
   -- [4.11]
-  count : (k : Parameters) (rest : List ℕ) → StartsWithValues text k rest → countStands k ≡ false → Fault text 11 2
-  -- [4.12]
-  limits : (k : Parameters) (rest : List ℕ) → StartsWithValues text k rest → countStands k ≡ true → limitsStand k ≡ false → Fault text 12 2
-  -- [4.13] [6.40] [6.15] [6.100] line 3
-  steps : (k : Parameters) (rest : List ℕ) → StartsWithValues text k rest → parametersStand k ≡ true → Differs eventNames rest → Fault text 13 3
+  count : (first : List ℕ) (n : ℕ) (others rest : List ℕ) → Shape first (length others) → StartsWithValues text first n others rest
+      → countStands n ≡ false → Fault text 11 2
+  -- [4.13] [6.32] [6.15] [6.100] line 3 of the new shape
+  limit-names : (n b c : ℕ) (rest : List ℕ) → StartsWithValues text valueNames n (b ∷ c ∷ []) rest → countStands n ≡ true
+      → Differs limitNames rest → Fault text 13 3
+  -- [4.14] [6.34] [6.15] [6.100] the line of a process: the lines before it are those of the processes before it, which have these values
+  limit : (n b c : ℕ) (a rest : List ℕ) → StartsWithValues text valueNames n (b ∷ c ∷ []) (limitNames ++ (limitsText 1 a ++ rest))
+      → countStands n ≡ true → Few a → length a < n
+      → ((x : ℕ) → digitsOf x ≤ 8 → Differs (numbersText (length a + 1) (x ∷ [])) rest) → Fault text 14 (length a + 4)
+  -- [4.12] [6.36]
+  limits : (k : Parameters) (first rest : List ℕ) (line : ℕ) → LimitLines k first line → length text ≤ textLimit → text ≡ first ++ rest
+      → countStands (k .n) ≡ true → limitsStand k ≡ false → Fault text 12 line
+  -- [4.13] [6.40] [6.15] [6.100] the line after those
+  steps : (k : Parameters) (first rest : List ℕ) (line : ℕ) → LimitLines k first line → length text ≤ textLimit → text ≡ first ++ rest
+      → parametersStand k ≡ true → Differs eventNames rest → Fault text 13 (line + 1)
   -- [4.14] [6.50] [6.55] [6.15] the lines before it are those of steps that have a form
-  step : (k : Parameters) (events : List Event) (rest : List ℕ) → length text ≤ textLimit
-      → text ≡ headText k ++ (eventsText events ++ rest) → parametersStand k ≡ true
-      → formlessFrom (firstLine k) events ≡ 0 → 0 < length rest → ((e : Event) → HasForm e → Differs (eventText e) rest)
-      → Fault text 14 (firstLine k + length events)
+  step : (k : Parameters) (head : List ℕ) (line : ℕ) (events : List Event) (rest : List ℕ) → FirstLines k head line → length text ≤ textLimit
+      → text ≡ head ++ (eventsText events ++ rest) → parametersStand k ≡ true
+      → formlessFrom line events ≡ 0 → 0 < length rest → ((e : Event) → HasForm e → Differs (eventText e) rest)
+      → Fault text 14 (line + length events)
 
 -- [6.195] a text is refused with a number and a line exactly if it has that fault
 abbrev pub RefusedExactly : Type 0

@@ -14,6 +14,7 @@ use Rattle.lists.specs.Demand3.{SoundIsNotEnough, EveryTableSound}
 use Rattle.model.proofs.Tests.{if-eq}
 use Rattle.model.proofs.Folds.{end-append}
 use Rattle.theory.proofs.Soundness.{sound-iff-plain, two-critical-may-be-sound}
+use Rattle.theory.proofs.OwnLimits.{largest-stands}
 use Rattle.theory.proofs.Lowest.{accepted-tells}
 use Rattle.lists.proofs.Exclusion.{one-owner}
 use Rattle.lists.proofs.Wait.{Room}
@@ -35,9 +36,11 @@ owed-within {s = s} {B = B} room g ds before during after w e span stays =
     let g′ = run-guarded before g in
     rw (end-append callOf handedOn s before during) (wait-within B g′ span stays (room (runOf s before) w during g′ span))
 
--- 2c + 5a leaves room; as a < c, even 2c + 4a would
+-- 2c + 5a leaves room, with the largest a; as a < c, even 2c + 4a would
 owed-room : {k : Parameters} → LeavesRoom k (owedWait k)
-owed-room s w ds g span = omega (arith, parameters-stand (g .reached) .limits, view-past (g .reached .sound) w)
+owed-room {k} s w ds g span =
+    let stand = parameters-stand (g .reached) in
+    omega (arith, stand .limits, largest-stands k stand, view-past (g .reached .sound) w)
 
 -- One critical process
 

@@ -8,6 +8,7 @@ use Rattle.model.specs.declared.State.{State}
 use Rattle.model.specs.Answers.{stepOf}
 use Rattle.model.specs.Facts.{Accepted, IsFresh}
 use Rattle.model.specs.Calls.{Call, tableOf, runOf}
+use Rattle.theory.proofs.OwnLimits.{largest-stands}
 use Rattle.lists.proofs.View.{Move, Timely, Kept}
 use Rattle.lists.proofs.Exclusion.{Inv, fresh-inv, move-inv}
 use Rattle.lists.proofs.StateView.{viewOf, lockOf, fresh-view, view-timely}
@@ -32,12 +33,12 @@ module _ {k : Parameters} {s s′ : State} {act p m : ℕ} (g : Guarded k s) (st
   step-move = view-moves (g .reached .sound) (step .allowed) (step .changed)
 
   pub step-kept : Kept (lockOf k) (viewOf s) p m
-  step-kept = subst (λ (j : Parameters). Kept (lockOf j) (viewOf s) p m) (g .reached .parameters) (limits-kept (step .allowed))
+  step-kept = subst (λ (j : Parameters). Kept (lockOf j) (viewOf s) p m) (g .reached .parameters) (limits-kept (step .allowed) (g .reached .sound))
 
   pub step-guarded : Guarded k s′
   step-guarded = record {
     reached = step-reached (g .reached) step;
-    inv = move-inv step-move (g .inv) (parameters-stand (g .reached) .limits .apart) step-kept;
+    inv = move-inv step-move (g .inv) (largest-stands k (parameters-stand (g .reached)) .apart) step-kept;
   }
 
 -- Calls
@@ -58,4 +59,4 @@ module _ {k : Parameters} {s : State} where
 module _ {k : Parameters} {s : State} (g : Guarded k s) where
   pub timely-now : Timely (lockOf k) (viewOf s) (s .clock)
   timely-now = subst (λ (j : Parameters). Timely (lockOf j) (viewOf s) (s .clock)) (g .reached .parameters)
-      (view-timely (g .reached .sound .in-time))
+      (view-timely (g .reached .sound) (g .reached .sound .in-time))

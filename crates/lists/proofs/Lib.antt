@@ -13,3 +13,4 @@ pub mod Progress
 pub mod Spans
 pub mod Demand3
 pub mod Withdrawals
+pub mod SlowProcess

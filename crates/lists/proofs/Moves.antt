@@ -70,8 +70,8 @@ module _ {s : State} {act p m : ℕ} (allowed : Allowed s act p m) where
       (λ a. rw (location-of s p (a .some)) (from-left (a .from)))
       (allowed .turn)
 
-  pub limits-kept : Kept (lockOf (s .parameters)) (viewOf s) p m
-  limits-kept = record { timely = view-timely (allowed .in-time); released = act-left .released }
+  pub limits-kept : Sound s → Kept (lockOf (s .parameters)) (viewOf s) p m
+  limits-kept sound = record { timely = view-timely sound (allowed .in-time); released = act-left .released }
 
 -- The move
 

@@ -83,3 +83,7 @@ in-time (Entering t) h = omega (arith, h _ Deadline.entering)
 in-time Critical h = omega arith
 in-time (Resetting t) h = omega (arith, h _ Deadline.resetting)
 in-time (Leaving t) h = omega (arith, h _ Deadline.leaving)
+
+-- with a longer time than its own
+pub later : {a a′ c m : ℕ} {l : Location} → a ≤ a′ → InTime a c m l → InTime a′ c m l
+later h k = record { short = λ r g e. omega (arith, k .short r g e); long = k .long }

@@ -7,12 +7,13 @@ use Rattle.model.specs.declared.Location.{Location}
 use Rattle.model.specs.declared.Location.the-variants.{Remainder}
 use Rattle.model.specs.declared.Parameters.{Parameters}
 use Rattle.model.specs.declared.State.{State}
-use Rattle.model.specs.States.{sinceOf, entryOf}
+use Rattle.model.specs.States.{largestLimit, sinceOf, entryOf}
 use Rattle.model.specs.Facts.{IsCritical, IsTrying}
 use Rattle.theory.specs.Soundness.{Sound, Fresh}
 use Rattle.theory.specs.Lateness.{AllInTime}
+use Rattle.theory.proofs.OwnLimits.{largest-bounds}
 use Rattle.theory.proofs.Locations.{past-iff}
-use Rattle.lists.proofs.Ranks.{atTesting, atEntering, atCritical, rankOf, critical-at, trying-between, InTime, in-time}
+use Rattle.lists.proofs.Ranks.{atTesting, atEntering, atCritical, rankOf, critical-at, trying-between, InTime, in-time, later}
 use Rattle.lists.proofs.View.{Lock, View, Owns, Timely}
 use Rattle.lists.proofs.View.{Fresh as FreshView}
 
@@ -31,9 +32,9 @@ viewOf s = record {
   since = λ j. sinceOf (locationOf s j);
 }
 
--- from a check that finds its own word one act, of at most a, leads to the critical place
+-- the largest a stands for each process's own; from a check that finds its own word one act, of at most a, leads to the critical place
 abbrev pub lockOf : Parameters → Lock
-lockOf k = record { a = k .a; b = k .b; c = k .c; tail = k .a }
+lockOf k = record { a = largestLimit k; b = k .b; c = k .c; tail = largestLimit k }
 
 pub location-of : (s : State) (i : ℕ) → 1 ≤ i → locationOf s i ≡ entryOf s i .location
 location-of s zero h = absurd (omega arith)
@@ -61,10 +62,11 @@ pub view-past : {s : State} → Sound s → (j : ℕ) → viewOf s .since j ≤ 
 view-past sound zero = omega arith
 view-past {s} sound (suc j) = past-iff (s .clock) (locationOf s (suc j)) .1 (sound .past (suc j))
 
-module _ {s : State} {m : ℕ} (h : AllInTime s m) where
-  process-in-time : (j : ℕ) → InTime (s .parameters .a) (s .parameters .c) m (locationOf s j)
+module _ {s : State} {m : ℕ} (sound : Sound s) (h : AllInTime s m) where
+  process-in-time : (j : ℕ) → InTime (largestLimit (s .parameters)) (s .parameters .c) m (locationOf s j)
   process-in-time zero = omega arith
-  process-in-time (suc j) = in-time (locationOf s (suc j)) (λ d k. h (suc j) d (record { from = omega arith; is = k }))
+  process-in-time (suc j) = later (largest-bounds (s .parameters) (sound .parameters) (suc j) (omega arith))
+      (in-time (locationOf s (suc j)) (λ d k. h (suc j) d (record { from = omega arith; is = k })))
 
   pub view-timely : Timely (lockOf (s .parameters)) (viewOf s) m
   view-timely = record {

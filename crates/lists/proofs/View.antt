@@ -11,6 +11,7 @@ use Rattle.lists.proofs.Ranks.{atRemainder, atTesting, atSetting, atChe
 
 -- the limits
 pub record Lock : Type 0 where
+  -- the largest a
   pub a : ℕ
   pub b : ℕ
   pub c : ℕ

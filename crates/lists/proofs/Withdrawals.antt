@@ -8,7 +8,7 @@ use native.Mathlib.Omega.{arith}
 use Rattle.model.specs.declared.State.{State}
 use Rattle.model.specs.declared.Outcome.{Outcome}
 use Rattle.model.specs.Acts.{withdrawAct, tryAct, leaves}
-use Rattle.model.specs.States.{limitIn, entriesSound, soundOf, entryOf}
+use Rattle.model.specs.States.{limitsIn, ownStand, limitsStand, greatest, limitAt, entriesSound, soundOf, entryOf}
 use Rattle.model.specs.Actions.{transitionOf, effect}
 use Rattle.model.specs.Answers.{firstBy, firstDeadline, criticalBy, criticalOf, stepOf, freshOf}
 use Rattle.model.specs.Facts.{Accepted, IsFresh, IsCritical}
@@ -86,23 +86,23 @@ owed-if-nobody-withdraws s fresh ds nobody before during after w e span _ =
 -- The examples
 
 example-fresh : IsFresh exampleTable
-unfolding freshOf
+unfolding freshOf limitsStand ownStand limitsIn
 example-fresh = record { parameters = exampleTable .parameters; accepted = refl; is = refl }
 
 -- neither process is critical after the two tries, nor after the first
 none-after-both : (i : ℕ) → IsCritical (runOf exampleTable bothTry) i → ⊥
-unfolding endBy callOf stepOf soundOf entriesSound firstDeadline firstBy entryOf leaves transitionOf effect
-    criticalOf criticalBy limitIn
+unfolding endBy callOf stepOf soundOf limitsStand ownStand limitsIn entriesSound firstDeadline firstBy entryOf leaves transitionOf effect
+    criticalOf criticalBy limitAt
 none-after-both = accepted-tells (stepOf exampleTable tryAct 1 0 .state) tryAct 2 0 refl .none .0 refl
 
 none-after-one : (i : ℕ) → IsCritical (runOf exampleTable (exampleStep tryAct 1 0 ∷ [])) i → ⊥
-unfolding endBy callOf stepOf soundOf entriesSound firstDeadline firstBy entryOf leaves transitionOf effect
-    criticalOf criticalBy limitIn
+unfolding endBy callOf stepOf soundOf limitsStand ownStand limitsIn entriesSound firstDeadline firstBy entryOf leaves transitionOf effect
+    criticalOf criticalBy limitAt
 none-after-one = accepted-tells exampleTable tryAct 1 0 refl .none .0 refl
 
 pub all-withdraw : AllWithdraw
-unfolding endBy resultsBy callOf stepOf soundOf entriesSound firstDeadline firstBy entryOf leaves transitionOf effect
-    criticalOf criticalBy limitIn
+unfolding endBy resultsBy callOf stepOf soundOf limitsStand ownStand limitsIn entriesSound firstDeadline firstBy entryOf leaves transitionOf effect
+    criticalOf criticalBy limitAt greatest
 all-withdraw = record {
   fresh = example-fresh;
   accepted = refl;
@@ -118,8 +118,8 @@ all-withdraw = record {
 }
 
 pub one-stays : OneStays
-unfolding endBy resultsBy callOf stepOf soundOf entriesSound firstDeadline firstBy entryOf leaves transitionOf effect
-    criticalOf criticalBy limitIn
+unfolding endBy resultsBy callOf stepOf soundOf limitsStand ownStand limitsIn entriesSound firstDeadline firstBy entryOf leaves transitionOf effect
+    criticalOf criticalBy limitAt
 one-stays = record {
   answers = refl;
   span = record {
@@ -138,8 +138,8 @@ no-entry s zero m = tt
 no-entry s (suc k) m = inr (λ e. omega (arith, e .crit), inr (λ e. omega (arith, e .crit), no-entry _ k (m + 5)))
 
 pub coming-back : ComingBack
-unfolding comesBack endBy callOf stepOf soundOf entriesSound firstDeadline firstBy entryOf leaves transitionOf effect
-    criticalOf criticalBy limitIn
+unfolding comesBack endBy callOf stepOf soundOf limitsStand ownStand limitsIn entriesSound firstDeadline firstBy entryOf leaves transitionOf effect
+    criticalOf criticalBy limitAt greatest
 coming-back = record {
   fresh = example-fresh;
   clock = omega arith;

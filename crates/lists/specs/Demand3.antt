@@ -9,7 +9,7 @@ use Rattle.model.specs.declared.Parameters.{Parameters}
 use Rattle.model.specs.declared.State.{State}
 use Rattle.model.specs.declared.Outcome.{Outcome}
 use Rattle.model.specs.declared.Recorded.{Recorded}
-use Rattle.model.specs.States.{lastTime, soundOf}
+use Rattle.model.specs.States.{largestLimit, lastTime, soundOf}
 use Rattle.model.specs.Acts.{waitAct, critAct, withdrawAct}
 use Rattle.model.specs.Answers.{stepOf}
 use Rattle.model.specs.Facts.{Accepted, IsFresh, IsCritical, IsTrying, LeadsOn, HasDeadline}
@@ -56,9 +56,9 @@ OwedIf owed bound s ds = (before during after : List Call) (w : ℕ) → ds ≡ 
 abbrev pub OwedWithin : ℕ → State → List Call → Type 0
 OwedWithin bound s ds = OwedIf NotWithdrawn bound s ds
 
--- [8.80] the bound
+-- [8.80] [2.92] the bound
 abbrev pub owedWait : Parameters → ℕ
-owedWait k = 2 * k .c + 5 * k .a
+owedWait k = 2 * k .c + 5 * largestLimit k
 
 -- One critical process
 

@@ -7,7 +7,7 @@ use mathlib.Core.Bool.{false}
 use mathlib.Core.List.{List, [], _∷_, _++_, map}
 use lib.ListN.{length}
 use Rattle.model.specs.declared.State.{State}
-use Rattle.model.specs.States.{parametersOf, initial}
+use Rattle.model.specs.States.{equalLimits, parametersOf, initial}
 use Rattle.model.specs.Acts.{waitAct, tryAct, withdrawAct}
 use Rattle.model.specs.Facts.{Accepted, IsFresh, IsTrying}
 use Rattle.model.specs.Summaries.{newStatistics, codeOf}
@@ -53,7 +53,7 @@ exampleStep act p m = record { recorded = false; action = act; process = p; time
 
 -- helper: the table that the examples start from
 abbrev pub exampleTable : State
-exampleTable = initial (parametersOf 2 5 8 12)
+exampleTable = initial (parametersOf 2 8 12 (equalLimits 2 5))
 
 -- helper: the wait that is owed there
 abbrev pub exampleWait : ℕ

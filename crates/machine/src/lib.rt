@@ -17,9 +17,9 @@ use rules::survey::empty;
 use rules::survey::note;
 use rules::survey::scene_of;
 use values::answer_with;
-use values::count_stands;
-use values::limit_of;
-use values::limits_stand;
+use values::limits::count_stands;
+use values::limits::limit_of;
+use values::limits::parameters_stand;
 use values::no_parameters;
 ghost use mathlib.Core.Path.{_≡_};
 ghost use Prim.Native.Nat.{ℕ, _<_};
@@ -54,13 +54,13 @@ fn initial_state(parameters: Parameters) -> State
 pub fn fresh(parameters: Parameters) -> Outcome
     ensures { λ r. ⌜ r ≡ freshOf parameters ⌝ }
 {
-    if !count_stands(parameters) {
+    if !count_stands(parameters.n) {
         return Outcome {
             answer: answer_with(11, 0, 0),
             state: initial_state(no_parameters()),
         };
     }
-    if !limits_stand(parameters) {
+    if !parameters_stand(parameters.n, parameters.b, parameters.c, &parameters.a) {
         return Outcome {
             answer: answer_with(12, 0, 0),
             state: initial_state(no_parameters()),
@@ -73,25 +73,35 @@ pub fn fresh(parameters: Parameters) -> Outcome
 }
 
 // [3.45] [4.80] [4.83] [21.40] [21.50] [21.110] One action of a process at a time. A single pass over the entries serves soundness, the
-// first deadline and the critical process; it stands here, as each hand-over of a state copies 1,584 bytes.
+// first deadline and the critical process; it stands here, as each hand-over of a state copies 2,344 bytes. The values of a are lent where
+// they lie, for the same reason.
 pub fn step(mut state: State, action: u64, process: u64, time: u64) -> Outcome
     ensures { λ r. ⌜ r ≡ stepOf state action process time ⌝ }
 {
-    let parameters = state.parameters;
-    if !numbers_stand(parameters, state.clock, state.word) {
+    let n = state.parameters.n;
+    let b = state.parameters.b;
+    let c = state.parameters.c;
+    let clock = state.clock;
+    if !numbers_stand(n, b, c, &state.parameters.a, clock, state.word) {
         return Outcome {
             answer: answer_with(1, 0, 0),
             state: state,
         };
     }
-    let scene = scene_of(parameters, state.clock, process);
+    let scene = scene_of(n, c, clock, process);
     let mut found = empty();
     // counted by the process, not by its place: else the test on n works out one from the other at each busy entry
     let mut at: u64 = 1;
     while at <= 96 {
         let entry = state.processes[(at - 1) as usize];
         let location = entry.location;
-        found = note(found, scene, at, location, limit_of(parameters, at));
+        found = note(
+            found,
+            scene,
+            at,
+            location,
+            limit_of(&state.parameters.a, at),
+        );
         if found.faulty != 0 {
             break;
         }
@@ -106,7 +116,7 @@ pub fn step(mut state: State, action: u64, process: u64, time: u64) -> Outcome
         found,
         scene,
         stage_of(own),
-        check_from(own, parameters.b),
+        check_from(own, b),
         transition,
         action,
         time,

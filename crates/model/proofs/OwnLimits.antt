@@ -10,7 +10,7 @@ use lib.ListN.{length, getD, take, replicate}
 use borrow.Author.Tests.{leb-true, leb-false, le-leb}
 use Rattle.model.specs.declared.Parameters.{Parameters}
 use Rattle.model.specs.States.{limitStands, ownStand, limitsStand, limitAt, limitIn, greatest, largestLimit}
-use Rattle.model.proofs.Tests.{by-test, and-true-iff, tests}
+use Rattle.model.proofs.Tests.{by-test, if-lt, and-true-iff, tests}
 
 -- What stands
 
@@ -51,6 +51,18 @@ pub past-end : (a : List ℕ) (j : ℕ) → length a ≤ j → getD a j 0 ≡ 0
 past-end [] j h = refl
 past-end (x ∷ a) zero h = absurd (omega arith)
 past-end (x ∷ a) (suc j) h = past-end a j (omega arith)
+
+-- whichever process has it, no a is past what a check may take
+pub limit-fits : (k : Parameters) → limitsStand k ≡ true → (i : ℕ) → limitIn k i ≤ 10_000_000
+unfolding limitAt
+limit-fits k e i = let parts = limits-parts k e in
+    if-lt (i - 1) (length (k .a))
+    (λ h. at-most (k .n) (k .b) (1 + (i - 1)) (getD (k .a) (i - 1) 0) (own-at (k .n) (k .b) 1 (k .a) (i - 1) (1 + (i - 1)) refl h (parts .own)) (parts .order) (parts .most))
+    (λ h. omega (arith, past-end (k .a) (i - 1) h))
+  where
+    at-most : (n b i x : ℕ) {c : ℕ} → limitStands n b i x ≡ true → b ≤ c → c ≤ 10_000_000 → x ≤ 10_000_000
+    at-most n b i x s o m = let h = simp tests at s in
+        by-test (leb i n) (λ t. omega (arith, h .0 (leb-true i n t))) (λ t. omega (arith, h .1 (leb-false i n t)))
 
 -- The largest
 

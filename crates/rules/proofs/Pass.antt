@@ -11,12 +11,13 @@ use lib.ListN.{length, getD, drop}
 use borrow.Author.Tests.{eqb-true}
 use Rattle.model.specs.declared.Process.{Process}
 use Rattle.model.specs.declared.State.{State}
-use Rattle.model.specs.States.{bounded, limitIn, limitOf, deadline, entrySound, entriesSound, soundOf}
+use Rattle.model.specs.States.{bounded, limitOf, deadline, entrySound, entriesSound, soundOf}
 use Rattle.model.specs.Answers.{Due, due, noneDue, sooner, firstFrom, firstBy, firstDeadline}
 use Rattle.rules.specs.declared.survey.Survey.{Survey}
 use Rattle.rules.specs.Survey.{sceneOf, numbersStand, nothing, noted}
 use Rattle.model.proofs.Tests.{by-test, tests}
 use Rattle.model.proofs.Lists.{drop-at, drop-end}
+use Rattle.model.proofs.OwnLimits.{limit-fits, limits-parts}
 use Rattle.rules.specs.Judging.{otherCritical, othersFrom}
 use Rattle.rules.proofs.Notes.{Finds, none, Ends, first, Noted, fault, fine, note-at}
 
@@ -34,8 +35,10 @@ numbers-fault s e = sound-parts s ∙ rw e
 
 -- with standing numbers the stays end long before the deadline where there is none
 numbers-end : (s : State) → standing s ≡ true → (k : ℕ) → Ends s k
-unfolding numbersStand limitIn
-numbers-end s e k = omega (arith, simp tests at e)
+unfolding numbersStand
+numbers-end s e k =
+    let h = simp tests at e in
+    omega (arith, h, limit-fits (s .parameters) (h .0 .0 .1) k, limits-parts (s .parameters) (h .0 .0 .1) .most)
 
 -- The pass
 

@@ -15,8 +15,12 @@ unfoldable pub numbersStand : Parameters → ℕ → ℕ → Bool
 numbersStand k clock word = parametersStand k && clockStands clock && wordStands (k .n) word
 
 -- helper: what all looks at entries have in common, and who acts
+abbrev pub sceneWith : ℕ → ℕ → ℕ → ℕ → Scene
+sceneWith n c clock acting = record { n = n; c = c; clock = clock; acting = acting }
+
+-- helper: with these parameters
 abbrev pub sceneOf : Parameters → ℕ → ℕ → Scene
-sceneOf k clock acting = record { n = k .n; c = k .c; clock = clock; acting = acting }
+sceneOf k clock acting = sceneWith (k .n) (k .c) clock acting
 
 -- helper: the deadline where there is none: after all times
 abbrev pub endless : ℕ

@@ -6,10 +6,9 @@ use crate::stages::LEAVING;
 use crate::stages::REMAINDER;
 use crate::stages::stage_of;
 use model::Location;
-use model::Parameters;
 use std::num::wrapping_add_u64;
 ghost use mathlib.Core.Path.{_≡_};
-ghost use Rattle.rules.specs.Survey.{sceneOf, nothing, unsound, faulted, criticalNoted, dueNoted, timedNoted, noted, laterNoted, numbersNoted};
+ghost use Rattle.rules.specs.Survey.{sceneWith, nothing, unsound, faulted, criticalNoted, dueNoted, timedNoted, noted, laterNoted, numbersNoted};
 
 // What a look at an entry, and the judgement after all of them, need besides: the numbers that all entries share, and who acts.
 pub struct Scene {
@@ -19,12 +18,12 @@ pub struct Scene {
     pub acting: u64,
 }
 
-pub fn scene_of(parameters: Parameters, clock: u64, acting: u64) -> Scene
-    ensures { λ r. ⌜ r ≡ sceneOf parameters clock acting ⌝ }
+pub fn scene_of(n: u64, c: u64, clock: u64, acting: u64) -> Scene
+    ensures { λ r. ⌜ r ≡ sceneWith n c clock acting ⌝ }
 {
     Scene {
-        n: parameters.n,
-        c: parameters.c,
+        n: n,
+        c: c,
         clock: clock,
         acting: acting,
     }

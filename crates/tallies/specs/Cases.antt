@@ -6,7 +6,7 @@ use mathlib.Core.List.{List, [], _∷_, _++_, map}
 use Rattle.model.specs.declared.Counts.{Counts}
 use Rattle.model.specs.declared.Recorded.{Recorded}
 use Rattle.model.specs.Acts.{tryAct, testAct, setAct, checkAct, critAct, exitAct, resetAct, remAct}
-use Rattle.model.specs.States.{parametersOf, initial}
+use Rattle.model.specs.States.{equalLimits, parametersOf, initial}
 use Rattle.model.specs.Texts.{Event, event}
 use Rattle.model.specs.Summaries.{countsOf, waitedBy, codeOf}
 use Rattle.model.specs.Tallies.{logOf, tallyOf}
@@ -46,7 +46,7 @@ counts = countsOf 15 1 2 1 17
 
 -- [20.250] a fresh state and a new summary
 abbrev pub start : Recorded
-start = startOf (initial (parametersOf 2 5 8 12))
+start = startOf (initial (parametersOf 2 8 12 (equalLimits 2 5)))
 
 -- [20.250]
 pub record WaitCase : Type 0 where

@@ -1,4 +1,5 @@
 -- A state and a step
+pub mod OwnLimits
 pub mod Entries
 pub mod Locations
 pub mod Rows
@@ -11,6 +12,7 @@ pub mod Acceptance
 pub mod Lowest
 pub mod StaysSound
 pub mod TakenBack
+pub mod OwnDeadlines
 -- A recorded step
 pub mod RecordedSteps
 pub mod Waits

@@ -1,16 +1,17 @@
 -- What a location tells, its arrival, its deadline and whether its process is trying: the relations of `Facts` against the functions of `States`.
 -- These laws look at each location, so that other proofs need not. Assumes nothing.
-use Prim.Native.Nat.{ℕ, _+_, _≤_}
+use Prim.Native.Nat.{ℕ, _+_, _-_, _≤_}
 use mathlib.Core.Path.{_≡_, refl, sym, _∙_}
 use mathlib.Core.Logic.{_↔_, _≢_}
 use mathlib.Core.Bool.{true, false, false≢true}
 use native.Mathlib.Omega.{arith}
+use lib.ListN.{getD}
 use Rattle.model.specs.declared.Location.{Location}
 use Rattle.model.specs.declared.Location.the-variants.{Remainder, Testing, Setting, Checking, Entering, Critical, Resetting, Leaving}
 use Rattle.model.specs.declared.Process.{Process}
 use Rattle.model.specs.declared.State.{State}
 use Rattle.model.specs.Stages.{remainder, checking, critical}
-use Rattle.model.specs.States.{stageOf, timed, sinceOf, limitIn, bounded, deadline, late, stay, trying}
+use Rattle.model.specs.States.{stageOf, timed, sinceOf, limitAt, bounded, deadline, late, stay, trying}
 use Rattle.model.specs.Facts.{Tries, Arrival, Deadline}
 use Rattle.theory.specs.Summaries.{TryingIffPlain}
 use Rattle.model.proofs.Tests.{tests}
@@ -64,7 +65,7 @@ trying-iff-plain l = (test-tries l, tries-test)
 
 -- process i, with the entry q, has the deadline d
 abbrev pub Latest : State → ℕ → Process → ℕ → Type 0
-Latest s i q d = Deadline (s .parameters .a) (s .parameters .c) (q .location) d
+Latest s i q d = Deadline (getD (s .parameters .a) (i - 1) 0) (s .parameters .c) (q .location) d
 
 abbrev deadlineAt : ℕ → ℕ → Location → ℕ
 deadlineAt a c l = sinceOf l + stay a c l
@@ -106,12 +107,12 @@ deadline-bounded Deadline.leaving = omega arith
 
 -- an entry that is bounded has the deadline that `deadline` gives: here the limits of the tests meet those of the facts
 pub bounded-latest : (s : State) (i : ℕ) (q : Process) → bounded s q ≡ true → Latest s i q (deadline s i q)
-unfolding limitIn
-bounded-latest s i q = timed-deadline (s .parameters .a) (s .parameters .c) (q .location)
+unfolding limitAt
+bounded-latest s i q = timed-deadline (getD (s .parameters .a) (i - 1) 0) (s .parameters .c) (q .location)
 
 -- and no other
 pub latest-deadline : (s : State) (i : ℕ) (q : Process) {d : ℕ} → Latest s i q d → (bounded s q ≡ true) × (deadline s i q ≡ d)
-unfolding limitIn
+unfolding limitAt
 latest-deadline s i q h = deadline-timed h
 
 -- a process that is not late keeps its deadline, if it has one

@@ -8,20 +8,21 @@ use mathlib.Core.List.{List, [], _∷_}
 use native.Mathlib.Omega.{arith}
 use lib.Dec.{leb}
 use lib.ListN.{replicate}
-use borrow.Author.Tests.{leb-true, leb-false, lt-leb}
+use borrow.Author.Tests.{leb-true, leb-false, lt-leb, not-true, not-false}
 use Rattle.model.specs.declared.Location.the-variants.{Remainder, Critical}
 use Rattle.model.specs.declared.Process.{Process}
 use Rattle.model.specs.declared.Parameters.{Parameters}
 use Rattle.model.specs.declared.State.{State}
 use Rattle.model.specs.declared.Answer.{Answer}
 use Rattle.model.specs.declared.Outcome.{Outcome}
-use Rattle.model.specs.States.{parametersOf, noParameters, countStands, limitsStand, lastTime, entry, idle, initial, stageOf}
+use Rattle.model.specs.States.{limitsIn, equalLimits, parametersOf, noParameters, countStands, ownStand, limitsStand, lastTime, entry, idle, initial, stageOf}
 use Rattle.model.specs.States.{entrySound, entriesSound, soundOf, entryOf}
 use Rattle.model.specs.Answers.{answerOf, answers, blank, freshOf}
 use Rattle.model.specs.Facts.{Accepted, IsFresh, Arrival}
 use Rattle.theory.specs.Soundness.{CountStands, LimitsStand, ParametersStand, Sound, SoundIffPlain, TwoCriticalMayBeSound}
 use Rattle.theory.specs.Soundness.{Fresh, FreshTable, FreshIsPlain}
 use Rattle.model.proofs.Tests.{by-test, by-cond, clash, and-true-iff, tests}
+use Rattle.theory.proofs.OwnLimits.{limits-iff-plain}
 use Rattle.theory.proofs.Entries.{same-at, Among, here, there, each-entry, among-entry, among-from}
 use Rattle.model.proofs.Locations.{stage-location}
 use Rattle.theory.proofs.Locations.{Latest, past-iff, not-late-iff}
@@ -92,12 +93,19 @@ sound-from s h each = record {
 
 sound-plain : (s : State) → soundOf s ≡ true → Sound s
 unfolding soundOf
-sound-plain s e = let h = simp tests at e in sound-from s (omega arith) (entries-plain s (h .1))
+sound-plain s e =
+    let h = simp tests at e in
+    let count : CountStands (s .parameters .n) = omega arith in
+    sound-from s (record {
+      parameters = record { count = count; limits = limits-iff-plain (s .parameters) count .0 (h .0 .0 .0 .1) };
+      clock = omega arith;
+      word = omega arith;
+    }) (entries-plain s (h .1))
 
 plain-sound : (s : State) → Sound s → soundOf s ≡ true
 unfolding soundOf
 plain-sound s h = simp tests (
-  omega arith,
+  (((omega arith, limits-iff-plain (s .parameters) (h .parameters .count) .1 (h .parameters .limits)), omega arith), omega arith),
   entries-all s 1 (s .processes) (λ j q a. plain-entry s j q (subst (EntryPlain s j) (among-entry s a) (record {
     above = h .above j;
     past = h .past j;
@@ -144,21 +152,22 @@ blank-unsound = refl
 -- what `freshOf` gives, and why
 data Made (k : Parameters) : Outcome → Type 0 where
   given : ParametersStand k → Made k (answers 0 0 0 (initial k))
-  no-count : (CountStands k → ⊥) → Made k (answers 11 0 0 blank)
-  no-limits : CountStands k → (LimitsStand k → ⊥) → Made k (answers 12 0 0 blank)
+  no-count : (CountStands (k .n) → ⊥) → Made k (answers 11 0 0 blank)
+  no-limits : CountStands (k .n) → (LimitsStand k → ⊥) → Made k (answers 12 0 0 blank)
 
 made : (k : Parameters) → Made k (freshOf k)
 unfolding freshOf
 made k =
-    by-cond (Made k) (not (countStands k)) (λ e. no-count (λ h. omega (arith, (simp tests at e) (h .some))))
-    (λ f. let count : CountStands k = omega (arith, simp tests at f) in
-    by-cond (Made k) (not (limitsStand k)) (λ e. no-limits count (λ h. omega (arith, (simp tests at e) (omega arith))))
-    (λ g. given (omega (arith, simp tests at g))))
+    by-cond (Made k) (not (countStands (k .n))) (λ e. no-count (λ h. omega (arith, (simp tests at e) (h .some))))
+    (λ f. let count : CountStands (k .n) = omega (arith, simp tests at f) in
+    let limits = limits-iff-plain k count in
+    by-cond (Made k) (not (limitsStand k)) (λ e. no-limits count (λ h. clash (limits .1 h) (not-true _ e)))
+    (λ g. given (record { count = count; limits = limits .0 (not-false _ g) })))
 
 module _ {k : Parameters} where
   -- a refusal, whichever: nothing is given
-  refused-table : {code : ℕ} → code ≢ 0 → (ParametersStand k → ⊥) → ((answerOf code 0 0 ≡ answerOf 11 0 0) ↔ (CountStands k → ⊥))
-      → ((answerOf code 0 0 ≡ answerOf 12 0 0) ↔ (CountStands k × (LimitsStand k → ⊥))) → FreshTable k (answers code 0 0 blank)
+  refused-table : {code : ℕ} → code ≢ 0 → (ParametersStand k → ⊥) → ((answerOf code 0 0 ≡ answerOf 11 0 0) ↔ (CountStands (k .n) → ⊥))
+      → ((answerOf code 0 0 ≡ answerOf 12 0 0) ↔ (CountStands (k .n) × (LimitsStand k → ⊥))) → FreshTable k (answers code 0 0 blank)
   refused-table n stands count limits = record {
     accepted = (λ e. absurd (n e), λ h. absurd (stands h));
     answer = λ e. absurd (n e);
@@ -199,14 +208,14 @@ fresh-is k e = record { parameters = k; accepted = e; is = refl }
 
 abbrev withTwo : State
 withTwo = record {
-  parameters = parametersOf 2 5 8 12;
+  parameters = parametersOf 2 8 12 (equalLimits 2 5);
   clock = 0;
   word = 0;
   processes = entry Critical ∷ entry Critical ∷ replicate 94 idle;
 }
 
 pub two-critical-may-be-sound : TwoCriticalMayBeSound
-unfolding soundOf entriesSound entryOf
+unfolding soundOf limitsStand ownStand limitsIn entriesSound entryOf
 two-critical-may-be-sound = (
   withTwo,
   record {

@@ -1,10 +1,10 @@
 -- An accepted act leaves a sound state sound. Assumes nothing.
-use Prim.Native.Nat.{ℕ, _≤_}
+use Prim.Native.Nat.{ℕ, _-_, _≤_}
 use mathlib.Core.Path.{_≡_, sym, ap, subst}
 use mathlib.Core.Logic.{⊎-elim, _≢_}
 use mathlib.Core.Bool.{true}
 use native.Mathlib.Omega.{arith}
-use lib.ListN.{length}
+use lib.ListN.{length, getD}
 use Rattle.model.specs.declared.Location.{Location}
 use Rattle.model.specs.declared.Process.{Process}
 use Rattle.model.specs.declared.Parameters.{Parameters}
@@ -49,7 +49,7 @@ module _ {s s′ : State} {act p m : ℕ} (sound : Sound s) (allowed : Allowed s
   count-stays = ap (λ (k : Parameters). k .n) (changed .parameters-stay)
 
   latest-stays : (i : ℕ) (q : Process) (d : ℕ) → Latest s′ i q d → Latest s i q d
-  latest-stays i q d = subst (λ (k : Parameters). Deadline (k .a) (k .c) (q .location) d) (changed .parameters-stay)
+  latest-stays i q d = subst (λ (k : Parameters). Deadline (getD (k .a) (i - 1) 0) (k .c) (q .location) d) (changed .parameters-stay)
 
   lands : Acts s act p m → Lands (s .parameters .n) m (entryOf s′ p .location) (s′ .word)
   lands a = effect-lands (changed .effect (from-ready (a .from) .not-wait)) (a .most) (sound .word)

@@ -1,34 +1,50 @@
--- Section 2 of the specification: what a sound state is, in plain facts, and that `soundOf` tells it and the step answers 1 to all
--- others; that two may be critical in a sound state; what a fresh table is, and that `freshOf` gives it. Assumes nothing.
-use Prim.Native.Nat.{ℕ, _≤_, _<_}
+-- Section 2 of the specification: which parameters stand, the largest a, and what a sound state is, in plain facts, and that `soundOf` tells it and the
+-- step answers 1 to all others; that two may be critical in a sound state; what a fresh table is, and that `freshOf` gives it. Assumes nothing.
+use Prim.Native.Nat.{ℕ, _-_, _≤_, _<_}
 use mathlib.Core.Path.{_≡_}
 use mathlib.Core.Logic.{_↔_, _≢_}
 use mathlib.Core.Bool.{true, false}
-use lib.ListN.{length}
+use lib.ListN.{length, getD}
 use Rattle.model.specs.declared.Location.the-variants.{Remainder}
 use Rattle.model.specs.declared.Parameters.{Parameters}
 use Rattle.model.specs.declared.State.{State}
 use Rattle.model.specs.declared.Outcome.{Outcome}
-use Rattle.model.specs.States.{noParameters, lastTime, entryOf, soundOf}
+use Rattle.model.specs.States.{noParameters, largestLimit, lastTime, entryOf, soundOf}
 use Rattle.model.specs.Answers.{answerOf, stepOf, freshOf}
 use Rattle.model.specs.Facts.{Accepted, Arrival, HasDeadline, IsCritical}
 
 -- [2.20]
-pub record CountStands (k : Parameters) : Type 0 where
-  pub some : 1 ≤ k .n
-  pub most : k .n ≤ 96
+pub record CountStands (n : ℕ) : Type 0 where
+  pub some : 1 ≤ n
+  pub most : n ≤ 96
 
--- [2.30]
+-- [2.30] [2.32] the a of a process is named by its place, and not by what the step asks for it
 pub record LimitsStand (k : Parameters) : Type 0 where
-  pub some : 1 ≤ k .a
-  pub apart : k .a < k .b
+  -- [2.10]
+  pub size : length (k .a) ≡ 96
+  pub some : (i : ℕ) → 1 ≤ i → i ≤ k .n → 1 ≤ getD (k .a) (i - 1) 0
+  pub apart : (i : ℕ) → 1 ≤ i → i ≤ k .n → getD (k .a) (i - 1) 0 < k .b
+  -- [2.32] past the list's end 0 is looked at
+  pub above : (i : ℕ) → k .n < i → getD (k .a) (i - 1) 0 ≡ 0
   pub order : k .b ≤ k .c
   pub most : k .c ≤ 10_000_000
 
--- [2.20] [2.30] both
+-- [2.20] [2.30] [2.32] both
 pub record ParametersStand (k : Parameters) : Type 0 where
-  pub count : CountStands k
+  pub count : CountStands (k .n)
   pub limits : LimitsStand k
+
+-- [2.92] no process from 1 to n has a larger a than m, and one of them has that
+pub record IsLargest (k : Parameters) (m : ℕ) : Type 0 where
+  pub bounds : (i : ℕ) → 1 ≤ i → i ≤ k .n → getD (k .a) (i - 1) 0 ≤ m
+  pub process : ℕ
+  pub some : 1 ≤ process
+  pub most : process ≤ k .n
+  pub has : getD (k .a) (process - 1) 0 ≡ m
+
+-- [2.92]
+abbrev pub LargestIsPlain : Type 0
+LargestIsPlain = (k : Parameters) → ParametersStand k → IsLargest k (largestLimit k)
 
 -- [2.120]
 pub record Sound (s : State) : Type 0 where
@@ -77,9 +93,9 @@ pub record FreshTable (k : Parameters) (o : Outcome) : Type 0 where
   -- [4.70]
   pub answer : Accepted o → o .answer ≡ answerOf 0 0 0
   -- [4.11]
-  pub count : (o .answer ≡ answerOf 11 0 0) ↔ (CountStands k → ⊥)
+  pub count : (o .answer ≡ answerOf 11 0 0) ↔ (CountStands (k .n) → ⊥)
   -- [4.12] [4.90]
-  pub limits : (o .answer ≡ answerOf 12 0 0) ↔ (CountStands k × (LimitsStand k → ⊥))
+  pub limits : (o .answer ≡ answerOf 12 0 0) ↔ (CountStands (k .n) × (LimitsStand k → ⊥))
   pub fresh : Accepted o → Fresh k (o .state)
   pub sound : Accepted o → soundOf (o .state) ≡ true
   -- [4.100]

@@ -1,12 +1,14 @@
 // Small values that the step machine and the recordings share: an answer, parameters and which of them stand, the lesser of two sizes,
 // the greater of two numbers, the bits of many.
+pub mod limits;
+
 use model::Answer;
 use model::Parameters;
 ghost use mathlib.Core.Path.{_≡_};
 ghost use Prim.Native.Nat.{min, max};
-ghost use Rattle.model.specs.States.{noParameters, countStands, limitsStand, parametersStand, limitIn};
+ghost use Rattle.model.specs.States.{noParameters};
 ghost use Rattle.model.specs.Answers.{answerOf, answerNumbers};
-ghost use Rattle.values.specs.Bits.{bitsOf};
+ghost use Rattle.values.specs.Bits.{bitsOf, areZero};
 
 // [4.50] An answer of three numbers.
 pub fn answer_with(code: u64, process: u64, time: u64) -> Answer
@@ -32,53 +34,10 @@ pub fn no_parameters() -> Parameters
 {
     Parameters {
         n: 0,
-        a: 0,
         b: 0,
         c: 0,
+        a: [0; 96],
     }
-}
-
-// [2.20]
-pub fn count_stands(parameters: Parameters) -> bool
-    ensures { λ r. ⌜ r ≡ countStands parameters ⌝ }
-{
-    if parameters.n < 1 {
-        return false;
-    }
-    parameters.n <= 96
-}
-
-// [2.30]
-pub fn limits_stand(parameters: Parameters) -> bool
-    ensures { λ r. ⌜ r ≡ limitsStand parameters ⌝ }
-{
-    if parameters.a < 1 {
-        return false;
-    }
-    if parameters.b <= parameters.a {
-        return false;
-    }
-    if parameters.c < parameters.b {
-        return false;
-    }
-    parameters.c <= 10000000
-}
-
-// [2.20] [2.30] Both.
-pub fn parameters_stand(parameters: Parameters) -> bool
-    ensures { λ r. ⌜ r ≡ parametersStand parameters ⌝ }
-{
-    if !count_stands(parameters) {
-        return false;
-    }
-    limits_stand(parameters)
-}
-
-// [2.90] The bound a of a process.
-pub fn limit_of(parameters: Parameters, process: u64) -> u64
-    ensures { λ r. ⌜ r ≡ limitIn parameters process ⌝ }
-{
-    parameters.a
 }
 
 pub fn least(a: usize, b: usize) -> usize
@@ -106,4 +65,10 @@ pub fn bits_of(numbers: &[u64]) -> u64
         i += 1;
     }
     bits
+}
+
+pub fn are_zero(numbers: &[u64]) -> bool
+    ensures { λ r. ⌜ r ≡ areZero (now (numbers .entry)) ⌝ }
+{
+    bits_of(numbers) == 0
 }

@@ -2,7 +2,7 @@
 //! PROGRAM is a path, with arguments after spaces; its output has to be that of the reference's program NAME, `replay` or `spans`.
 
 use reference::generator::{generate, Generated};
-use reference::recording::read;
+use reference::recording::{first_line, read};
 use reference::replay::replay;
 use reference::spans::{self, spans_of, Span};
 use std::collections::BTreeMap;
@@ -25,6 +25,7 @@ fn main() {
     }
     println!("{count} recordings equal (seed {seed})");
     println!("families: {}", shown(&seen.families));
+    println!("shapes: {}", shown(&seen.shapes));
     println!("answers: {}", shown(&seen.answers));
     println!("spans: {}", shown(&seen.spans));
 }
@@ -63,6 +64,8 @@ fn shown(tally: &Tally) -> String {
 #[derive(Default)]
 struct Seen {
     families: Tally,
+    /// of those that are read
+    shapes: Tally,
     answers: Tally,
     spans: Tally,
 }
@@ -74,7 +77,10 @@ impl Seen {
             let answer = line.split(',').nth(1).unwrap_or_default();
             count(&mut self.answers, format!("{answer:>2}"));
         }
-        for Span { to, .. } in read(&generated.text).iter().flat_map(spans_of) {
+        let Ok(recording) = read(&generated.text) else { return };
+        let is_new = recording.first_line == first_line(recording.values.n);
+        count(&mut self.shapes, if is_new { "new" } else { "former" });
+        for Span { to, .. } in spans_of(&recording) {
             count(&mut self.spans, if to.is_some() { "closed" } else { "open" });
         }
     }

@@ -1,7 +1,8 @@
-//! roundtrip: reads a recording on standard input and, if it is faultless, writes it again.
-//! The bytes are then the same; a refusal prints the reader's answer and exits with status 1.
+//! roundtrip: reads a recording on standard input and, if it is faultless, writes it again: one of the former shape in the new one, another
+//! with the same bytes. A refusal of either prints its answer and exits with status 1: a former one may come to be too long.
 
-use reference::answer::ACCEPTED;
+use reference::answer::{Answer, ACCEPTED};
+use reference::machine::WINDOWS;
 use reference::recording::{read_into, write, TEXT_END};
 use std::io::{stdin, stdout, Read, Result, Write};
 use std::process::exit;
@@ -11,14 +12,18 @@ fn main() -> Result<()> {
     stdin().read_to_end(&mut text)?;
     // No text has more steps than bytes.
     let (mut times, mut windows, mut acts) = (vec![0; TEXT_END], vec![0; TEXT_END], vec![0; TEXT_END]);
-    let (reading, values) = read_into(&text, &mut times, &mut windows, &mut acts);
-    if reading.number != ACCEPTED {
-        println!("{},{},{}", reading.number, reading.window, reading.moment);
+    let (reading, values) = read_into(&text, &mut [0; WINDOWS], &mut times, &mut windows, &mut acts);
+    let count = accepted(reading);
+    let mut output = vec![0; TEXT_END];
+    let size = accepted(write(values, &times[..count], &windows[..count], &acts[..count], &mut output));
+    stdout().write_all(&output[..size])
+}
+
+/// The number of steps or bytes.
+fn accepted(answer: Answer) -> usize {
+    if answer.number != ACCEPTED {
+        println!("{},{},{}", answer.number, answer.window, answer.moment);
         exit(1);
     }
-    let count = reading.moment as usize;
-    let mut output = vec![0; TEXT_END];
-    let writing = write(values, &times[..count], &windows[..count], &acts[..count], &mut output);
-    assert_eq!(writing.number, ACCEPTED, "what was read has a form");
-    stdout().write_all(&output[..writing.moment as usize])
+    answer.moment as usize
 }

@@ -4,19 +4,28 @@
 #![allow(clippy::ptr_arg, reason = "the functions of the table have one type, whichever change the length")]
 
 use super::random::Random;
+use super::shapes::Shape;
 use super::{walk, Generated};
 use Damage::*;
 use Where::*;
 
 type Line = Vec<u8>;
 
-/// The indices of the first three lines.
+/// The indices of the first lines that have the same in every recording of a shape; the third is one of the new shape.
 const FIRST_NAMES: usize = 0;
 const VALUES: usize = 1;
-const STEP_NAMES: usize = 2;
+const LIMIT_NAMES: usize = 2;
+
+/// The last line before the steps.
+const STEP_NAMES: &[u8] = b"time,window,act";
+const HAS_NAMES: &str = "a walk has names before its steps";
 
 enum Where {
     At(usize),
+    /// the line of the a of some window, in the new shape
+    ALimit,
+    /// the names of the steps
+    StepNames,
     /// a line of some step
     AStep,
     /// mostly a step, sometimes the values
@@ -37,7 +46,8 @@ enum Damage {
     Bytes(fn(&mut Random, &mut Vec<u8>)),
 }
 
-const DAMAGES: [(&str, Damage); 43] = [
+/// What can be done to a recording of either shape.
+const TO_EITHER: &[(&str, Damage)] = &[
     // numbers
     ("leading-zero", OneLine(AStep, |random, line| leading_zero(random, line, 2))),
     ("double-zero", Fields(AStep, &[0, 1], &["00"])),
@@ -59,24 +69,18 @@ const DAMAGES: [(&str, Damage); 43] = [
     ("comma-to-semicolon", OneLine(Anywhere, comma_to_semicolon)),
     // the names
     ("first-names", Whole(At(FIRST_NAMES), OTHER_FIRST_NAMES)),
-    ("step-names", Whole(At(STEP_NAMES), OTHER_STEP_NAMES)),
+    ("step-names", Whole(StepNames, OTHER_STEP_NAMES)),
     ("no-first-names", Lines(At(FIRST_NAMES), remove)),
     ("no-values", Lines(At(VALUES), remove)),
-    ("no-step-names", Lines(At(STEP_NAMES), remove)),
-    ("head-twice", Lines(At(FIRST_NAMES), head_twice)),
+    ("no-step-names", Lines(StepNames, remove)),
+    ("head-twice", Lines(StepNames, head_twice)),
     // the values
-    ("values-form", Whole(At(VALUES), OTHER_VALUES)),
-    ("values-9-digits", Fields(At(VALUES), &[0, 1, 2, 3], &["100000000", "123456789"])),
-    ("values-leading-zero", OneLine(At(VALUES), |random, line| leading_zero(random, line, 4))),
     ("window-count", Fields(At(VALUES), &[0], &["0", "97", "100", "128", "256", "99999999"])),
-    ("limits", Whole(At(VALUES), WRONG_LIMITS)),
-    ("count-and-limits", Whole(At(VALUES), &["0,0,8,12", "97,5,5,12", "0,0,0,0"])),
-    // two faults and more, of which the first counts
-    ("limits-and-later-faults", Lines(AStep, limits_and_later_faults)),
-    ("step-names-and-step", Lines(AStep, |_, lines, step| spoil(lines, [STEP_NAMES, step]))),
+    // two faults, of which the first counts
+    ("step-names-and-step", Lines(AStep, |_, lines, step| spoil_from_names(lines, step))),
     ("two-bad-steps", Lines(AStep, two_bad_steps)),
     // lines
-    ("no-steps", Lines(At(STEP_NAMES), |_, lines, line| lines.truncate(line + 1))),
+    ("no-steps", Lines(StepNames, |_, lines, line| lines.truncate(line + 1))),
     ("blank-line", Lines(Anywhere, |_, lines, line| lines.insert(line, Line::new()))),
     ("blank-last-line", Lines(Anywhere, |_, lines, _| lines.push(Line::new()))),
     ("lines-swapped", Lines(Anywhere, swap)),
@@ -91,25 +95,84 @@ const DAMAGES: [(&str, Damage); 43] = [
     ("byte-added", Bytes(add_byte)),
 ];
 
+/// What can be done to the values of the new shape, and to its lines of a.
+const TO_NEW: &[(&str, Damage)] = &[
+    // the values
+    ("values-form", Whole(At(VALUES), OTHER_VALUES)),
+    ("values-9-digits", Fields(At(VALUES), &[0, 1, 2], &["100000000", "123456789"])),
+    ("values-leading-zero", OneLine(At(VALUES), |random, line| leading_zero(random, line, 3))),
+    ("limits", OneLine(At(VALUES), wrong_limits)),
+    ("count-and-limits", Whole(At(VALUES), &["0,8,7", "97,0,0", "0,0,0"])),
+    // the names of the lines of a
+    ("limit-names", Whole(At(LIMIT_NAMES), OTHER_LIMIT_NAMES)),
+    ("no-limit-names", Lines(At(LIMIT_NAMES), remove)),
+    // a line of a: numbers
+    ("limit-0", Fields(ALimit, &[1], &["0"])),
+    ("limit-from-b-on", Lines(ALimit, limit_from_b_on)),
+    ("limit-8-digits", Fields(ALimit, &[1], &["10000000", "99999999"])),
+    ("limit-9-digits", Fields(ALimit, &[1], &["100000000", "000000001", "18446744073709551617"])),
+    ("limit-of-another", Fields(ALimit, &[0], &["0", "2", "96", "97", "99999999"])),
+    ("limit-window-9-digits", Fields(ALimit, &[0], &["100000000", "000000001", "18446744073709551617"])),
+    ("limit-leading-zero", OneLine(ALimit, |random, line| leading_zero(random, line, 2))),
+    ("limit-digit-neighbour", OneLine(ALimit, digit_neighbour)),
+    ("limit-sign-or-space", OneLine(ALimit, sign_or_space)),
+    // a line of a: fields
+    ("limit-form", Whole(ALimit, OTHER_LIMITS)),
+    ("limit-extra-field", OneLine(ALimit, |_, line| line.extend_from_slice(b",0"))),
+    ("limit-missing-field", OneLine(ALimit, missing_field)),
+    ("limit-empty-field", Fields(ALimit, &[0, 1], &[""])),
+    // lines of a
+    ("no-limit", Lines(ALimit, remove)),
+    ("no-limits", Lines(ALimit, no_limits)),
+    ("limit-twice", Lines(ALimit, |_, lines, line| lines.insert(line, lines[line].clone()))),
+    ("limit-too-many", Lines(StepNames, limit_too_many)),
+    ("limits-swapped", Lines(ALimit, swap_limits)),
+    // two faults and more, of which the first counts
+    ("count-and-limit-names", Lines(At(LIMIT_NAMES), count_and_limit_names)),
+    ("limits-and-limit-names", Lines(At(LIMIT_NAMES), limits_and_line)),
+    ("limits-and-limit-form", Lines(ALimit, limits_and_line)),
+    ("limits-and-later-faults", Lines(AStep, limits_and_later_faults)),
+    ("two-bad-limits", Lines(ALimit, two_bad_limits)),
+];
+
+/// What can be done to the values of the former shape.
+const TO_FORMER: &[(&str, Damage)] = &[
+    ("former-values-form", Whole(At(VALUES), OTHER_FORMER_VALUES)),
+    ("former-values-9-digits", Fields(At(VALUES), &[0, 1, 2, 3], &["100000000", "123456789"])),
+    ("former-values-leading-zero", OneLine(At(VALUES), |random, line| leading_zero(random, line, 4))),
+    ("former-limits", Whole(At(VALUES), WRONG_FORMER_LIMITS)),
+    ("former-count-and-limits", Whole(At(VALUES), &["0,0,8,12", "97,5,5,12", "0,0,0,0"])),
+    ("former-limits-and-later-faults", Lines(AStep, former_limits_and_later_faults)),
+];
+
 const UNKNOWN_WORDS: &[&str] = &[
     "", "1", "Try", "TRY", " try", "try ", "tr", "trys", "wai", "waits", "wait\0", "tests", "se", "sets",
     "checks", "recheck", "cri", "crits", "exi", "re", "resett", "remm", "selling", "withdra", "Withdraw",
     "stop",
 ];
 
+/// Among them the first names of each shape, which are wrong in the other.
 const OTHER_FIRST_NAMES: &[&str] = &[
     "",
+    "windows,b",
+    "windows,b,c,",
+    "windows,b,c ",
+    " windows,b,c",
+    "Windows,b,c",
+    "window,b,c",
+    "windows,c,b",
+    "windows;b;c",
+    "windows,b,d",
+    "windowt,b,c",
+    "2,8,12",
+    "windows,b,c",
+    "windows,a,b,c",
     "windows,a,b",
     "windows,a,b,c,",
-    "windows,a,b,c ",
     " windows,a,b,c",
     "Windows,a,b,c",
-    "window,a,b,c",
-    "windows,b,c",
     "windows,a,c,b",
-    "windows;a;b;c",
-    "windows,a,b,d",
-    "windowt,a,b,c",
+    "windows,a,b,c,d",
     "2,5,8,12",
 ];
 
@@ -124,9 +187,43 @@ const OTHER_STEP_NAMES: &[&str] = &[
     "time,windows,act",
     "time,act,window",
     "0,1,try",
+    "window,a",
+];
+
+const OTHER_LIMIT_NAMES: &[&str] = &[
+    "",
+    "window",
+    "window,",
+    "window,a,",
+    "window,a ",
+    " window,a",
+    "Window,a",
+    "windows,a",
+    "window,b",
+    "a,window",
+    "1,5",
+    "time,window,act",
 ];
 
 const OTHER_VALUES: &[&str] = &[
+    "",
+    "2",
+    "2,8",
+    "2,8,12,",
+    "2,8,12,1",
+    "2,5,8,12",
+    ",,",
+    "a,b,c",
+    "2;8;12",
+    "2,8,1x",
+    "-1,8,12",
+    "2,8,012",
+    "00,8,12",
+    "2, 8,12",
+    "windows,b,c",
+];
+
+const OTHER_FORMER_VALUES: &[&str] = &[
     "",
     "2",
     "2,5",
@@ -144,7 +241,24 @@ const OTHER_VALUES: &[&str] = &[
     "windows,a,b,c",
 ];
 
-const WRONG_LIMITS: &[&str] = &[
+/// Of window 1, if they had a form.
+const OTHER_LIMITS: &[&str] = &[
+    "", "1", "1,", ",1", ",", "1,1,", "1,1,1", "1;1", "1 1", "1, 1", "x,1", "1,x", "-1,1", "1,-1", "window,a",
+];
+
+/// b and c; below a b of 0 there is no a at all.
+const WRONG_LIMITS: [(u64, u64); 8] = [
+    (0, 0),
+    (0, 6),
+    (1, 5),
+    (2, 1),
+    (8, 7),
+    (10_000_000, 10_000_001),
+    (10_000_001, 10_000_001),
+    (99_999_999, 99_999_999),
+];
+
+const WRONG_FORMER_LIMITS: &[&str] = &[
     "2,0,0,0",
     "2,0,5,6",
     "2,1,0,5",
@@ -162,8 +276,8 @@ const WRONG_LIMITS: &[&str] = &[
 
 /// A walk with some damage done to it.
 pub fn damaged(random: &mut Random) -> Generated {
-    let (family, damage) = &DAMAGES[random.index(DAMAGES.len())];
-    let mut text = walk::recording(random, 1_500).text;
+    let (shape, (family, damage)) = any_damage(random);
+    let mut text = walk::recording(random, shape, 1_500).text;
     match damage {
         Fields(place, indices, others) => {
             let (index, other) = (random.pick(indices), random.pick(others));
@@ -182,6 +296,19 @@ pub fn damaged(random: &mut Random) -> Generated {
     Generated { family, text }
 }
 
+/// Any of all kinds, and a shape that it can be done to.
+fn any_damage(random: &mut Random) -> (Shape, &'static (&'static str, Damage)) {
+    let either = Shape::any(random);
+    let mut kind = random.index(TO_EITHER.len() + TO_NEW.len() + TO_FORMER.len());
+    for (shape, damages) in [(either, TO_EITHER), (Shape::New, TO_NEW), (Shape::Former, TO_FORMER)] {
+        match damages.get(kind) {
+            Some(damage) => return (shape, damage),
+            None => kind -= damages.len(),
+        }
+    }
+    unreachable!("there are no more kinds");
+}
+
 /// Takes the text apart into its lines, without their byte 10, has them edited and puts them together again.
 fn edit(
     random: &mut Random,
@@ -191,17 +318,36 @@ fn edit(
 ) {
     text.pop();
     let mut lines: Vec<Line> = text.split(|&byte| byte == b'\n').map(Line::from).collect();
-    let first_step = STEP_NAMES + 1;
-    let a_step = first_step + random.index(lines.len() - first_step);
-    let line = match place {
+    let line = picked(random, &lines, place);
+    edit_lines(random, &mut lines, line);
+    *text = lines.iter().flat_map(|line| [line, &b"\n"[..]].concat()).collect();
+}
+
+/// The index of a line, of a walk that has a step.
+fn picked(random: &mut Random, lines: &[Line], place: &Where) -> usize {
+    let steps = step_names(lines) + 1;
+    let a_step = steps + random.index(lines.len() - steps);
+    match place {
         At(line) => *line,
+        ALimit => a_limit(random, lines),
+        StepNames => step_names(lines),
         AStep => a_step,
         StepOrValues if random.chance(70) => a_step,
         StepOrValues => VALUES,
         Anywhere => random.index(lines.len()),
-    };
-    edit_lines(random, &mut lines, line);
-    *text = lines.iter().flat_map(|line| [line, &b"\n"[..]].concat()).collect();
+    }
+}
+
+/// The index of the last line before the steps.
+fn step_names(lines: &[Line]) -> usize {
+    lines.iter().position(|line| line == STEP_NAMES).expect(HAS_NAMES)
+}
+
+/// The index of some line of a; the first and the last come more often.
+fn a_limit(random: &mut Random, lines: &[Line]) -> usize {
+    let (first, last) = (LIMIT_NAMES + 1, step_names(lines) - 1);
+    let any = random.between(first as u64, last as u64) as usize;
+    random.pick(&[first, last, any, any])
 }
 
 fn fields(line: &Line) -> Vec<Line> {
@@ -265,25 +411,81 @@ fn remove(_: &mut Random, lines: &mut Vec<Line>, line: usize) {
     lines.remove(line);
 }
 
-fn head_twice(_: &mut Random, lines: &mut Vec<Line>, _: usize) {
-    let head = lines[..=STEP_NAMES].to_vec();
+fn head_twice(_: &mut Random, lines: &mut Vec<Line>, step_names: usize) {
+    let head = lines[..=step_names].to_vec();
     lines.splice(0..0, head);
 }
 
-fn spoil(lines: &mut [Line], which: [usize; 2]) {
-    for line in which {
-        lines[line] = b"x".into();
-    }
+fn spoil(line: &mut Line) {
+    *line = b"x".into();
+}
+
+/// The names of the steps and a step.
+fn spoil_from_names(lines: &mut [Line], step: usize) {
+    spoil(&mut lines[step]);
+    let names = step_names(lines);
+    spoil(&mut lines[names]);
 }
 
 fn two_bad_steps(_: &mut Random, lines: &mut Vec<Line>, step: usize) {
     let last = lines.len() - 1;
-    spoil(lines, [step, last]);
+    spoil(&mut lines[step]);
+    spoil(&mut lines[last]);
 }
 
-fn limits_and_later_faults(_: &mut Random, lines: &mut Vec<Line>, step: usize) {
+fn former_limits_and_later_faults(_: &mut Random, lines: &mut Vec<Line>, step: usize) {
     replace_field(&mut lines[VALUES], 1, "0");
-    spoil(lines, [STEP_NAMES, step]);
+    spoil_from_names(lines, step);
+}
+
+/// b and c that do not stand, with the n that there was.
+fn wrong_limits(random: &mut Random, line: &mut Line) {
+    let (b, c) = random.pick(&WRONG_LIMITS);
+    replace_field(line, 1, &b.to_string());
+    replace_field(line, 2, &c.to_string());
+}
+
+fn count_and_limit_names(_: &mut Random, lines: &mut Vec<Line>, line: usize) {
+    replace_field(&mut lines[VALUES], 0, "97");
+    spoil(&mut lines[line]);
+}
+
+/// A c that does not stand, and a line before it is judged.
+fn limits_and_line(_: &mut Random, lines: &mut Vec<Line>, line: usize) {
+    replace_field(&mut lines[VALUES], 2, "10000001");
+    spoil(&mut lines[line]);
+}
+
+/// A c that does not stand, and lines after it is judged.
+fn limits_and_later_faults(_: &mut Random, lines: &mut Vec<Line>, step: usize) {
+    replace_field(&mut lines[VALUES], 2, "10000001");
+    spoil_from_names(lines, step);
+}
+
+fn two_bad_limits(_: &mut Random, lines: &mut Vec<Line>, line: usize) {
+    let last = step_names(lines) - 1;
+    spoil(&mut lines[line]);
+    spoil(&mut lines[last]);
+}
+
+/// An a that is b, or a little more.
+fn limit_from_b_on(random: &mut Random, lines: &mut Vec<Line>, line: usize) {
+    let b: u64 = String::from_utf8_lossy(&fields(&lines[VALUES])[1]).parse().expect("a number");
+    replace_field(&mut lines[line], 1, &(b + random.below(3)).to_string());
+}
+
+fn no_limits(_: &mut Random, lines: &mut Vec<Line>, _: usize) {
+    lines.drain(LIMIT_NAMES + 1..step_names(lines));
+}
+
+fn limit_too_many(_: &mut Random, lines: &mut Vec<Line>, step_names: usize) {
+    let windows = step_names - (LIMIT_NAMES + 1);
+    lines.insert(step_names, format!("{},1", windows + 1).into());
+}
+
+fn swap_limits(random: &mut Random, lines: &mut Vec<Line>, line: usize) {
+    let other = a_limit(random, lines);
+    lines.swap(line, other);
 }
 
 fn swap(random: &mut Random, lines: &mut Vec<Line>, line: usize) {
@@ -291,11 +493,11 @@ fn swap(random: &mut Random, lines: &mut Vec<Line>, line: usize) {
     lines.swap(line, other);
 }
 
-/// Cut somewhere in the first three lines, or just after them.
+/// Cut somewhere in the lines before the steps, or just after them.
 fn truncate_head(random: &mut Random, text: &mut Vec<u8>) {
-    let mut newlines = text.iter().enumerate().filter(|(_, &byte)| byte == b'\n');
-    let (end, _) = newlines.nth(STEP_NAMES).expect("a walk has three lines before its steps");
-    text.truncate(random.index(end + 2));
+    let last = [b"\n", STEP_NAMES, b"\n"].concat();
+    let start = text.windows(last.len()).position(|part| part == last).expect(HAS_NAMES);
+    text.truncate(random.index(start + last.len() + 1));
 }
 
 fn change_byte(random: &mut Random, text: &mut Vec<u8>) {

@@ -2,10 +2,11 @@
 //! ones, among them tables of deadlines that match no table at all.
 
 use super::random::Random;
-use super::walk::small_values;
+use super::walk::{any_values, small_values};
 use crate::deadline::*;
 use crate::list::number_of;
 use crate::machine::*;
+use std::array::from_fn;
 
 /// The numbers of the places that have moments, and of checking among them.
 const TIMED: [u64; 6] = [1, 2, CHECKING, 4, 6, 7];
@@ -28,9 +29,9 @@ fn sound_table(random: &mut Random) -> Table {
     };
     table.word = random.between(0, table.values.n);
     let percent = random.pick(&[20, 60, 100]);
-    for entry in 0..table.values.n as usize {
+    for window in 1..=table.values.n {
         if random.chance(percent) {
-            table.places[entry] = sound_place(random, &table);
+            table.places[window as usize - 1] = sound_place(random, &table, window);
         }
     }
     table
@@ -38,16 +39,19 @@ fn sound_table(random: &mut Random) -> Table {
 
 fn values(random: &mut Random) -> Values {
     match random.below(4) {
-        0 => Values { a: 9_999_999, b: LIMIT_END, c: LIMIT_END, ..small_values(random, 1, 4) },
+        0 => {
+            let n = random.between(1, 4);
+            any_values(random, n, [9_999_999, LIMIT_END, LIMIT_END])
+        }
         1 => small_values(random, 90, 96),
         _ => small_values(random, 1, 5),
     }
 }
 
-/// Any place, with an arrival that is sound, as early and as late as may be now and then.
-fn sound_place(random: &mut Random, table: &Table) -> Place {
+/// Any place for a window, with an arrival that is sound, as early and as late as may be now and then.
+fn sound_place(random: &mut Random, table: &Table, window: u64) -> Place {
     let number = random.below(8);
-    let (_, limit) = limits(&table.values, number);
+    let (_, limit) = limits(&table.values, window, number);
     let soonest = table.clock.saturating_sub(limit);
     let any = random.between(soonest, table.clock);
     let arrival = random.pick(&[soonest, any, any, table.clock]);
@@ -55,23 +59,26 @@ fn sound_place(random: &mut Random, table: &Table) -> Place {
 }
 
 /// How long after its arrival a window may act at the place of that number, and how long after it the window has to.
-fn limits(values: &Values, number: u64) -> (u64, u64) {
+fn limits(values: &Values, window: u64, number: u64) -> (u64, u64) {
     if number == CHECKING {
         (values.b, values.c)
     } else {
-        (0, values.a)
+        (0, values.a_of(window))
     }
 }
 
 /// The table of deadlines that a table matches; past 2^64 a moment starts at 0 again, and then they do not match.
 fn deadlines_of(table: &Table) -> DeadlineTable {
-    let &Table { values, clock, word, places } = table;
-    let held = |place| {
-        let number = number_of(place);
-        let moments = moments_from(limits(&values, number), place.arrival().unwrap_or(0));
-        DeadlinePlace::numbered(number, moments).expect("one of the eight")
-    };
-    DeadlineTable { values, clock, word, places: places.map(held) }
+    let &Table { values, clock, word, .. } = table;
+    let places = from_fn(|entry| held(table, entry as u64 + 1));
+    DeadlineTable { values, clock, word, places }
+}
+
+fn held(table: &Table, window: u64) -> DeadlinePlace {
+    let place = table.place(window);
+    let number = number_of(place);
+    let moments = moments_from(limits(&table.values, window, number), place.arrival().unwrap_or(0));
+    DeadlinePlace::numbered(number, moments).expect("one of the eight")
 }
 
 fn moments_from((least, most): (u64, u64), arrival: u64) -> Moments {
@@ -81,8 +88,10 @@ fn moments_from((least, most): (u64, u64), arrival: u64) -> Moments {
 /// What is wrong with a table.
 #[derive(Clone, Copy, Debug, PartialEq, Eq)]
 pub enum Damage {
-    /// the number of windows or the limits do not stand
+    /// the number of windows, b or c do not stand, or the a of every window
     Values,
+    /// the a of one window does not stand, of one above n too
+    OwnLimit,
     /// the clock is past its end
     Clock,
     /// the word names a window above n
@@ -102,8 +111,9 @@ pub enum Damage {
 }
 
 impl Damage {
-    pub const ALL: [Damage; 9] = [
+    pub const ALL: [Damage; 10] = [
         Damage::Values,
+        Damage::OwnLimit,
         Damage::Clock,
         Damage::Word,
         Damage::AboveN,
@@ -120,12 +130,12 @@ pub fn damaged_pair(random: &mut Random, damage: Damage) -> (Option<Table>, Dead
     let mut table = sound_table(random);
     // a window in a timed place, which some of the damage is done to
     let number = if damage == Damage::BelowB { CHECKING } else { random.pick(&TIMED) };
-    let entry = random.index(table.values.n as usize);
-    let (_, limit) = limits(&table.values, number);
+    let window = random.between(1, table.values.n);
+    let (_, limit) = limits(&table.values, window, number);
     let arrival = damage_table(random, &mut table, damage, limit);
-    table.places[entry] = Place::numbered(number, arrival).expect("one of the eight");
+    table.places[window as usize - 1] = Place::numbered(number, arrival).expect("one of the eight");
     let mut deadlines = deadlines_of(&table);
-    damage_moments(random, &mut deadlines, damage, entry);
+    damage_moments(random, &mut deadlines, damage, window);
     (matching(&table, &deadlines).then_some(table), deadlines)
 }
 
@@ -133,6 +143,7 @@ pub fn damaged_pair(random: &mut Random, damage: Damage) -> (Option<Table>, Dead
 fn damage_table(random: &mut Random, table: &mut Table, damage: Damage, limit: u64) -> u64 {
     match damage {
         Damage::Values => damage_values(random, &mut table.values),
+        Damage::OwnLimit => damage_own_limit(random, &mut table.values),
         Damage::Clock => table.clock = random.pick(&[CLOCK_END + 1, 1 << 63, u64::MAX]),
         Damage::Word => table.word = random.pick(&[table.values.n + 1, 97, u64::MAX]),
         Damage::AboveN => place_above_n(random, table),
@@ -150,16 +161,25 @@ fn damage_table(random: &mut Random, table: &mut Table, damage: Damage, limit: u
 fn damage_values(random: &mut Random, values: &mut Values) {
     match random.below(6) {
         0 => values.n = random.pick(&[0, 97, u64::MAX]),
-        1 => values.a = 0,
-        2 => values.a = values.b,
+        1 => values.a = [0; WINDOWS],
+        2 => values.a = [values.b; WINDOWS],
         3 => values.b = values.c + 1,
         4 => values.c = random.pick(&[LIMIT_END + 1, u64::MAX]),
-        _ => values.a = u64::MAX,
+        _ => values.a = [u64::MAX; WINDOWS],
     }
+}
+
+fn damage_own_limit(random: &mut Random, values: &mut Values) {
+    let Values { n, b, .. } = *values;
+    let window = random.between(1, WINDOWS as u64);
+    let picked = random.pick(&[1, n, (n + 1).min(WINDOWS as u64), window]);
+    let fault = if picked <= n { random.pick(&[0, b, u64::MAX]) } else { random.pick(&[1, b - 1, u64::MAX]) };
+    values.a[picked as usize - 1] = fault;
 }
 
 fn place_above_n(random: &mut Random, table: &mut Table) {
     table.values.n = table.values.n.min(WINDOWS as u64 - 1);
+    table.values.a[table.values.n as usize..].fill(0);
     table.word = table.word.min(table.values.n);
     let above = random.between(table.values.n + 1, WINDOWS as u64);
     let number = random.between(1, 7);
@@ -167,8 +187,8 @@ fn place_above_n(random: &mut Random, table: &mut Table) {
 }
 
 /// Does what only a table of deadlines can show to the moments of a window.
-fn damage_moments(random: &mut Random, deadlines: &mut DeadlineTable, damage: Damage, entry: usize) {
-    let place = &mut deadlines.places[entry];
+fn damage_moments(random: &mut Random, deadlines: &mut DeadlineTable, damage: Damage, window: u64) {
+    let place = &mut deadlines.places[window as usize - 1];
     let Values { b, c, .. } = deadlines.values;
     let moments = match (damage, place.moments()) {
         (Damage::Apart, Some(moments)) => drawn_apart(random, moments),

@@ -2,6 +2,7 @@
 //! What is too long is 15, whatever else is wrong with it: [6.90].
 
 use super::random::Random;
+use super::shapes::Shape;
 use super::walk::{self, Mood};
 use super::Generated;
 use crate::recording::TEXT_END;
@@ -25,7 +26,8 @@ fn of_length(random: &mut Random, length: usize) -> Vec<u8> {
     let n = random.pick(&[1, 3, 96]);
     let values = walk::small_values(random, n, n);
     let mood = Mood { steps: length as u64, wild: 10, start: 0, focus: n, pause: 3 };
-    let mut text = walk::text(random, values, mood, length - 100);
+    let shape = Shape::any(random);
+    let mut text = walk::text(random, shape, values, mood, length - 100);
     while text.len() < length {
         fill(&mut text, length);
     }

@@ -2,9 +2,10 @@
 //! A walk's family says how many windows and which limits it has, where it starts and how wild it is.
 
 use super::random::Random;
+use super::shapes::Shape;
 use super::Generated;
 use crate::machine::*;
-use crate::recording::{head, line_of, Step};
+use crate::recording::{line_of, Step};
 
 /// What a walk is like.
 pub struct Mood {
@@ -20,29 +21,33 @@ pub struct Mood {
     pub pause: u64,
 }
 
+/// The a of windows that all have the same, and b and c.
+type Limits = [u64; 3];
+
 /// Limits at the ends of their rule.
-const EXTREMES: [(u64, u64, u64); 7] = [
-    (1, 2, 2),
-    (1, 2, 10_000_000),
-    (1, 9_999_999, 10_000_000),
-    (1, 10_000_000, 10_000_000),
-    (5, 6, 6),
-    (5, 8, 12),
-    (9_999_999, 10_000_000, 10_000_000),
+const EXTREMES: [Limits; 7] = [
+    [1, 2, 2],
+    [1, 2, 10_000_000],
+    [1, 9_999_999, 10_000_000],
+    [1, 10_000_000, 10_000_000],
+    [5, 6, 6],
+    [5, 8, 12],
+    [9_999_999, 10_000_000, 10_000_000],
 ];
 
-/// A walk of some family, of about so many bytes at most.
-pub fn recording(random: &mut Random, bytes: usize) -> Generated {
-    let (family, values, mood) = match random.below(8) {
+/// A walk of some family, in a recording of that shape and of about so many bytes at most.
+pub fn recording(random: &mut Random, shape: Shape, bytes: usize) -> Generated {
+    let (family, values, mood) = match random.below(9) {
         0 | 1 => small(random),
         2 => many(random),
         3 => limits(random),
         4 => clock_end(random),
         5 => wild(random),
         6 => contention(random),
+        7 => two_ages(random),
         _ => orderly(random),
     };
-    Generated { family, text: text(random, values, mood, bytes) }
+    Generated { family, text: text(random, shape, values, mood, bytes) }
 }
 
 type Family = (&'static str, Values, Mood);
@@ -62,19 +67,17 @@ fn many(random: &mut Random) -> Family {
 /// Limits and numbers of windows at the ends of their rule.
 fn limits(random: &mut Random) -> Family {
     let mood = Mood { steps: random.between(20, 200), wild: 20, start: 0, focus: 3, pause: LIMIT_END };
-    let (a, b, c) = random.pick(&EXTREMES);
-    ("walk-limits", Values { n: random.pick(&[1, 2, 3, 95, 96]), a, b, c }, mood)
+    let (n, extreme) = (random.pick(&[1, 2, 3, 95, 96]), random.pick(&EXTREMES));
+    ("walk-limits", any_values(random, n, extreme), mood)
 }
 
 /// Starts close to the end of the clock.
 fn clock_end(random: &mut Random) -> Family {
     let start = CLOCK_END - random.below(40);
     let mood = Mood { steps: random.between(20, 120), wild: 20, start, focus: 3, pause: 3 };
-    let mut values = small_values(random, 1, 3);
-    if random.chance(50) {
-        (values.a, values.b, values.c) = random.pick(&EXTREMES);
-    }
-    ("walk-clock-end", values, mood)
+    let (n, small) = (random.between(1, 3), small_limits(random));
+    let limits = if random.chance(50) { random.pick(&EXTREMES) } else { small };
+    ("walk-clock-end", any_values(random, n, limits), mood)
 }
 
 /// Mostly refused.
@@ -87,8 +90,20 @@ fn wild(random: &mut Random) -> Family {
 fn contention(random: &mut Random) -> Family {
     let mood = Mood { steps: random.between(60, 250), wild: 3, start: 0, focus: 5, pause: 2 };
     let a = random.between(3, 9);
-    let values = Values { n: random.between(2, 5), a, b: a + 1, c: a + random.between(1, 12) };
-    ("walk-contention", values, mood)
+    let (n, c) = (random.between(2, 5), a + random.between(1, 12));
+    ("walk-contention", any_values(random, n, [a, a + 1, c]), mood)
+}
+
+/// Some windows have an a of a few microseconds, and the others one that is many times longer.
+fn two_ages(random: &mut Random) -> Family {
+    let mood = Mood { steps: random.between(60, 250), wild: 5, start: 0, focus: 5, pause: 20 };
+    let (n, b) = (random.between(2, 5), random.between(40, 90));
+    let mut values = Values::equal(n, b - 1, b, b + random.between(0, 60));
+    for own in &mut values.a[..n as usize] {
+        let (short, long) = (random.between(1, 4), random.between(b / 2, b - 1));
+        *own = random.pick(&[short, long]);
+    }
+    ("walk-two-ages", values, mood)
 }
 
 /// Nearly all accepted, with many entries.
@@ -99,17 +114,34 @@ fn orderly(random: &mut Random) -> Family {
 
 /// So many windows, and limits of a few microseconds.
 pub fn small_values(random: &mut Random, fewest: u64, most: u64) -> Values {
-    let a = random.between(1, 6);
-    let b = a + random.between(1, 4);
-    let c = b + random.between(0, 6);
-    Values { n: random.between(fewest, most), a, b, c }
+    let (n, limits) = (random.between(fewest, most), small_limits(random));
+    any_values(random, n, limits)
 }
 
-/// A whole recording of such a walk.
-pub fn text(random: &mut Random, values: Values, mood: Mood, bytes: usize) -> Vec<u8> {
+fn small_limits(random: &mut Random) -> Limits {
+    let a = random.between(1, 6);
+    let b = a + random.between(1, 4);
+    [a, b, b + random.between(0, 6)]
+}
+
+/// Windows that all have this a, or each its own below b, often as small and as great as may be.
+pub fn any_values(random: &mut Random, n: u64, [a, b, c]: Limits) -> Values {
+    let mut values = Values::equal(n, a, b, c);
+    if random.chance(60) {
+        for own in &mut values.a[..n as usize] {
+            let any = random.between(1, b - 1);
+            *own = random.pick(&[1, b - 1, any, any]);
+        }
+    }
+    values
+}
+
+/// A whole recording of such a walk, with values that fit its shape.
+pub fn text(random: &mut Random, shape: Shape, values: Values, mood: Mood, bytes: usize) -> Vec<u8> {
+    let values = shape.fitted(values);
     let (_, table) = fresh(values);
     let mut walk = Walk { random, table, focus: mood.focus.min(values.n), pause: mood.pause };
-    let mut text = head(values);
+    let mut text = shape.head(values);
     if mood.start > 0 {
         text += &walk.take(Step::wait(mood.start));
     }

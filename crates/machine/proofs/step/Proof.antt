@@ -23,10 +23,10 @@ use Rattle.machine.proofs.step.Tie as tie
 
 -- at process `at`, the entries before it are passed
 abbrev Inv-loop : tie.InvT-loop
-Inv-loop action process time state parameters scene found₀ at₀ found at = (1 ≤ at) × Passed state process (at - 1) found
+Inv-loop action process time state n b c clock scene found₀ at₀ found at = (1 ≤ at) × Passed state process (at - 1) found
 
 abbrev μ-loop : tie.MeasureT-loop
-μ-loop action process time state parameters scene found₀ at₀ found at = 97 - at
+μ-loop action process time state n b c clock scene found₀ at₀ found at = 97 - at
 
 numbers-stand-requires : tie.Need-numbers-stand-requires Inv-loop μ-loop
 numbers-stand-requires c κs = search needs
@@ -36,7 +36,7 @@ answer-with-requires c κs = search needs
 
 returns : tie.Need-returns Inv-loop μ-loop
 returns c =
-    let a = c .before .before .before .before .args in
+    let a = c .before .before .before .before .before .before .args in
     rw (c .answer-with .ensures)
     (exit-unsound (a .t1) (a .action) (a .process) (a .time)
     (numbers-fault (a .t1) (sym (c .before .before .numbers-stand .ensures) ∙ not-true _ (c .before .if1 .taken))))
@@ -49,7 +49,7 @@ empty-requires c κs = search needs
 
 loop-holds : tie.Need-loop-holds Inv-loop μ-loop
 loop-holds c =
-    let a = c .before .before .before .before .before .args in (
+    let a = c .before .before .before .before .before .before .before .args in (
       omega arith,
       rw (c .empty .ensures)
           (nothing-passed (a .t1) (a .process)
@@ -80,9 +80,9 @@ loop-less c = search needs
 
 loop-again : tie.Need-loop-again Inv-loop μ-loop
 loop-again c =
-    let a = c .before .before .before .before .before .before .before .before .before .before .before .before .args in
-    let scene = c .before .before .before .before .before .before .before .before .scene-of in
-    let v = c .before .before .before .before .before .before .loop in
+    let a = c .before .before .before .before .before .before .before .before .before .before .before .before .before .before .before .before .before .args in
+    let scene = c .before .before .before .before .before .before .before .before .before .before .before .scene-of in
+    let v = c .before .before .before .before .before .before .before .before .before .loop in
     let e : v .at - 1 + 1 ≡ v .at + 1 - 1 = omega (arith, v .inv .0) in (
       omega arith,
       rw e at (turn-passed (a .t1) (a .process) (v .at - 1) (v .at) (v .found) (v .inv .1) (omega arith) (omega arith) idle
@@ -114,29 +114,29 @@ check-from-requires c κs = search needs
 
 -- what the pass told, where its ways out meet
 surveyed : (c : tie.Left-loop Inv-loop μ-loop)
-    → (let a = c .before .before .before .before .before .before .before .args in Surveyed (a .t1) (a .process) (c .loop-test .found))
+    → (let a = c .before .before .before .before .before .before .before .before .before .args in Surveyed (a .t1) (a .process) (c .loop-test .found))
 surveyed c =
-    let a = c .before .before .before .before .before .before .before .args in
+    let a = c .before .before .before .before .before .before .before .before .before .args in
     let v = c .before .loop in
     ⊎-elim
     (λ w. rw (w .1) (whole (passed-whole (a .t1) (a .process) (v .at - 1) (v .found) (v .inv .1) (omega (arith, w .0 .left)))))
-    (λ w. rw (w .6) (faulty (turn-fault (a .t1) (a .process) (v .at - 1) (v .at) (v .found) (v .inv .1) (omega (arith, w .0 .taken))
-    (omega (arith, v .inv .0)) idle (w .3 .result) (rw (c .before .before .before .scene-of .ensures, w .2 .ensures) at (w .3 .ensures)) (w .5 .taken))
-    (w .5 .taken)))
+    (λ w. rw (w .9) (faulty (turn-fault (a .t1) (a .process) (v .at - 1) (v .at) (v .found) (v .inv .1) (omega (arith, w .0 .taken))
+    (omega (arith, v .inv .0)) idle (w .6 .result) (rw (c .before .before .before .scene-of .ensures, w .5 .ensures) at (w .6 .ensures)) (w .8 .taken))
+    (w .8 .taken)))
     (c .loop-test .came)
 
 -- the acting process's location
 own : tie.After-slot-of Inv-loop μ-loop → Location
 own c =
-    let a = c .before .before .before .before .before .before .before .before .before .args in
+    let a = c .before .before .before .before .before .before .before .before .before .before .before .args in
     getD (a .t1 .processes) (c .slot-of .result) idle .location
 
 -- the transition of a known act is its row
 is-row : (c : tie.After-transition-of Inv-loop μ-loop)
-    → (let a = c .before .before .before .before .before .before .before .before .args in
+    → (let a = c .before .before .before .before .before .before .before .before .before .before .args in
     a .action ≢ waitAct → a .action ≤ lastAct → c .transition-of .result ≡ transitionOf (a .t1 .word) (a .action) (a .process) (a .time))
 is-row c some known =
-    let a = c .before .before .before .before .before .before .before .before .args in
+    let a = c .before .before .before .before .before .before .before .before .before .before .args in
     c .transition-of .ensures ∙ row-is (a .t1 .word) (a .action) (a .process) (a .time) some known
 
 judge-requires : tie.Need-judge-requires Inv-loop μ-loop
@@ -145,19 +145,19 @@ judge-requires c κs = search needs
 entry-at-requires : tie.Need-entry-at-requires Inv-loop μ-loop
 entry-at-requires c κs = search needs
 
-mul-t37 : tie.Need-mul-t37 Inv-loop μ-loop
-mul-t37 c = search (needs, own-fits (c .before .before .before .before .before .before .before .before))
+mul-t44 : tie.Need-mul-t44 Inv-loop μ-loop
+mul-t44 c = search (needs, own-fits (c .before .before .before .before .before .before .before .before))
 
 element-set-from-state : tie.Need-element-set-from-state Inv-loop μ-loop
 element-set-from-state c = search (needs, own-fits (c .before .before .before .before .before .before .before .before))
 
 -- the model's step goes with the answer
 answered : (c : tie.After-judge Inv-loop μ-loop)
-    → (let a = c .before .before .before .before .before .before .before .before .before .before .before .before .before .args in
+    → (let a = c .before .before .before .before .before .before .before .before .before .before .before .before .before .before .before .args in
     Goes (a .t1) (a .action) (a .process) (a .time) (stepOf (a .t1) (a .action) (a .process) (a .time)) (c .judge .result))
 unfolding own entryOf
 answered c =
-    let a = c .before .before .before .before .before .before .before .before .before .before .before .before .before .args in
+    let a = c .before .before .before .before .before .before .before .before .before .before .before .before .before .before .before .args in
     let scene = c .before .before .before .before .before .before .before .before .before .scene-of in
     let slot = c .before .before .before .before in
     let met = c .before .before .before .before .before in
@@ -168,7 +168,7 @@ answered c =
 
 returns-2 : tie.Need-returns-2 Inv-loop μ-loop
 returns-2 c =
-    let a = c .before .before .before .before .before .before .before .before .before .before .before .before .before .before .before .before .before .args in
+    let a = c .before .before .before .before .before .before .before .before .before .before .before .before .before .before .before .before .before .before .before .args in
     let slot = c .before .before .before .before .before .before .before .before .slot-of in
     let met = c .before .before .before .before .before .before .before .before .before in
     let judged = c .before .before .before .before in
@@ -180,13 +180,13 @@ returns-2 c =
 
 returns-3 : tie.Need-returns-3 Inv-loop μ-loop
 returns-3 c =
-    let a = c .before .before .before .before .before .before .before .before .before .before .before .before .before .before .before .before .args in
+    let a = c .before .before .before .before .before .before .before .before .before .before .before .before .before .before .before .before .before .before .args in
     exit-waited (a .t1) (a .action) (a .process) (a .time) (stepOf (a .t1) (a .action) (a .process) (a .time)) (c .before .before .before .judge .result)
     (answered (c .before .before .before)) (c .before .if3 .taken) (c .if4 .left)
 
 returns-4 : tie.Need-returns-4 Inv-loop μ-loop
 returns-4 c =
-    let a = c .before .before .before .before .before .before .before .before .before .before .before .before .before .before .before .args in
+    let a = c .before .before .before .before .before .before .before .before .before .before .before .before .before .before .before .before .before .args in
     exit-refused (a .t1) (a .action) (a .process) (a .time) (stepOf (a .t1) (a .action) (a .process) (a .time)) (c .before .before .judge .result)
     (answered (c .before .before)) (c .if3 .left)
 
@@ -218,7 +218,7 @@ step-spec =
     check-from-requires
     judge-requires
     entry-at-requires
-    mul-t37
+    mul-t44
     element-set-from-state
     returns-2
     returns-3

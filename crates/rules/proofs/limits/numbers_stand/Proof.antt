@@ -7,7 +7,7 @@ use lib.Dec.{leb}
 use borrow.Author.Needs.{needs}
 use borrow.Author.Tests.{lt-leb, le-leb, not-true, not-false}
 use Rattle.model.specs.declared.Parameters.{Parameters}
-use Rattle.model.specs.States.{parametersStand, lastTime}
+use Rattle.model.specs.States.{parametersOf, parametersStand, lastTime}
 use Rattle.rules.specs.Survey.{numbersStand}
 use Rattle.rules.proofs.limits.numbers_stand.Statement.{statement}
 use Rattle.rules.proofs.limits.numbers_stand.Tie as tie
@@ -29,14 +29,15 @@ module _ (k : Parameters) (clock word : ℕ) (e : parametersStand k ≡ true) wh
   unfolding numbersStand
   word-decides h = simp (e, le-leb _ _ h)
 
-stand : (c : tie.Else1) → parametersStand (c .before .before .args .parameters) ≡ true
+stand : (c : tie.Else1)
+    → (let args = c .before .before .before .args in parametersStand (parametersOf (args .n) (args .b) (args .c) (args .a .now)) ≡ true)
 stand c = sym (c .before .parameters-stand .ensures) ∙ not-false _ (c .if1 .left)
 
 returns-2 : tie.Need-returns-2
 returns-2 c = clock-decides _ _ _ (stand (c .before)) (c .if2 .taken)
 
 returns-3 : tie.Need-returns-3
-returns-3 c = word-decides _ _ _ (stand (c .before .before)) (c .before .if2 .left)
+returns-3 c = word-decides _ _ _ (stand (c .before)) (c .if2 .left)
 
 pub numbers-stand-spec : {M : Type 1} → statement M
 numbers-stand-spec = tie.close (tie.spec parameters-stand-requires returns returns-2 returns-3)

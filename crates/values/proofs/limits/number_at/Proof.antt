@@ -1,0 +1,21 @@
+-- `values::limits::number_at` meets its contract: past the end there is 0. Assumes nothing.
+use mathlib.Core.Path.{sym}
+use borrow.Author.Needs.{needs}
+use Rattle.model.proofs.OwnLimits.{past-end}
+use Rattle.values.proofs.limits.number_at.Statement.{statement}
+use Rattle.values.proofs.limits.number_at.Tie as tie
+
+returns : tie.Need-returns
+returns c = sym (past-end (c .before .args .numbers .now) _ (c .if1 .taken))
+
+mul-result : tie.Need-mul-result
+mul-result c = search needs
+
+shared-slice-read-result : tie.Need-shared-slice-read-result
+shared-slice-read-result c = search needs
+
+returns-2 : tie.Need-returns-2
+returns-2 c = search needs
+
+pub number-at-spec : {M : Type 1} → statement M
+number-at-spec = tie.close (tie.spec returns mul-result shared-slice-read-result returns-2)
