@@ -11,7 +11,14 @@ static uint64_t summary[FUNNELFAWN_SUMMARY_LENGTH];
 static uint64_t board[FUNNELFAWN_BOARD_LENGTH];
 static uint8_t text[FUNNELFAWN_MOST_TEXT + 1];
 static uint8_t report[FUNNELFAWN_MOST_REPORT];
+static uint64_t read_a[FUNNELFAWN_WINDOWS + 1];
 static uint64_t moments[FUNNELFAWN_MOST_STEPS], windows[FUNNELFAWN_MOST_STEPS], acts[FUNNELFAWN_MOST_STEPS];
+
+/* An a of 5 for every window. */
+static uint64_t fives[FUNNELFAWN_WINDOWS];
+
+/* What stands where a call writes nothing. */
+enum { FILLED = 7777 };
 
 static uint64_t step(uint64_t act, uint64_t window, uint64_t moment)
 {
@@ -70,16 +77,16 @@ static int is_filled(size_t from)
 
 static void start(void)
 {
-    CHECK(funnelfawn_fresh(96, 5, 8, 12, table, FUNNELFAWN_TABLE_LENGTH).number == FUNNELFAWN_OK);
+    CHECK(funnelfawn_fresh(96, 8, 12, fives, 96, table, FUNNELFAWN_TABLE_LENGTH).number == FUNNELFAWN_OK);
     CHECK(funnelfawn_new_summary(summary, FUNNELFAWN_SUMMARY_LENGTH).number == FUNNELFAWN_OK);
 }
 
 /* The lists below are those of this layout: it is another one as soon as a length or a place of them changes, or what a number means. */
 static void layout(void)
 {
-    CHECK(funnelfawn_layout() == FUNNELFAWN_LAYOUT && FUNNELFAWN_LAYOUT == 2);
-    CHECK(FUNNELFAWN_TABLE_LENGTH == 198 && FUNNELFAWN_SUMMARY_LENGTH == 101 && FUNNELFAWN_BOARD_LENGTH == 3076);
-    CHECK(FUNNELFAWN_DEADLINES_LENGTH == 294);
+    CHECK(funnelfawn_layout() == FUNNELFAWN_LAYOUT && FUNNELFAWN_LAYOUT == 3);
+    CHECK(FUNNELFAWN_TABLE_LENGTH == 293 && FUNNELFAWN_SUMMARY_LENGTH == 101 && FUNNELFAWN_BOARD_LENGTH == 3076);
+    CHECK(FUNNELFAWN_DEADLINES_LENGTH == 389 && FUNNELFAWN_HEADER_LENGTH == 101 && FUNNELFAWN_AT_A == 5);
 }
 
 /* Window 96 goes once round: the acts, the places and where each number stands. */
@@ -95,7 +102,8 @@ static void round_of_96(void)
     const size_t entry = FUNNELFAWN_HEADER_LENGTH + FUNNELFAWN_STRIDE * (96 - 1);
 
     start();
-    CHECK(table[FUNNELFAWN_AT_N] == 96 && table[FUNNELFAWN_AT_A] == 5 && table[FUNNELFAWN_AT_B] == 8 && table[FUNNELFAWN_AT_C] == 12);
+    CHECK(table[FUNNELFAWN_AT_N] == 96 && table[FUNNELFAWN_AT_B] == 8 && table[FUNNELFAWN_AT_C] == 12);
+    CHECK(memcmp(table + FUNNELFAWN_AT_A, fives, sizeof fives) == 0 && table[FUNNELFAWN_HEADER_LENGTH - 1] == 5);
     for (size_t i = 0; i < sizeof turns / sizeof turns[0]; i++) {
         CHECK(record(turns[i].act, FUNNELFAWN_WINDOWS, turns[i].moment) == FUNNELFAWN_OK);
         CHECK(table[FUNNELFAWN_AT_CLOCK] == turns[i].moment && table[FUNNELFAWN_AT_WORD] == turns[i].word);
@@ -149,7 +157,8 @@ static void refusals(void)
     summary[FUNNELFAWN_AT_WAITED] = 22;
     CHECK(record(FUNNELFAWN_ACT_WAIT, 0, 21) == FUNNELFAWN_REFUSED_NO_SUMMARY);
     /* a fresh table that is refused leaves the older one */
-    CHECK(funnelfawn_fresh(97, 5, 8, 12, table, FUNNELFAWN_TABLE_LENGTH).number == FUNNELFAWN_REFUSED_WINDOW_COUNT);
+    CHECK(funnelfawn_fresh(97, 8, 12, fives, 96, table, FUNNELFAWN_TABLE_LENGTH).number == FUNNELFAWN_REFUSED_WINDOW_COUNT);
+    CHECK(funnelfawn_fresh(96, 8, 12, fives, 95, table, FUNNELFAWN_TABLE_LENGTH).number == FUNNELFAWN_REFUSED_LIMITS);
     CHECK(step(FUNNELFAWN_ACT_CHECK, 3, 29) == FUNNELFAWN_OK);
     table[FUNNELFAWN_AT_WORD] = 97;
     CHECK(step(FUNNELFAWN_ACT_WAIT, 0, 29) == FUNNELFAWN_REFUSED_NO_TABLE);
@@ -159,9 +168,10 @@ static void refusals(void)
 static void lengths(void)
 {
     start();
-    CHECK(funnelfawn_fresh(1, 5, 8, 12, table, FUNNELFAWN_TABLE_LENGTH - 1).number == FUNNELFAWN_REFUSED_SHORT_OUTPUT);
-    CHECK(funnelfawn_fresh(97, 5, 8, 12, NULL, 0).number == FUNNELFAWN_REFUSED_WINDOW_COUNT);
-    CHECK(funnelfawn_fresh(1, 8, 8, 12, NULL, 0).number == FUNNELFAWN_REFUSED_LIMITS);
+    CHECK(funnelfawn_fresh(1, 8, 12, fives, 1, table, FUNNELFAWN_TABLE_LENGTH - 1).number == FUNNELFAWN_REFUSED_SHORT_OUTPUT);
+    CHECK(funnelfawn_fresh(97, 8, 12, NULL, 0, NULL, 0).number == FUNNELFAWN_REFUSED_WINDOW_COUNT);
+    CHECK(funnelfawn_fresh(1, 5, 12, fives, 1, NULL, 0).number == FUNNELFAWN_REFUSED_LIMITS);
+    CHECK(funnelfawn_fresh(1, 8, 12, NULL, 0, NULL, 0).number == FUNNELFAWN_REFUSED_LIMITS);
     CHECK(funnelfawn_new_summary(summary, FUNNELFAWN_SUMMARY_LENGTH - 1).number == FUNNELFAWN_REFUSED_SHORT_OUTPUT);
     CHECK(funnelfawn_step(table, FUNNELFAWN_TABLE_LENGTH - 1, 0, 0, 0).number == FUNNELFAWN_REFUSED_NO_TABLE);
     CHECK(funnelfawn_step(NULL, 0, 0, 0, 0).number == FUNNELFAWN_REFUSED_NO_TABLE);
@@ -183,7 +193,147 @@ static int match(void)
 static void start_both(void)
 {
     start();
-    CHECK(says(funnelfawn_fresh_deadlines(96, 5, 8, 12, deadlines, FUNNELFAWN_DEADLINES_LENGTH), FUNNELFAWN_OK, 0, 0) && match());
+    CHECK(says(funnelfawn_fresh_deadlines(96, 8, 12, fives, 96, deadlines, FUNNELFAWN_DEADLINES_LENGTH), FUNNELFAWN_OK, 0, 0) && match());
+}
+
+/* Window w has an a of w, with b = c = 97, and all try at 0: so each is late before the next, by its own a, and in both engines alike. Nobody
+ * else's a is of any account for it: window 96, the last one, has 96 at last. */
+static void own_limits(void)
+{
+    uint64_t a[FUNNELFAWN_WINDOWS];
+
+    for (uint64_t window = 1; window <= 96; window++)
+        a[window - 1] = window;
+    CHECK(says(funnelfawn_fresh(96, 97, 97, a, 96, table, FUNNELFAWN_TABLE_LENGTH), FUNNELFAWN_OK, 0, 0));
+    CHECK(says(funnelfawn_fresh_deadlines(96, 97, 97, a, 96, deadlines, FUNNELFAWN_DEADLINES_LENGTH), FUNNELFAWN_OK, 0, 0) && match());
+    CHECK(memcmp(table + FUNNELFAWN_AT_A, a, sizeof a) == 0 && memcmp(deadlines + FUNNELFAWN_AT_A, a, sizeof a) == 0);
+    for (uint64_t window = 1; window <= 96; window++)
+        CHECK(step(FUNNELFAWN_ACT_TRY, window, 0) == FUNNELFAWN_OK && step_deadlines(FUNNELFAWN_ACT_TRY, window, 0).number == FUNNELFAWN_OK);
+    for (uint64_t window = 1; window <= 96; window++) {
+        CHECK(says(funnelfawn_step(table, FUNNELFAWN_TABLE_LENGTH, FUNNELFAWN_ACT_WAIT, 0, window + 1), FUNNELFAWN_REFUSED_LATE, window, window));
+        CHECK(says(step_deadlines(FUNNELFAWN_ACT_WAIT, 0, window + 1), FUNNELFAWN_REFUSED_LATE, window, window) && match());
+        CHECK(step(FUNNELFAWN_ACT_WITHDRAW, window, window) == FUNNELFAWN_OK);
+        CHECK(step_deadlines(FUNNELFAWN_ACT_WITHDRAW, window, window).number == FUNNELFAWN_OK);
+    }
+    CHECK(step(FUNNELFAWN_ACT_WAIT, 0, 1000) == FUNNELFAWN_OK && step_deadlines(FUNNELFAWN_ACT_WAIT, 0, 1000).number == FUNNELFAWN_OK);
+    CHECK(memcmp(table + FUNNELFAWN_AT_A, a, sizeof a) == 0 && match());
+}
+
+/* The answers to a list of values of a, of which so many are lent: the three calls that take one look at it alike, and refused they write
+ * nothing. An empty `out` is too short, which comes last. */
+static uint64_t takes(uint64_t n, uint64_t b, uint64_t c, const uint64_t *a, size_t length)
+{
+    uint64_t number = funnelfawn_fresh(n, b, c, a, length, table, FUNNELFAWN_TABLE_LENGTH).number, before[FUNNELFAWN_TABLE_LENGTH];
+    struct funnelfawn_answer written = funnelfawn_write(n, b, c, a, length, NULL, 0, NULL, 0, NULL, 0, NULL, 0);
+
+    CHECK(funnelfawn_fresh_deadlines(n, b, c, a, length, deadlines, FUNNELFAWN_DEADLINES_LENGTH).number == number);
+    CHECK(says(written, number == FUNNELFAWN_OK ? FUNNELFAWN_REFUSED_SHORT_OUTPUT : number, 0, 0));
+    memcpy(before, table, sizeof before);
+    table[FUNNELFAWN_AT_N] = FILLED;
+    CHECK((funnelfawn_fresh(n, b, c, a, length, table, FUNNELFAWN_TABLE_LENGTH).number == FUNNELFAWN_OK) ==
+          (table[FUNNELFAWN_AT_N] != FILLED));
+    memcpy(table, before, sizeof before);
+    return number;
+}
+
+/* [2.30] [2.32] [9.45] Values that stand and that do not, of windows up to n and above it; and lists that are shorter than n, than 96, and
+ * longer. */
+static void values_of_a(void)
+{
+    uint64_t a[FUNNELFAWN_WINDOWS + 2] = {5, 7};
+
+    start_both();
+    CHECK(takes(2, 8, 12, a, 2) == FUNNELFAWN_OK && table[FUNNELFAWN_AT_A] == 5 && table[FUNNELFAWN_AT_A + 1] == 7);
+    CHECK(table[FUNNELFAWN_AT_A + 2] == 0 && table[FUNNELFAWN_HEADER_LENGTH - 1] == 0 && match());
+    CHECK(takes(2, 8, 12, a, 3) == FUNNELFAWN_OK && takes(2, 8, 12, a, 95) == FUNNELFAWN_OK && takes(2, 8, 12, a, 96) == FUNNELFAWN_OK);
+    /* one missing is 0, and a 0 up to n is no a */
+    CHECK(takes(2, 8, 12, a, 1) == FUNNELFAWN_REFUSED_LIMITS && takes(2, 8, 12, NULL, 0) == FUNNELFAWN_REFUSED_LIMITS);
+    CHECK(takes(3, 8, 12, a, 96) == FUNNELFAWN_REFUSED_LIMITS && takes(1, 8, 12, a, 1) == FUNNELFAWN_OK);
+    /* each by its own */
+    CHECK(takes(2, 7, 12, a, 2) == FUNNELFAWN_REFUSED_LIMITS && takes(2, 5, 12, a, 2) == FUNNELFAWN_REFUSED_LIMITS);
+    CHECK(takes(2, 8, 7, a, 2) == FUNNELFAWN_REFUSED_LIMITS && takes(2, 8, 8, a, 2) == FUNNELFAWN_OK);
+    CHECK(takes(2, 8, 10000000, a, 2) == FUNNELFAWN_OK && takes(2, 8, 10000001, a, 2) == FUNNELFAWN_REFUSED_LIMITS);
+    a[1] = 9999999;
+    CHECK(takes(2, 10000000, 10000000, a, 2) == FUNNELFAWN_OK && takes(2, 9999999, 10000000, a, 2) == FUNNELFAWN_REFUSED_LIMITS);
+    a[1] = UINT64_MAX;
+    CHECK(takes(2, 8, 12, a, 2) == FUNNELFAWN_REFUSED_LIMITS && takes(0, 8, 12, a, 2) == FUNNELFAWN_REFUSED_WINDOW_COUNT);
+    CHECK(takes(97, 8, 12, a, 97) == FUNNELFAWN_REFUSED_WINDOW_COUNT && takes(1, 8, 12, a, 2) == FUNNELFAWN_REFUSED_LIMITS);
+    a[1] = 7;
+    /* above n, a value that would do below it too */
+    for (size_t above = 2; above < 96; above++) {
+        a[above] = 5;
+        CHECK(takes(2, 8, 12, a, above + 1) == FUNNELFAWN_REFUSED_LIMITS && takes(2, 8, 12, a, above) == FUNNELFAWN_OK);
+        a[above] = 0;
+    }
+    /* past the 96th nothing is looked at, of 96 windows or of fewer */
+    a[96] = a[97] = FILLED;
+    CHECK(takes(2, 8, 12, a, 97) == FUNNELFAWN_OK && takes(2, 8, 12, a, 98) == FUNNELFAWN_OK);
+    memcpy(a, fives, sizeof fives);
+    CHECK(takes(96, 8, 12, a, 98) == FUNNELFAWN_OK && table[FUNNELFAWN_HEADER_LENGTH - 1] == 5 && takes(95, 8, 12, a, 95) == FUNNELFAWN_OK);
+    CHECK(takes(95, 8, 12, a, 96) == FUNNELFAWN_REFUSED_LIMITS && takes(96, 8, 12, a, 95) == FUNNELFAWN_REFUSED_LIMITS);
+    /* the values of a table serve another one */
+    CHECK(takes(96, 8, 12, fives, 96) == FUNNELFAWN_OK);
+    CHECK(says(funnelfawn_fresh_deadlines(96, 8, 12, table + FUNNELFAWN_AT_A, 96, deadlines, FUNNELFAWN_DEADLINES_LENGTH), FUNNELFAWN_OK, 0, 0));
+    CHECK(match());
+}
+
+/* A value of a in a lent table, for both engines: whether the table and the deadline table that match are sound with it. */
+static int is_sound_with(size_t window, uint64_t a)
+{
+    uint64_t number;
+
+    CHECK(takes(2, 8, 12, fives, 2) == FUNNELFAWN_OK);
+    table[FUNNELFAWN_AT_A + window - 1] = deadlines[FUNNELFAWN_AT_A + window - 1] = a;
+    number = step(FUNNELFAWN_ACT_WAIT, 0, 0);
+    CHECK(number == FUNNELFAWN_OK || number == FUNNELFAWN_REFUSED_NO_TABLE);
+    CHECK(step_deadlines(FUNNELFAWN_ACT_WAIT, 0, 0).number == number && match() == (number == FUNNELFAWN_OK));
+    return number == FUNNELFAWN_OK;
+}
+
+/* [2.120] The values of a that a sound table may have, up to n, here 2, and above. */
+static void sound_values(void)
+{
+    for (size_t window = 1; window <= 96; window++) {
+        CHECK(is_sound_with(window, 5) == (window <= 2) && is_sound_with(window, 0) == (window > 2));
+        CHECK(is_sound_with(window, 1) == (window <= 2) && is_sound_with(window, 7) == (window <= 2));
+        CHECK(!is_sound_with(window, 8) && !is_sound_with(window, UINT64_MAX) && !is_sound_with(window, UINT64_C(1) << 32));
+    }
+}
+
+/* Numbers of layout 2, laid out anew as the header says; the stride is that of a table or of a deadline table. */
+static void lay_out_anew(const uint64_t *stored, size_t stride, uint64_t *made)
+{
+    enum { N, A, B, C, CLOCK, WORD, ENTRIES };
+
+    made[FUNNELFAWN_AT_N] = stored[N];
+    made[FUNNELFAWN_AT_B] = stored[B];
+    made[FUNNELFAWN_AT_C] = stored[C];
+    made[FUNNELFAWN_AT_CLOCK] = stored[CLOCK];
+    made[FUNNELFAWN_AT_WORD] = stored[WORD];
+    for (size_t i = 0; i < FUNNELFAWN_WINDOWS; i++)
+        made[FUNNELFAWN_AT_A + i] = i < stored[N] ? stored[A] : 0;
+    memcpy(made + FUNNELFAWN_HEADER_LENGTH, stored + ENTRIES, stride * FUNNELFAWN_WINDOWS * sizeof *made);
+}
+
+/* What layout 2 had stored of two windows of which the first has set the word at 0: as it is, a list that is long enough takes it for another
+ * table, which is sound; laid out anew it is the table that the same acts lead to. */
+static void stored_with_layout_2(void)
+{
+    static const uint64_t stored[FUNNELFAWN_TABLE_LENGTH] = {2, 5, 8, 12, 0, 1, FUNNELFAWN_PLACE_CHECKING, 0};
+    static const uint64_t stored_deadlines[FUNNELFAWN_DEADLINES_LENGTH] = {2, 5, 8, 12, 0, 1, FUNNELFAWN_PLACE_CHECKING, 8, 12};
+    static const uint64_t acts_of_1[] = {FUNNELFAWN_ACT_TRY, FUNNELFAWN_ACT_TEST, FUNNELFAWN_ACT_SET};
+    uint64_t made[FUNNELFAWN_DEADLINES_LENGTH];
+
+    memcpy(table, stored, sizeof table);
+    CHECK(funnelfawn_step(table, 198, FUNNELFAWN_ACT_WAIT, 0, 12).number == FUNNELFAWN_REFUSED_NO_TABLE);
+    CHECK(says(funnelfawn_step(table, FUNNELFAWN_TABLE_LENGTH, FUNNELFAWN_ACT_WAIT, 0, 12), FUNNELFAWN_OK, 0, 12));
+    CHECK(takes(2, 8, 12, fives, 2) == FUNNELFAWN_OK);
+    for (size_t i = 0; i < sizeof acts_of_1 / sizeof acts_of_1[0]; i++)
+        CHECK(step(acts_of_1[i], 1, 0) == FUNNELFAWN_OK && step_deadlines(acts_of_1[i], 1, 0).number == FUNNELFAWN_OK);
+    lay_out_anew(stored, FUNNELFAWN_STRIDE, made);
+    CHECK(memcmp(made, table, sizeof table) == 0);
+    lay_out_anew(stored_deadlines, FUNNELFAWN_DEADLINES_STRIDE, made);
+    CHECK(memcmp(made, deadlines, sizeof deadlines) == 0 && match());
 }
 
 /* Window 96 goes once round by both engines: where its first and its last moment stand, and what they are. Only a check may not begin when the
@@ -206,7 +356,7 @@ static void deadlines_of_96(void)
         CHECK(says(step_deadlines(turns[i].act, FUNNELFAWN_WINDOWS, turns[i].moment), FUNNELFAWN_OK, selling, turns[i].moment));
         CHECK(step(turns[i].act, FUNNELFAWN_WINDOWS, turns[i].moment) == FUNNELFAWN_OK && match());
         CHECK(deadlines[entry] == turns[i].place && deadlines[entry + 1] == turns[i].first && deadlines[entry + 2] == turns[i].last);
-        /* the six that a table begins with */
+        /* what a table begins with */
         CHECK(memcmp(deadlines, table, FUNNELFAWN_HEADER_LENGTH * sizeof *table) == 0);
     }
     CHECK(entry + FUNNELFAWN_DEADLINES_STRIDE == FUNNELFAWN_DEADLINES_LENGTH);
@@ -228,8 +378,8 @@ static void refusals_by_deadlines(void)
     CHECK(says(step_deadlines(FUNNELFAWN_ACT_SET, 3, 21), FUNNELFAWN_OK, 0, 21));
     CHECK(says(step_deadlines(FUNNELFAWN_ACT_CHECK, 3, 28), FUNNELFAWN_REFUSED_EARLY, 3, 29));
     /* a fresh one that is refused leaves the older one */
-    CHECK(says(funnelfawn_fresh_deadlines(97, 5, 5, 12, deadlines, FUNNELFAWN_DEADLINES_LENGTH), FUNNELFAWN_REFUSED_WINDOW_COUNT, 0, 0));
-    CHECK(says(funnelfawn_fresh_deadlines(96, 5, 5, 12, deadlines, FUNNELFAWN_DEADLINES_LENGTH), FUNNELFAWN_REFUSED_LIMITS, 0, 0));
+    CHECK(says(funnelfawn_fresh_deadlines(97, 5, 12, fives, 96, deadlines, FUNNELFAWN_DEADLINES_LENGTH), FUNNELFAWN_REFUSED_WINDOW_COUNT, 0, 0));
+    CHECK(says(funnelfawn_fresh_deadlines(96, 5, 12, fives, 96, deadlines, FUNNELFAWN_DEADLINES_LENGTH), FUNNELFAWN_REFUSED_LIMITS, 0, 0));
     CHECK(says(step_deadlines(FUNNELFAWN_ACT_CHECK, 3, 29), FUNNELFAWN_OK, 0, 29));
 }
 
@@ -238,7 +388,7 @@ static int is_sound(uint64_t clock, uint64_t place, uint64_t first, uint64_t las
 {
     uint64_t lent[FUNNELFAWN_DEADLINES_LENGTH], arrivals[FUNNELFAWN_TABLE_LENGTH] = {0}, number;
 
-    funnelfawn_fresh_deadlines(96, 5, 8, 12, deadlines, FUNNELFAWN_DEADLINES_LENGTH);
+    funnelfawn_fresh_deadlines(96, 8, 12, fives, 96, deadlines, FUNNELFAWN_DEADLINES_LENGTH);
     deadlines[FUNNELFAWN_AT_CLOCK] = clock;
     deadlines[FUNNELFAWN_HEADER_LENGTH] = place;
     deadlines[FUNNELFAWN_HEADER_LENGTH + 1] = first, deadlines[FUNNELFAWN_HEADER_LENGTH + 2] = last;
@@ -283,9 +433,9 @@ static void lengths_of_deadlines(void)
     const size_t most = FUNNELFAWN_DEADLINES_LENGTH;
 
     start_both();
-    CHECK(says(funnelfawn_fresh_deadlines(1, 5, 8, 12, deadlines, most - 1), FUNNELFAWN_REFUSED_SHORT_OUTPUT, 0, 0));
-    CHECK(says(funnelfawn_fresh_deadlines(97, 5, 8, 12, NULL, 0), FUNNELFAWN_REFUSED_WINDOW_COUNT, 0, 0));
-    CHECK(says(funnelfawn_fresh_deadlines(1, 8, 8, 12, NULL, 0), FUNNELFAWN_REFUSED_LIMITS, 0, 0));
+    CHECK(says(funnelfawn_fresh_deadlines(1, 8, 12, fives, 1, deadlines, most - 1), FUNNELFAWN_REFUSED_SHORT_OUTPUT, 0, 0));
+    CHECK(says(funnelfawn_fresh_deadlines(97, 8, 12, NULL, 0, NULL, 0), FUNNELFAWN_REFUSED_WINDOW_COUNT, 0, 0));
+    CHECK(says(funnelfawn_fresh_deadlines(1, 5, 12, fives, 1, NULL, 0), FUNNELFAWN_REFUSED_LIMITS, 0, 0));
     CHECK(says(funnelfawn_step_deadlines(deadlines, most - 1, 0, 0, 0), FUNNELFAWN_REFUSED_NO_TABLE, 0, 0));
     CHECK(says(funnelfawn_step_deadlines(NULL, 0, 0, 0, 0), FUNNELFAWN_REFUSED_NO_TABLE, 0, 0));
     CHECK(says(funnelfawn_to_deadlines(table, FUNNELFAWN_TABLE_LENGTH, deadlines, most - 1), FUNNELFAWN_REFUSED_SHORT_OUTPUT, 0, 0));
@@ -294,14 +444,14 @@ static void lengths_of_deadlines(void)
     CHECK(says(funnelfawn_to_arrivals(deadlines, most - 1, NULL, 0), FUNNELFAWN_REFUSED_NO_TABLE, 0, 0));
     CHECK(says(funnelfawn_to_arrivals(NULL, 0, NULL, 0), FUNNELFAWN_REFUSED_NO_TABLE, 0, 0) && match());
     /* of a longer list the rest stays */
-    longer[most] = 7777;
-    CHECK(says(funnelfawn_fresh_deadlines(2, 5, 8, 12, longer, most + 1), FUNNELFAWN_OK, 0, 0) && longer[most] == 7777);
-    CHECK(says(funnelfawn_step_deadlines(longer, most + 1, FUNNELFAWN_ACT_TRY, 2, 9), FUNNELFAWN_OK, 0, 9) && longer[most] == 7777);
-    CHECK(says(funnelfawn_to_deadlines(table, FUNNELFAWN_TABLE_LENGTH, longer, most + 1), FUNNELFAWN_OK, 0, 0) && longer[most] == 7777);
+    longer[most] = FILLED;
+    CHECK(says(funnelfawn_fresh_deadlines(2, 8, 12, fives, 2, longer, most + 1), FUNNELFAWN_OK, 0, 0) && longer[most] == FILLED);
+    CHECK(says(funnelfawn_step_deadlines(longer, most + 1, FUNNELFAWN_ACT_TRY, 2, 9), FUNNELFAWN_OK, 0, 9) && longer[most] == FILLED);
+    CHECK(says(funnelfawn_to_deadlines(table, FUNNELFAWN_TABLE_LENGTH, longer, most + 1), FUNNELFAWN_OK, 0, 0) && longer[most] == FILLED);
     CHECK(memcmp(longer, deadlines, sizeof deadlines) == 0);
-    longer[FUNNELFAWN_TABLE_LENGTH] = 7777;
+    longer[FUNNELFAWN_TABLE_LENGTH] = FILLED;
     CHECK(says(funnelfawn_to_arrivals(deadlines, most, longer, most + 1), FUNNELFAWN_OK, 0, 0));
-    CHECK(memcmp(longer, table, sizeof table) == 0 && longer[FUNNELFAWN_TABLE_LENGTH] == 7777);
+    CHECK(memcmp(longer, table, sizeof table) == 0 && longer[FUNNELFAWN_TABLE_LENGTH] == FILLED);
 }
 
 /* The place k of the board holds this entry. */
@@ -386,41 +536,171 @@ static void tellings(void)
     CHECK(says(told.step, FUNNELFAWN_OK, 4, 28) && says(told.board, FUNNELFAWN_REFUSED_BACKWARD, 0, 30) && heads(30, 30, 0, 1));
 }
 
-/* The longest recording there is, written, read and replayed in the room that the header tells. */
-static void recordings(void)
+/* Room for the values of a, and for so many steps. */
+static struct funnelfawn_reading read_into(const uint8_t *bytes, size_t length, size_t a_room, size_t room)
 {
+    return funnelfawn_read(bytes, length, read_a, a_room, moments, room, windows, room, acts, room);
+}
+
+static struct funnelfawn_reading read_words(const char *words, size_t a_room, size_t room)
+{
+    return read_into((const uint8_t *)words, strlen(words), a_room, room);
+}
+
+/* What was read is n, b, c and these values of a, of which there are n, with zeros above; what lies past them stayed. */
+static int has_values(struct funnelfawn_reading read, uint64_t n, uint64_t b, uint64_t c, const uint64_t *a)
+{
+    size_t above = (size_t)n;
+
+    while (above < FUNNELFAWN_WINDOWS && read_a[above] == 0)
+        above++;
+    return read.answer.number == FUNNELFAWN_OK && read.n == n && read.b == b && read.c == c &&
+           memcmp(read_a, a, (size_t)n * sizeof *a) == 0 && above == FUNNELFAWN_WINDOWS && read_a[FUNNELFAWN_WINDOWS] == FILLED;
+}
+
+/* A list to be read into, as it is before. */
+static void fill_lists(void)
+{
+    for (size_t i = 0; i <= FUNNELFAWN_WINDOWS; i++)
+        read_a[i] = FILLED;
+    for (size_t i = 0; i < FUNNELFAWN_MOST_STEPS; i++)
+        moments[i] = windows[i] = acts[i] = FILLED;
+}
+
+/* A refused reading: its answer, zeros, and all four lists as they were, however much room they have. */
+static int is_refused(const char *words, uint64_t number, uint64_t line)
+{
+    struct funnelfawn_reading read;
+    int kept = 1;
+
+    fill_lists();
+    read = read_words(words, FUNNELFAWN_WINDOWS + 1, FUNNELFAWN_MOST_STEPS);
+    for (size_t i = 0; i <= FUNNELFAWN_WINDOWS; i++)
+        kept = kept && read_a[i] == FILLED && moments[i] == FILLED && windows[i] == FILLED && acts[i] == FILLED;
+    return says(read.answer, number, 0, line) && read.n == 0 && read.b == 0 && read.c == 0 && kept &&
+           says(read_words(words, 0, 0).answer, number, 0, line);
+}
+
+#define FORMER_HEAD "windows,a,b,c\n2,5,8,12\ntime,window,act\n"
+#define HEAD "windows,b,c\n2,8,12\nwindow,a\n1,5\n2,7\ntime,window,act\n"
+
+/* The longest recordings there are, of either shape, written, read and replayed in the room that the header tells. Of the former shape there
+ * is one step more, and it is not written any more. */
+static void longest_recordings(void)
+{
+    const char *former = "windows,a,b,c\n96,5,8,12\ntime,window,act\n", *line = "0,1,try\n";
+    static const uint64_t one[] = {1};
     struct funnelfawn_answer written;
     struct funnelfawn_reading read;
+    size_t length = strlen(former);
 
-    for (size_t i = 0; i < FUNNELFAWN_MOST_STEPS; i++)
-        moments[i] = 0, windows[i] = 1, acts[i] = FUNNELFAWN_ACT_TRY;
-    written = funnelfawn_write(96, 5, 8, 12, moments, FUNNELFAWN_MOST_STEPS, windows, FUNNELFAWN_MOST_STEPS, acts, FUNNELFAWN_MOST_STEPS,
-                               text, FUNNELFAWN_MOST_TEXT);
-    CHECK(written.number == FUNNELFAWN_OK && written.moment == FUNNELFAWN_MOST_TEXT);
-    CHECK(starts(text, "windows,a,b,c\n96,5,8,12\ntime,window,act\n0,1,try\n"));
-    read = funnelfawn_read(text, FUNNELFAWN_MOST_TEXT, moments, FUNNELFAWN_MOST_STEPS, windows, FUNNELFAWN_MOST_STEPS, acts,
-                           FUNNELFAWN_MOST_STEPS);
-    CHECK(read.answer.number == FUNNELFAWN_OK && read.answer.moment == FUNNELFAWN_MOST_STEPS);
-    CHECK(read.n == 96 && read.a == 5 && read.b == 8 && read.c == 12);
+    memcpy(text, former, length);
+    for (; length < FUNNELFAWN_MOST_TEXT; length += strlen(line))
+        memcpy(text + length, line, strlen(line));
+    fill_lists();
+    read = read_into(text, FUNNELFAWN_MOST_TEXT, FUNNELFAWN_WINDOWS, FUNNELFAWN_MOST_STEPS);
+    CHECK(has_values(read, 96, 8, 12, fives) && read.answer.moment == FUNNELFAWN_MOST_STEPS);
+    CHECK(read_into(text, FUNNELFAWN_MOST_TEXT, FUNNELFAWN_WINDOWS, FUNNELFAWN_MOST_STEPS - 1).answer.number == FUNNELFAWN_REFUSED_SHORT_OUTPUT);
     CHECK(funnelfawn_replay(text, FUNNELFAWN_MOST_TEXT, report, FUNNELFAWN_MOST_REPORT).number == FUNNELFAWN_OK);
     CHECK(FUNNELFAWN_MOST_REPORT == 687734); /* what the contract of `report` tells; no recording needs all of it */
     CHECK(starts(report, "line,answer,window,moment\n4,0,0,0\n5,9,1,0\n"));
     CHECK(funnelfawn_replay(text, FUNNELFAWN_MOST_TEXT, report, 25).number == FUNNELFAWN_REFUSED_SHORT_OUTPUT);
-    CHECK(funnelfawn_read(text, FUNNELFAWN_MOST_TEXT + 1, NULL, 0, NULL, 0, NULL, 0).answer.number == FUNNELFAWN_REFUSED_LENGTH);
+    CHECK(read_into(text, FUNNELFAWN_MOST_TEXT + 1, 0, 0).answer.number == FUNNELFAWN_REFUSED_LENGTH);
+    written = funnelfawn_write(read.n, read.b, read.c, read_a, FUNNELFAWN_WINDOWS, moments, FUNNELFAWN_MOST_STEPS, windows,
+                               FUNNELFAWN_MOST_STEPS, acts, FUNNELFAWN_MOST_STEPS, report, sizeof report);
+    CHECK(says(written, FUNNELFAWN_REFUSED_LENGTH, 0, 0));
+    written = funnelfawn_write(1, 2, 10, one, 1, moments, FUNNELFAWN_MOST_STEPS - 1, windows, FUNNELFAWN_MOST_STEPS, acts,
+                               FUNNELFAWN_MOST_STEPS, text, FUNNELFAWN_MOST_TEXT);
+    CHECK(says(written, FUNNELFAWN_OK, 0, FUNNELFAWN_MOST_TEXT));
+    CHECK(starts(text, "windows,b,c\n1,2,10\nwindow,a\n1,1\ntime,window,act\n0,1,try\n"));
+    fill_lists();
+    read = read_into(text, FUNNELFAWN_MOST_TEXT, FUNNELFAWN_WINDOWS, FUNNELFAWN_MOST_STEPS);
+    CHECK(has_values(read, 1, 2, 10, one) && read.answer.moment == FUNNELFAWN_MOST_STEPS - 1 && moments[FUNNELFAWN_MOST_STEPS - 1] == FILLED);
+    CHECK(funnelfawn_replay(text, FUNNELFAWN_MOST_TEXT, report, FUNNELFAWN_MOST_REPORT).number == FUNNELFAWN_OK);
+    CHECK(starts(report, "line,answer,window,moment\n6,0,0,0\n7,9,1,0\n"));
+}
+
+/* Both shapes are read; what is read of either is written in one, out of as many values of a as were read. */
+static void shapes(void)
+{
+    static const uint64_t a[] = {5, 7}, equal[] = {5, 5};
+    struct funnelfawn_reading read;
+    struct funnelfawn_answer written;
+
+    fill_lists();
+    read = read_words(HEAD "0,1,try\n3,2,try\n", FUNNELFAWN_WINDOWS, 2);
+    CHECK(has_values(read, 2, 8, 12, a) && says(read.answer, FUNNELFAWN_OK, 0, 2));
+    CHECK(moments[1] == 3 && windows[1] == 2 && acts[1] == FUNNELFAWN_ACT_TRY && moments[2] == FILLED);
+    fill();
+    written = funnelfawn_write(read.n, read.b, read.c, read_a, FUNNELFAWN_WINDOWS, moments, 2, windows, 2, acts, 2, report, sizeof report);
+    CHECK(says(written, FUNNELFAWN_OK, 0, strlen(HEAD) + 16) && starts(report, HEAD "0,1,try\n3,2,try\n") && is_filled(strlen(HEAD) + 16));
+    fill_lists();
+    read = read_words(FORMER_HEAD "0,1,try\n", FUNNELFAWN_WINDOWS + 1, 1);
+    CHECK(has_values(read, 2, 8, 12, equal) && says(read.answer, FUNNELFAWN_OK, 0, 1));
+    fill();
+    written = funnelfawn_write(read.n, read.b, read.c, equal, 2, moments, 1, windows, 1, acts, 1, report, sizeof report);
+    CHECK(written.number == FUNNELFAWN_OK);
+    CHECK(starts(report, "windows,b,c\n2,8,12\nwindow,a\n1,5\n2,5\ntime,window,act\n0,1,try\n") && is_filled((size_t)written.moment));
+    /* room: 96 places for the values, whatever n is, and as many as there are steps */
+    fill_lists();
+    read = read_words(HEAD "0,1,try\n", FUNNELFAWN_WINDOWS - 1, 1);
+    CHECK(says(read.answer, FUNNELFAWN_REFUSED_SHORT_OUTPUT, 0, 0) && read.n == 0 && read_a[0] == FILLED && moments[0] == FILLED);
+    read = read_words(FORMER_HEAD "0,1,try\n", 2, 1);
+    CHECK(says(read.answer, FUNNELFAWN_REFUSED_SHORT_OUTPUT, 0, 0) && read.b == 0 && read_a[0] == FILLED && moments[0] == FILLED);
+    read = read_words(HEAD "0,1,try\n", FUNNELFAWN_WINDOWS, 0);
+    CHECK(says(read.answer, FUNNELFAWN_REFUSED_SHORT_OUTPUT, 0, 0) && read.c == 0 && read_a[0] == FILLED && moments[0] == FILLED);
+    CHECK(read_words(HEAD, FUNNELFAWN_WINDOWS, 0).answer.number == FUNNELFAWN_OK);
+    /* the line of a step that has no form */
     acts[3] = FUNNELFAWN_ACT_WITHDRAW + 1;
-    written = funnelfawn_write(96, 5, 8, 12, moments, 4, windows, 4, acts, 4, text, 0);
-    CHECK(written.number == FUNNELFAWN_REFUSED_LINE && written.moment == 7);
-    text[0] = 'W';
-    read = funnelfawn_read(text, FUNNELFAWN_MOST_TEXT, NULL, 0, NULL, 0, NULL, 0);
-    CHECK(read.answer.number == FUNNELFAWN_REFUSED_NAMES && read.answer.moment == 1 && read.n == 0);
+    acts[0] = acts[1] = acts[2] = moments[0] = moments[1] = moments[2] = windows[0] = windows[1] = windows[2] = 0;
+    CHECK(says(funnelfawn_write(2, 8, 12, a, 2, moments, 4, windows, 4, acts, 4, text, 0), FUNNELFAWN_REFUSED_LINE, 0, 5 + 2 + 3));
+    CHECK(says(funnelfawn_write(96, 8, 12, fives, 96, moments, 4, windows, 4, acts, 4, text, 0), FUNNELFAWN_REFUSED_LINE, 0, 5 + 96 + 3));
+    CHECK(says(funnelfawn_write(2, 8, 12, fives, 3, moments, 4, windows, 4, acts, 4, text, 0), FUNNELFAWN_REFUSED_LIMITS, 0, 0));
+}
+
+/* A fault of the first lines: the reader's answer, which has the line with 13 and 14 alone, and that of spans, which always has it. */
+static int is_faulty(const char *words, uint64_t number, uint64_t line)
+{
+    int told = number == FUNNELFAWN_REFUSED_NAMES || number == FUNNELFAWN_REFUSED_LINE;
+
+    return is_refused(words, number, told ? line : 0) &&
+           says(funnelfawn_spans((const uint8_t *)words, strlen(words), NULL, 0), number, 0, line);
+}
+
+/* [6.90] In their order, each with a fault behind it that comes later. */
+static void faults_of_heads(void)
+{
+    CHECK(is_faulty("", FUNNELFAWN_REFUSED_NAMES, 1) && is_faulty("windows,b\n", FUNNELFAWN_REFUSED_NAMES, 1));
+    CHECK(is_faulty("windows,b,c", FUNNELFAWN_REFUSED_NAMES, 1) && is_faulty("windows,b,c\n", FUNNELFAWN_REFUSED_LINE, 2));
+    CHECK(is_faulty("windows,b,c\n2,5,8,12\n", FUNNELFAWN_REFUSED_LINE, 2) && is_faulty("windows,a,b,c\n2,8,12\n", FUNNELFAWN_REFUSED_LINE, 2));
+    CHECK(is_faulty("windows,b,c\n97,8,7\nwindow\n", FUNNELFAWN_REFUSED_WINDOW_COUNT, 2));
+    CHECK(is_faulty("windows,b,c\n0,8,12\nwindow,a\ntime,window,act\n", FUNNELFAWN_REFUSED_WINDOW_COUNT, 2));
+    CHECK(is_faulty("windows,b,c\n2,8,7\nwindow,b\n", FUNNELFAWN_REFUSED_NAMES, 3));
+    CHECK(is_faulty("windows,b,c\n2,8,7\ntime,window,act\n", FUNNELFAWN_REFUSED_NAMES, 3));
+    CHECK(is_faulty("windows,b,c\n2,8,7\nwindow,a\n", FUNNELFAWN_REFUSED_LINE, 4));
+    CHECK(is_faulty("windows,b,c\n2,8,7\nwindow,a\n2,5\n1,5\n", FUNNELFAWN_REFUSED_LINE, 4));
+    CHECK(is_faulty("windows,b,c\n2,8,7\nwindow,a\n1,5\n", FUNNELFAWN_REFUSED_LINE, 5));
+    CHECK(is_faulty("windows,b,c\n2,8,7\nwindow,a\n1,5\n1,5\n", FUNNELFAWN_REFUSED_LINE, 5));
+    CHECK(is_faulty("windows,b,c\n2,8,7\nwindow,a\n1,5\n2,100000000\n", FUNNELFAWN_REFUSED_LINE, 5));
+    CHECK(is_faulty("windows,b,c\n2,8,7\nwindow,a\n1,5\ntime,window,act\n", FUNNELFAWN_REFUSED_LINE, 5));
+    CHECK(is_faulty("windows,b,c\n2,8,7\nwindow,a\n1,5\n2,7\ntime\n", FUNNELFAWN_REFUSED_LIMITS, 5));
+    CHECK(is_faulty("windows,b,c\n2,8,12\nwindow,a\n1,8\n2,7\n", FUNNELFAWN_REFUSED_LIMITS, 5));
+    CHECK(is_faulty("windows,b,c\n1,8,12\nwindow,a\n1,0\n", FUNNELFAWN_REFUSED_LIMITS, 4));
+    CHECK(is_faulty("windows,b,c\n1,8,12\nwindow,a\n1,99999999\n2,5\n", FUNNELFAWN_REFUSED_LIMITS, 4));
+    CHECK(is_faulty("windows,b,c\n2,8,12\nwindow,a\n1,5\n2,7\n", FUNNELFAWN_REFUSED_NAMES, 6));
+    CHECK(is_faulty("windows,b,c\n2,8,12\nwindow,a\n1,5\n2,7\n3,7\n", FUNNELFAWN_REFUSED_NAMES, 6));
+    CHECK(is_faulty(HEAD "0,1,try\n1,1,sell\n", FUNNELFAWN_REFUSED_LINE, 8) && is_faulty(HEAD "\n", FUNNELFAWN_REFUSED_LINE, 7));
+    /* in the former shape the limits are judged at once */
+    CHECK(is_faulty("windows,a,b,c\n97,8,8,7\ntime\n", FUNNELFAWN_REFUSED_WINDOW_COUNT, 2));
+    CHECK(is_faulty("windows,a,b,c\n2,8,8,12\ntime\n", FUNNELFAWN_REFUSED_LIMITS, 2));
+    CHECK(is_faulty("windows,a,b,c\n2,5,8,12\nwindow,a\n", FUNNELFAWN_REFUSED_NAMES, 3));
+    CHECK(is_faulty(FORMER_HEAD "0,1,try\n1,1,sell\n", FUNNELFAWN_REFUSED_LINE, 5));
 }
 
 static struct funnelfawn_answer spans_of(const char *words, uint8_t *out, size_t room)
 {
     return funnelfawn_spans((const uint8_t *)words, strlen(words), out, room);
 }
-
-#define HEAD "windows,a,b,c\n2,5,8,12\ntime,window,act\n"
 
 /* A recording and its spans: into no byte, one too few, just enough, some more, as many as the recording has, and the most there can be.
  * Whatever the room, the bytes that the text does not need stay. */
@@ -438,21 +718,28 @@ static void has_spans(const char *recording, const char *due)
     }
 }
 
-/* [11.100], [11.105], [11.110]; a span of no time at all, and acts that are refused; and the last moment that there is. */
+#define WHOLE_CASE \
+    "0,1,try\n3,1,test\n3,2,try\n4,2,test\n8,1,set\n9,2,set\n15,1,check\n16,1,check\n18,2,check\n24,0,wait\n20,1,test\n20,2,crit\n19,0,wait\n"
+
+/* [11.100], [11.105], [11.110]; a span of no time at all, and acts that are refused; the last moment that there is; and two windows of
+ * different age, of which the older one is let in when the other would be late. */
 static void spans(void)
 {
+    has_spans(FORMER_HEAD, "window,from,to\n");
     has_spans(HEAD, "window,from,to\n");
-    has_spans(HEAD "0,1,try\n3,1,test\n3,2,try\n4,2,test\n8,1,set\n9,2,set\n15,1,check\n16,1,check\n18,2,check\n24,0,wait\n20,1,test\n"
-                   "20,2,crit\n19,0,wait\n",
-              "window,from,to\n2,20,-\n");
-    has_spans(HEAD "0,1,try\n1,1,test\n2,1,set\n10,1,check\n10,2,crit\n12,1,crit\n11,1,exit\n13,2,exit\n16,1,exit\n18,1,reset\n18,2,try\n"
-                   "20,2,test\n21,2,set\n22,1,rem\n29,2,check\n31,2,crit\n",
+    has_spans(FORMER_HEAD WHOLE_CASE, "window,from,to\n2,20,-\n");
+    has_spans("windows,b,c\n2,8,12\nwindow,a\n1,5\n2,5\ntime,window,act\n" WHOLE_CASE, "window,from,to\n2,20,-\n");
+    has_spans(FORMER_HEAD "0,1,try\n1,1,test\n2,1,set\n10,1,check\n10,2,crit\n12,1,crit\n11,1,exit\n13,2,exit\n16,1,exit\n18,1,reset\n18,2,try\n"
+                          "20,2,test\n21,2,set\n22,1,rem\n29,2,check\n31,2,crit\n",
               "window,from,to\n1,12,16\n2,31,-\n");
     has_spans(HEAD "0,2,try\n0,2,test\n0,2,set\n8,2,check\n8,2,crit\n8,2,crit\n7,2,exit\n8,1,exit\n8,2,exit\n8,2,exit\n",
               "window,from,to\n2,8,8\n");
     has_spans("windows,a,b,c\n96,5,8,12\ntime,window,act\n999999999992,96,try\n999999999992,96,test\n999999999992,96,set\n"
               "1000000000000,96,check\n1000000000000,96,crit\n1000000000001,96,exit\n1000000000000,96,exit\n",
               "window,from,to\n96,1000000000000,1000000000000\n");
+    has_spans(HEAD "0,1,try\n0,1,test\n0,1,set\n8,1,check\n14,1,crit\n13,1,crit\n20,1,exit\n20,1,reset\n20,1,rem\n20,2,try\n20,2,test\n20,2,set\n"
+                   "28,2,check\n35,2,crit\n",
+              "window,from,to\n1,13,20\n2,35,-\n");
 }
 
 /* The fault comes before a short output, carries the line that `replay` prints, and leaves all bytes. */
@@ -467,13 +754,13 @@ static void faults_of_spans(void)
 {
     CHECK(says(funnelfawn_spans(NULL, 0, NULL, 0), FUNNELFAWN_REFUSED_NAMES, 0, 1));
     CHECK(has_fault("", FUNNELFAWN_REFUSED_NAMES, 1) && has_fault("window,from,to\n", FUNNELFAWN_REFUSED_NAMES, 1));
-    CHECK(has_fault("windows,a,b,c\n", FUNNELFAWN_REFUSED_LINE, 2));
     CHECK(has_fault("windows,a,b,c\n2,5,8,012\n", FUNNELFAWN_REFUSED_LINE, 2));
     CHECK(has_fault("windows,a,b,c\n97,5,5,12\n", FUNNELFAWN_REFUSED_WINDOW_COUNT, 2));
     CHECK(has_fault("windows,a,b,c\n96,5,5,12\n", FUNNELFAWN_REFUSED_LIMITS, 2));
+    CHECK(has_fault("windows,b,c\n2,5,12\nwindow,a\n1,4\n2,5\n", FUNNELFAWN_REFUSED_LIMITS, 5));
     CHECK(has_fault("windows,a,b,c\n2,5,8,12\ntime,window\n", FUNNELFAWN_REFUSED_NAMES, 3));
-    CHECK(has_fault(HEAD "0,1,try\n1,1,test", FUNNELFAWN_REFUSED_LINE, 5));
-    CHECK(has_fault(HEAD "0,1,try\n1,1,test\n2,1,sell\n", FUNNELFAWN_REFUSED_LINE, 6));
+    CHECK(has_fault(FORMER_HEAD "0,1,try\n1,1,test", FUNNELFAWN_REFUSED_LINE, 5));
+    CHECK(has_fault(HEAD "0,1,try\n1,1,test\n2,1,sell\n", FUNNELFAWN_REFUSED_LINE, 9));
 }
 
 /* The longest recording there is, with room for just its spans and with as much as the header tells; one byte more is too long. */
@@ -497,11 +784,17 @@ static void longest_spans(void)
 
 int main(void)
 {
+    for (size_t i = 0; i < FUNNELFAWN_WINDOWS; i++)
+        fives[i] = 5;
     layout();
     round_of_96();
     withdrawal();
     refusals();
     lengths();
+    own_limits();
+    values_of_a();
+    sound_values();
+    stored_with_layout_2();
     deadlines_of_96();
     refusals_by_deadlines();
     sound_deadlines();
@@ -509,7 +802,9 @@ int main(void)
     ring();
     board_refusals();
     tellings();
-    recordings();
+    longest_recordings();
+    shapes();
+    faults_of_heads();
     spans();
     faults_of_spans();
     longest_spans();

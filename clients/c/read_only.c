@@ -1,7 +1,7 @@
 /* What the steps write, tried on memory that can only be read: a refused one writes nothing but the count of refused acts, and an accepted
- * one nothing but its own numbers and, where time goes unused, waits. So it is with the step of the second engine, which counts nothing; and
- * the calls between the two kinds of table write a whole one or nothing. A fault is a check that fails. Each check names the line that fails;
- * the last line counts them. */
+ * one nothing but its own numbers and, where time goes unused, waits. So it is with the step of the second engine, which counts nothing; the
+ * calls between the two kinds of table, and those for a fresh one, write a whole one or nothing; and the values of a are only read, but where
+ * a reading puts them. A fault is a check that fails. Each check names the line that fails; the last line counts them. */
 #define _DEFAULT_SOURCE
 
 #include "funnelfawn.h"
@@ -38,7 +38,7 @@ struct ground {
     size_t length;
 };
 
-static struct ground table, deadlines, summary, board;
+static struct ground table, deadlines, summary, board, values, times;
 
 static void need(int done)
 {
@@ -147,11 +147,46 @@ static uint64_t to_arrivals(void)
     return funnelfawn_to_arrivals(deadlines.list, deadlines.length, table.list, table.length).number;
 }
 
+/* Of two windows, with the values of a that are laid out. */
+static uint64_t fresh(uint64_t n)
+{
+    if (sigsetjmp(before_the_call, 1) != 0)
+        return FAULTED;
+    return funnelfawn_fresh(n, 8, 12, values.list, values.length, table.list, table.length).number;
+}
+
+static uint64_t fresh_deadlines(uint64_t n)
+{
+    if (sigsetjmp(before_the_call, 1) != 0)
+        return FAULTED;
+    return funnelfawn_fresh_deadlines(n, 8, 12, values.list, values.length, deadlines.list, deadlines.length).number;
+}
+
+/* A recording without a step. */
+static uint64_t write_values(uint64_t n, uint8_t *out, size_t room)
+{
+    if (sigsetjmp(before_the_call, 1) != 0)
+        return FAULTED;
+    return funnelfawn_write(n, 8, 12, values.list, values.length, NULL, 0, NULL, 0, NULL, 0, out, room).number;
+}
+
+/* Steps go to the times that are laid out, and their windows and acts to lists that can be written. */
+static uint64_t read_text(const char *text)
+{
+    uint64_t windows[2], acts[2];
+
+    if (sigsetjmp(before_the_call, 1) != 0)
+        return FAULTED;
+    return funnelfawn_read((const uint8_t *)text, strlen(text), values.list, values.length, times.list, times.length, windows, 2, acts, 2)
+        .answer.number;
+}
+
 /* The two recorded steps, which have to write the same as long as no crit is accepted. */
 static uint64_t (*const recorded[])(struct act) = {record, record_and_tell};
 
-/* The table of the refusals: of two windows, 1 came to checking at 0 and 2 to testing at 5, and the clock is at 6. Both are trying and nobody
- * sells, so that an accepted act past 6 would raise what they have waited. The deadline table that matches it; and a summary, and a board. */
+/* The table of the refusals: of two windows, which have an a of 4 and of 5, 1 came to checking at 0 and 2 to testing at 5, and the clock is at
+ * 6. Both are trying and nobody sells, so that an accepted act past 6 would raise what they have waited. The deadline table that matches it;
+ * and a summary, and a board. */
 static uint64_t numbers[FUNNELFAWN_TABLE_LENGTH], moments[FUNNELFAWN_DEADLINES_LENGTH];
 static uint64_t counts[FUNNELFAWN_SUMMARY_LENGTH], entries[FUNNELFAWN_BOARD_LENGTH];
 
@@ -161,8 +196,9 @@ static void start(void)
         {FUNNELFAWN_ACT_TRY, 1, 0}, {FUNNELFAWN_ACT_TEST, 1, 0}, {FUNNELFAWN_ACT_SET, 1, 0},
         {FUNNELFAWN_ACT_TRY, 2, 5}, {FUNNELFAWN_ACT_WAIT, 0, 6},
     };
+    static const uint64_t a[] = {4, 5};
 
-    CHECK(funnelfawn_fresh(2, 5, 8, 12, numbers, FUNNELFAWN_TABLE_LENGTH).number == FUNNELFAWN_OK, "fresh", 0);
+    CHECK(funnelfawn_fresh(2, 8, 12, a, 2, numbers, FUNNELFAWN_TABLE_LENGTH).number == FUNNELFAWN_OK, "fresh", 0);
     CHECK(funnelfawn_new_summary(counts, FUNNELFAWN_SUMMARY_LENGTH).number == FUNNELFAWN_OK, "new summary", 0);
     CHECK(funnelfawn_set_up_board(30, entries, FUNNELFAWN_BOARD_LENGTH).number == FUNNELFAWN_OK, "set up board", 0);
     for (size_t i = 0; i < sizeof acts / sizeof acts[0]; i++)
@@ -196,15 +232,22 @@ static void no_table(void)
     static const struct { size_t place; uint64_t number; } damage[] = {
         {FUNNELFAWN_AT_N, 0},
         {FUNNELFAWN_AT_N, 97},
-        {FUNNELFAWN_AT_A, 8},
+        {FUNNELFAWN_AT_B, 5},
+        {FUNNELFAWN_AT_B, 13},
+        {FUNNELFAWN_AT_C, 10000001},
         {FUNNELFAWN_AT_CLOCK, UINT64_C(1000000000001)},
         {FUNNELFAWN_AT_WORD, 3},
+        {FUNNELFAWN_AT_A, 8},
+        {FUNNELFAWN_AT_A, 0},
+        {FUNNELFAWN_AT_A + 1, UINT64_MAX},
+        {FUNNELFAWN_AT_A + 2, 5},
+        {FUNNELFAWN_HEADER_LENGTH - 1, 5},
         {FUNNELFAWN_HEADER_LENGTH, 8},
         {FUNNELFAWN_HEADER_LENGTH + 1, 7},
         {FUNNELFAWN_HEADER_LENGTH + 2 * FUNNELFAWN_STRIDE, 5},
         {FUNNELFAWN_TABLE_LENGTH - 1, 1},
     };
-    static const size_t lengths[] = {0, 1, FUNNELFAWN_HEADER_LENGTH, FUNNELFAWN_TABLE_LENGTH - 1};
+    static const size_t lengths[] = {0, 1, FUNNELFAWN_AT_A, FUNNELFAWN_HEADER_LENGTH, FUNNELFAWN_TABLE_LENGTH - 1};
 
     for (size_t i = 0; i < sizeof damage / sizeof damage[0]; i++) {
         uint64_t damaged[FUNNELFAWN_TABLE_LENGTH];
@@ -232,12 +275,20 @@ static void no_deadlines(void)
     static const struct { size_t place; uint64_t number; } damage[] = {
         {FUNNELFAWN_AT_N, 0},
         {FUNNELFAWN_AT_N, 97},
-        {FUNNELFAWN_AT_A, 8},
-        {FUNNELFAWN_AT_A, 4},
+        {FUNNELFAWN_AT_B, 5},
+        {FUNNELFAWN_AT_B, 9},
+        {FUNNELFAWN_AT_C, 11},
+        {FUNNELFAWN_AT_C, 10000001},
         {FUNNELFAWN_AT_CLOCK, 4},
         {FUNNELFAWN_AT_CLOCK, 11},
         {FUNNELFAWN_AT_CLOCK, UINT64_C(1000000000001)},
         {FUNNELFAWN_AT_WORD, 3},
+        {FUNNELFAWN_AT_A, 8},
+        {FUNNELFAWN_AT_A, 0},
+        {FUNNELFAWN_AT_A + 1, 4},
+        {FUNNELFAWN_AT_A + 1, 6},
+        {FUNNELFAWN_AT_A + 2, 5},
+        {FUNNELFAWN_HEADER_LENGTH - 1, 5},
         {FUNNELFAWN_HEADER_LENGTH, 8},
         {FUNNELFAWN_HEADER_LENGTH, 4},
         {FUNNELFAWN_HEADER_LENGTH + 1, 9},
@@ -247,7 +298,7 @@ static void no_deadlines(void)
         {FUNNELFAWN_DEADLINES_LENGTH - 2, 1},
         {FUNNELFAWN_DEADLINES_LENGTH - 1, 1},
     };
-    static const size_t lengths[] = {0, 1, FUNNELFAWN_HEADER_LENGTH, FUNNELFAWN_TABLE_LENGTH, FUNNELFAWN_DEADLINES_LENGTH - 1};
+    static const size_t lengths[] = {0, 1, FUNNELFAWN_AT_A, FUNNELFAWN_HEADER_LENGTH, FUNNELFAWN_TABLE_LENGTH, FUNNELFAWN_DEADLINES_LENGTH - 1};
 
     lay(&table, numbers, FUNNELFAWN_TABLE_LENGTH, NONE, 0);
     for (size_t i = 0; i < sizeof damage / sizeof damage[0]; i++) {
@@ -292,6 +343,92 @@ static void to_and_fro(void)
     CHECK(to_deadlines() == FUNNELFAWN_OK, "the numbers behind a deadline table", 0);
     memcpy(longer, moments, sizeof moments);
     CHECK(holds(&deadlines, longer), "the deadline table that matches", 0);
+}
+
+/* [9.45] [9.50] [12.120] [9.100] The list of the values of a: it lies at the end of what can be read, so that nothing past it is looked at, and
+ * cannot be written. Refused, the table cannot be written either. */
+static void values_of_a(void)
+{
+    static const struct { uint64_t n; size_t length; uint64_t number; } lists[] = {
+        {2, 2, FUNNELFAWN_OK},
+        {2, 1, FUNNELFAWN_REFUSED_LIMITS},
+        {2, 0, FUNNELFAWN_REFUSED_LIMITS},
+        {2, 95, FUNNELFAWN_OK},
+        {2, 96, FUNNELFAWN_OK},
+        {2, 98, FUNNELFAWN_OK},
+        {3, 96, FUNNELFAWN_REFUSED_LIMITS},
+        {1, 96, FUNNELFAWN_REFUSED_LIMITS},
+        {0, 2, FUNNELFAWN_REFUSED_WINDOW_COUNT},
+        {97, 98, FUNNELFAWN_REFUSED_WINDOW_COUNT},
+        {UINT64_MAX, 96, FUNNELFAWN_REFUSED_WINDOW_COUNT},
+    };
+    const uint64_t a[FUNNELFAWN_WINDOWS + 2] = {4, 5, [FUNNELFAWN_WINDOWS] = 5, 5};
+    uint8_t out[64];
+
+    for (size_t i = 0; i < sizeof lists / sizeof lists[0]; i++) {
+        const int is_taken = lists[i].number == FUNNELFAWN_OK;
+
+        lay(&values, a, lists[i].length, NONE, 0);
+        lay(&table, numbers, FUNNELFAWN_TABLE_LENGTH, is_taken ? ALL : NONE, 0);
+        CHECK(fresh(lists[i].n) == lists[i].number, "a fresh table", i);
+        lay(&deadlines, moments, FUNNELFAWN_DEADLINES_LENGTH, is_taken ? ALL : NONE, 0);
+        CHECK(fresh_deadlines(lists[i].n) == lists[i].number, "a fresh deadline table", i);
+        CHECK(write_values(lists[i].n, out, sizeof out) == lists[i].number, "a writing", i);
+        CHECK(write_values(lists[i].n, NULL, 0) == (is_taken ? FUNNELFAWN_REFUSED_SHORT_OUTPUT : lists[i].number), "a writing without room", i);
+        if (is_taken) {
+            CHECK(memcmp(table.list + FUNNELFAWN_AT_A, a, FUNNELFAWN_WINDOWS * sizeof *a) == 0, "the values of a table", i);
+            CHECK(memcmp(deadlines.list, table.list, FUNNELFAWN_HEADER_LENGTH * sizeof *a) == 0, "the values of a deadline table", i);
+        }
+    }
+    /* a list that is too short for the table; and what lies behind the numbers of a table in a longer one */
+    lay(&values, a, 2, NONE, 0);
+    lay(&table, numbers, FUNNELFAWN_TABLE_LENGTH - 1, NONE, 0);
+    CHECK(fresh(2) == FUNNELFAWN_REFUSED_SHORT_OUTPUT, "too short for a fresh table", 0);
+    lay(&deadlines, moments, FUNNELFAWN_DEADLINES_LENGTH - 1, NONE, 0);
+    CHECK(fresh_deadlines(2) == FUNNELFAWN_REFUSED_SHORT_OUTPUT, "too short for a fresh deadline table", 0);
+    lay(&table, moments, FUNNELFAWN_TABLE_LENGTH + 3, BEFORE, FUNNELFAWN_TABLE_LENGTH);
+    CHECK(fresh(2) == FUNNELFAWN_OK, "the numbers behind a fresh table", 0);
+    lay(&deadlines, entries, FUNNELFAWN_DEADLINES_LENGTH + 3, BEFORE, FUNNELFAWN_DEADLINES_LENGTH);
+    CHECK(fresh_deadlines(2) == FUNNELFAWN_OK, "the numbers behind a fresh deadline table", 0);
+}
+
+/* [9.90] The values of a that a reading puts: refused, neither their list nor that of the times can be written; read, what lies past the 96
+ * places of the one, and past the steps of the other, cannot. */
+static void values_read(void)
+{
+    static const char *const good[] = {
+        "windows,b,c\n2,8,12\nwindow,a\n1,4\n2,5\ntime,window,act\n7,1,try\n",
+        "windows,a,b,c\n2,5,8,12\ntime,window,act\n7,1,try\n",
+    };
+    static const struct { const char *text; uint64_t number; } faulty[] = {
+        {"windows,b\n", FUNNELFAWN_REFUSED_NAMES},
+        {"windows,b,c\n97,8,12\n", FUNNELFAWN_REFUSED_WINDOW_COUNT},
+        {"windows,b,c\n2,8,12\nwindow,a\n1,4\n3,5\n", FUNNELFAWN_REFUSED_LINE},
+        {"windows,b,c\n2,8,12\nwindow,a\n1,4\n2,8\n", FUNNELFAWN_REFUSED_LIMITS},
+        {"windows,b,c\n2,8,12\nwindow,a\n1,4\n2,5\ntime,window,act\n7,1,try\n8,1,sell\n", FUNNELFAWN_REFUSED_LINE},
+        {"windows,a,b,c\n2,8,8,12\n", FUNNELFAWN_REFUSED_LIMITS},
+    };
+    static const uint64_t filled[FUNNELFAWN_WINDOWS + 2] = {0};
+
+    for (size_t i = 0; i < sizeof faulty / sizeof faulty[0]; i++) {
+        lay(&values, filled, FUNNELFAWN_WINDOWS, NONE, 0);
+        lay(&times, filled, 2, NONE, 0);
+        CHECK(read_text(faulty[i].text) == faulty[i].number, "a faulty recording", i);
+    }
+    for (size_t i = 0; i < sizeof good / sizeof good[0]; i++) {
+        uint64_t due[FUNNELFAWN_WINDOWS + 2] = {i == 0 ? 4 : 5, 5};
+
+        lay(&values, filled, FUNNELFAWN_WINDOWS - 1, NONE, 0);
+        lay(&times, filled, 2, NONE, 0);
+        CHECK(read_text(good[i]) == FUNNELFAWN_REFUSED_SHORT_OUTPUT, "too few places for the values", i);
+        lay(&values, filled, FUNNELFAWN_WINDOWS, NONE, 0);
+        lay(&times, filled, 0, NONE, 0);
+        CHECK(read_text(good[i]) == FUNNELFAWN_REFUSED_SHORT_OUTPUT, "no place for a step", i);
+        lay(&values, filled, FUNNELFAWN_WINDOWS + 2, BEFORE, FUNNELFAWN_WINDOWS);
+        lay(&times, filled, 2, BEFORE, 1);
+        CHECK(read_text(good[i]) == FUNNELFAWN_OK, "the places behind", i);
+        CHECK(holds(&values, due) && times.list[0] == 7, "the values that are read", i);
+    }
 }
 
 /* [4.2] [4.3] Summaries that are not sound, in one number each, too short ones, and full ones. */
@@ -356,11 +493,11 @@ static void refused_acts(void)
     }
 }
 
-/* Where the entry of an act's window ends in a table of either kind; for a wait, where the entries begin. Before its own entry a window has
- * those of the windows below it, which only the comparison of numbers speaks of. */
+/* Where the entry of an act's window ends in a table of either kind; for a wait, where the word does. Before its own entry a window has the
+ * values of a and the entries of the windows below it, which only the comparison of numbers speaks of. */
 static size_t entry_end(size_t stride, struct act act)
 {
-    return FUNNELFAWN_HEADER_LENGTH + stride * (size_t)act.window;
+    return act.window == 0 ? FUNNELFAWN_AT_A : FUNNELFAWN_HEADER_LENGTH + stride * (size_t)act.window;
 }
 
 static uint64_t place_of(size_t window)
@@ -428,14 +565,14 @@ static void accepted_by_deadlines(struct act act)
     CHECK(step_deadlines(act) == FUNNELFAWN_OK, "the entries behind, by deadlines", act.act);
     CHECK(own_entry(&deadlines, moments, FUNNELFAWN_DEADLINES_STRIDE, act), "the own numbers, by deadlines", act.act);
     lay(&deadlines, moments, FUNNELFAWN_DEADLINES_LENGTH, BEHIND, FUNNELFAWN_AT_CLOCK);
-    CHECK(step_deadlines(act) == FUNNELFAWN_OK, "n, a, b, c, by deadlines", act.act);
+    CHECK(step_deadlines(act) == FUNNELFAWN_OK, "n, b, c, by deadlines", act.act);
     CHECK(own_entry(&deadlines, moments, FUNNELFAWN_DEADLINES_STRIDE, act), "the own numbers, by deadlines", act.act);
     CHECK(funnelfawn_to_deadlines(numbers, FUNNELFAWN_TABLE_LENGTH, moments, FUNNELFAWN_DEADLINES_LENGTH).number == FUNNELFAWN_OK,
           "to deadlines", act.act);
     CHECK(holds(&deadlines, moments), "the deadline table that matches", act.act);
 }
 
-/* [9.130] Accepted acts: what lies behind the last number that one may write cannot be written; then n, a, b and c cannot. */
+/* [9.130] Accepted acts: what lies behind the last number that one may write cannot be written; then n, b and c cannot. */
 static void accepted_act(struct act act)
 {
     lay(&table, numbers, FUNNELFAWN_TABLE_LENGTH, BEFORE, entry_end(FUNNELFAWN_STRIDE, act));
@@ -448,7 +585,7 @@ static void accepted_act(struct act act)
         CHECK(own_places(act), "the own numbers", act.act);
         lay(&table, numbers, FUNNELFAWN_TABLE_LENGTH, BEHIND, FUNNELFAWN_AT_CLOCK);
         lay(&summary, counts, FUNNELFAWN_SUMMARY_LENGTH, ALL, 0);
-        CHECK(recorded[k](act) == FUNNELFAWN_OK, "n, a, b, c", act.act);
+        CHECK(recorded[k](act) == FUNNELFAWN_OK, "n, b, c", act.act);
         CHECK(own_places(act), "the own numbers", act.act);
     }
     memcpy(numbers, table.list, sizeof numbers);
@@ -468,9 +605,13 @@ static void accepted(uint64_t window, uint64_t other)
         {FUNNELFAWN_ACT_CRIT, window, 16},    {FUNNELFAWN_ACT_TEST, other, 17},     {FUNNELFAWN_ACT_WAIT, 0, 18},
         {FUNNELFAWN_ACT_EXIT, window, 19},    {FUNNELFAWN_ACT_RESET, window, 20},   {FUNNELFAWN_ACT_REM, window, 21},
     };
+    uint64_t a[FUNNELFAWN_WINDOWS];
 
-    CHECK(funnelfawn_fresh(96, 5, 8, 12, numbers, FUNNELFAWN_TABLE_LENGTH).number == FUNNELFAWN_OK, "fresh", 0);
-    CHECK(funnelfawn_fresh_deadlines(96, 5, 8, 12, moments, FUNNELFAWN_DEADLINES_LENGTH).number == FUNNELFAWN_OK, "fresh deadlines", 0);
+    /* three ages of tills: 5, 6 and 7 */
+    for (size_t i = 0; i < FUNNELFAWN_WINDOWS; i++)
+        a[i] = 5 + i % 3;
+    CHECK(funnelfawn_fresh(96, 8, 12, a, 96, numbers, FUNNELFAWN_TABLE_LENGTH).number == FUNNELFAWN_OK, "fresh", 0);
+    CHECK(funnelfawn_fresh_deadlines(96, 8, 12, a, 96, moments, FUNNELFAWN_DEADLINES_LENGTH).number == FUNNELFAWN_OK, "fresh deadlines", 0);
     CHECK(funnelfawn_new_summary(counts, FUNNELFAWN_SUMMARY_LENGTH).number == FUNNELFAWN_OK, "new summary", 0);
     for (size_t i = 0; i < sizeof acts / sizeof acts[0]; i++)
         accepted_act(acts[i]);
@@ -509,12 +650,14 @@ int main(void)
     action.sa_handler = leave_the_call;
     need(sigaction(SIGSEGV, &action, NULL) == 0);
     need(funnelfawn_layout() == FUNNELFAWN_LAYOUT);
-    reserve(&table), reserve(&deadlines), reserve(&summary), reserve(&board);
+    reserve(&table), reserve(&deadlines), reserve(&summary), reserve(&board), reserve(&values), reserve(&times);
     start();
     faults_are_found();
     no_table();
     no_deadlines();
     to_and_fro();
+    values_of_a();
+    values_read();
     no_summary();
     refused_acts();
     accepted(1, 96);

@@ -225,7 +225,7 @@ fn the_board_is_told_of_each_accepted_crit() {
 
 #[test]
 fn the_step_stands_whatever_the_board_answers() {
-    let (_, mut entering) = fresh(Values { n: 2, a: 5, b: 8, c: 12 });
+    let (_, mut entering) = fresh(Values::equal(2, 5, 8, 12));
     (entering.clock, entering.word, entering.places[1]) = (20, 2, Place::Entering(18));
     let summary = Summary { accepted: 9, waited: [17; WINDOWS], ..Summary::new() };
     let crit = |board: Board, window, moment| {

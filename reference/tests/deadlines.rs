@@ -9,11 +9,11 @@ use reference::generator::walk::Walk;
 use reference::generator::{generate, generate_list};
 use reference::list::number_of;
 use reference::machine::*;
-use reference::recording::{read, Recording, Step, FIRST_STEP};
+use reference::recording::{read, Recording, Step};
 use std::collections::BTreeSet;
 use std::fs;
 
-const VALUES: Values = Values { n: 2, a: 5, b: 8, c: 12 };
+const VALUES: Values = Values::equal(2, 5, 8, 12);
 /// The numbers of the timed places.
 const TIMED: [u64; 6] = [1, 2, 3, 4, 6, 7];
 
@@ -82,7 +82,7 @@ fn a_check_is_in_time_from_its_first_moment_to_its_last() {
 
 #[test]
 fn the_smallest_last_moment_and_its_lowest_window_are_told() {
-    let mut busy = DeadlineTable { clock: 20, ..deadline_fresh(Values { n: 4, ..VALUES }).1 };
+    let mut busy = DeadlineTable { clock: 20, ..deadline_fresh(Values::equal(4, 5, 8, 12)).1 };
     busy.places[..3].copy_from_slice(&[place(7, 20, 25), place(3, 19, 23), place(1, 18, 23)]);
     assert_eq!(deadline_step(busy, WAIT, 0, 23).0, answer(ACCEPTED, 0, 23));
     for (act, window) in [(WAIT, 0), (REM, 1), (TEST, 3), (TRY, 4), (EXIT, 4)] {
@@ -155,9 +155,9 @@ fn what_is_allowed_is_accepted() {
 
 // What is sound
 
-/// The moments that an arrival has by [2.90] and [2.100], be they too great for 64 bits.
-fn moments_of(values: &Values, number: u64, arrival: u64) -> [u128; 2] {
-    let limits = if number == 3 { [values.b, values.c] } else { [0, values.a] };
+/// The moments that an arrival of a window has by [2.90] and [2.100], be they too great for 64 bits.
+fn moments_of(values: &Values, window: u64, number: u64, arrival: u64) -> [u128; 2] {
+    let limits = if number == 3 { [values.b, values.c] } else { [0, values.a_of(window)] };
     limits.map(|limit| u128::from(arrival) + u128::from(limit))
 }
 
@@ -165,7 +165,7 @@ fn moments_of(values: &Values, number: u64, arrival: u64) -> [u128; 2] {
 fn match_by_sums(table: &Table, deadlines: &DeadlineTable) -> bool {
     let alike = |window| {
         let (place, held) = (table.place(window), deadlines.place(window));
-        let due = place.arrival().map(|arrival| moments_of(&table.values, number_of(place), arrival));
+        let due = place.arrival().map(|arrival| moments_of(&table.values, window, number_of(place), arrival));
         let found = held.moments().map(|Moments { first, last }| [first, last].map(u128::from));
         number_of(place) == held.number() && due == found
     };
@@ -190,7 +190,8 @@ fn some_sound_table_matches(deadlines: &DeadlineTable, number: u64) -> bool {
 fn sound_exactly_where_some_sound_table_matches() {
     let mut sound = 0;
     for (a, b, c, clock) in [(1, 2, 2, 0), (2, 3, 5, 4), (2, 4, 6, 7), (3, 5, 5, 9)] {
-        let empty = deadline_fresh(Values { a, b, c, ..VALUES }).1;
+        // window 1 has its own a
+        let empty = deadline_fresh(Values::new(2, b, c, &[a, 1])).1;
         for (number, first, last) in all_moments() {
             let mut table = DeadlineTable { clock, ..empty };
             table.places[0] = place(number, first, last);
@@ -236,7 +237,7 @@ fn moments_of_different_arrivals_give_1() {
 fn arrivals_after_the_clock_and_last_moments_before_it_give_1() {
     for number in TIMED {
         let at = |arrival: u64| {
-            let [first, last] = moments_of(&VALUES, number, arrival).map(|moment| moment as u64);
+            let [first, last] = moments_of(&VALUES, 1, number, arrival).map(|moment| moment as u64);
             table(place(number, first, last))
         };
         let limit = if number == 3 { 12 } else { 5 };
@@ -264,7 +265,7 @@ fn moments_near_the_end_of_64_bits_do_no_harm() {
             gives_1(DeadlineTable { clock: u64::MAX, ..table(place(number, first, first.wrapping_add(5))) });
         }
     }
-    let values = Values { a: u64::MAX, b: u64::MAX, c: u64::MAX, ..VALUES };
+    let values = Values::equal(2, u64::MAX, u64::MAX, u64::MAX);
     gives_1(DeadlineTable { values, ..table(place(3, u64::MAX, u64::MAX)) });
 }
 
@@ -291,16 +292,19 @@ fn fresh_alike(values: Values) -> (Table, DeadlineTable) {
 #[test]
 fn fresh_tables_match() {
     for n in [1, 2, 95, 96] {
-        assert!(fresh_alike(Values { n, ..VALUES }).1.sound());
+        assert!(fresh_alike(Values::equal(n, 5, 8, 12)).1.sound());
     }
     let refused = [
-        (Values { n: 0, a: 0, ..VALUES }, WINDOW_COUNT),
-        (Values { n: 97, ..VALUES }, WINDOW_COUNT),
-        (Values { a: 0, ..VALUES }, LIMITS),
+        (Values::equal(0, 0, 8, 12), WINDOW_COUNT),
+        (Values::equal(97, 5, 8, 12), WINDOW_COUNT),
+        (Values::equal(2, 0, 8, 12), LIMITS),
         (Values { b: 5, ..VALUES }, LIMITS),
         (Values { c: 7, ..VALUES }, LIMITS),
         (Values { c: LIMIT_END + 1, ..VALUES }, LIMITS),
-        (Values { a: u64::MAX, b: u64::MAX, c: u64::MAX, ..VALUES }, LIMITS),
+        (Values::equal(2, u64::MAX, u64::MAX, u64::MAX), LIMITS),
+        (Values::new(2, 8, 12, &[5, 0]), LIMITS),
+        (Values::new(2, 8, 12, &[5, 8]), LIMITS),
+        (Values::new(2, 8, 12, &[5, 5, 5]), LIMITS),
     ];
     let blank = DeadlineTable { values: Values::default(), ..deadline_fresh(VALUES).1 };
     for (values, number) in refused {
@@ -327,7 +331,7 @@ fn run_alike(values: Values, steps: impl IntoIterator<Item = Step>) -> BTreeSet<
 fn walks_are_answered_alike() {
     let recordings = (0..1_000).filter_map(|index| read(&generate(12, index).text).ok());
     let numbers: BTreeSet<u64> =
-        recordings.flat_map(|Recording { values, steps }| run_alike(values, steps)).collect();
+        recordings.flat_map(|Recording { values, steps, .. }| run_alike(values, steps)).collect();
     assert_eq!(numbers, BTreeSet::from([0, 4, 5, 7, 8, 9, 10]));
 }
 
@@ -380,6 +384,7 @@ fn damaged_tables_give_1_alike() {
         let many = match damage {
             Damage::Apart | Damage::BelowB => 0..=0,
             Damage::Values | Damage::Clock | Damage::Huge => 100..=499,
+            Damage::OwnLimit => 400..=499,
             Damage::Word | Damage::AboveN | Damage::Later | Damage::Past => 500..=500,
         };
         assert!(many.contains(&matched), "{damage:?} left {matched}");
@@ -397,6 +402,8 @@ fn what_differs_does_not_match() {
     };
     let others = [
         Table { values: Values { c: 13, ..VALUES }, ..found },
+        // the a of the other window
+        Table { values: Values::new(2, 8, 12, &[4, 5]), ..found },
         Table { clock: 8, ..found },
         Table { word: 1, ..found },
         at(Place::Remainder),
@@ -429,7 +436,7 @@ fn moments_that_come_around_do_not_match() {
 fn replayed(recording: &Recording) -> String {
     let (_, mut table) = deadline_fresh(recording.values);
     let mut printed = String::from("line,answer,window,moment\n");
-    for (line, &Step { time, window, act }) in (FIRST_STEP..).zip(&recording.steps) {
+    for (line, &Step { time, window, act }) in (recording.first_line..).zip(&recording.steps) {
         let answer;
         (answer, table) = deadline_step(table, act, window, time);
         printed += &format!("{line},{},{},{}\n", answer.number, answer.window, answer.moment);
@@ -481,11 +488,14 @@ fn a_table_that_is_not_sound_goes_nowhere() {
 #[test]
 fn numbers_have_place_first_and_last() {
     let mut told = table(DeadlinePlace::Selling);
+    told.values.a[..2].copy_from_slice(&[5, 7]);
+    told.values.a[95] = 6;
     told.places[95] = place(3, 24, 28);
     let numbers = told.numbers();
-    assert_eq!(numbers.len(), 294);
-    assert_eq!(numbers[..12], [2, 5, 8, 12, 20, 2, 5, 0, 0, 0, 0, 0]);
-    assert_eq!(numbers[288..], [0, 0, 0, 3, 24, 28]);
+    assert_eq!(numbers.len(), 389);
+    assert_eq!(numbers[..8], [2, 8, 12, 20, 2, 5, 7, 0]);
+    assert_eq!(numbers[99..107], [0, 6, 5, 0, 0, 0, 0, 0]);
+    assert_eq!(numbers[383..], [0, 0, 0, 3, 24, 28]);
 }
 
 #[test]
@@ -496,7 +506,7 @@ fn numbers_there_and_back() {
         assert_eq!(DeadlineTable::from_numbers(&numbers), Some(table));
         let longer = [&numbers[..], &[7777; 3]].concat();
         assert_eq!(DeadlineTable::from_numbers(&longer), Some(table));
-        assert_eq!(DeadlineTable::from_numbers(&numbers[..293]), None);
+        assert_eq!(DeadlineTable::from_numbers(&numbers[..388]), None);
     }
 }
 
@@ -504,7 +514,7 @@ fn numbers_there_and_back() {
 fn numbers_that_tell_no_table() {
     let with_entry_2 = |entry: [u64; 3]| {
         let mut numbers = table(place(1, 18, 23)).numbers();
-        numbers[9..12].copy_from_slice(&entry);
+        numbers[104..107].copy_from_slice(&entry);
         DeadlineTable::from_numbers(&numbers).map(|table| table.place(2))
     };
     assert_eq!(with_entry_2([0, 0, 0]), Some(DeadlinePlace::Remainder));

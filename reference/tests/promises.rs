@@ -8,7 +8,7 @@ use reference::promises::{Kept, Promises};
 use reference::recording::read;
 
 /// 2c + 5a is 49.
-const VALUES: Values = Values { n: 2, a: 5, b: 8, c: 12 };
+const VALUES: Values = Values::equal(2, 5, 8, 12);
 
 /// A list of steps from a fresh table on, whose promises are looked at.
 struct Watched {

@@ -8,7 +8,7 @@ use reference::reckoning::Reckoning;
 use reference::summary::{recorded_step, Summary};
 
 fn stored() -> impl Iterator<Item = List> {
-    (0..10).map(|index| generate_list(64, 117, index))
+    (0..10).map(|index| generate_list(64, 149, index))
 }
 
 /// A call, what it found, and its answer.
@@ -76,6 +76,18 @@ fn they_have_every_act_that_ends_what_was_waited() {
     for act in [TRY, CRIT, WITHDRAW] {
         assert!(stored().flat_map(made).any(|made| made.is_counted(act) && made.waited() > 0), "act {act}");
     }
+}
+
+/// Not by that of window 1.
+#[test]
+fn they_have_windows_that_are_late_by_an_a_of_their_own() {
+    let by_own_a = |made: &Made| {
+        let Answer { number, window, .. } = made.answer;
+        let Table { values, .. } = made.table;
+        let is_checking = || matches!(made.table.place(window), Place::Checking(_));
+        number == LATE && !is_checking() && values.a_of(window) != values.a_of(1)
+    };
+    assert!(stored().flat_map(made).any(|made| by_own_a(&made)));
 }
 
 #[test]

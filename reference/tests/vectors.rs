@@ -1,12 +1,15 @@
-//! The stored steps, recorded steps, readings of spans, steps of deadlines and matching tables of `vectors`, which a library is held to: the
-//! reference makes the same of them.
+//! The stored calls of `vectors`, which a library is held to, but for those of a board: the reference makes the same of them.
 
 use reference::answer::{answer, bare, Answer, ACCEPTED, NO_TABLE};
 use reference::deadline::*;
 use reference::machine::*;
+use reference::recording::{read_into, write};
 use reference::spans::spans;
 use reference::summary::{recorded_step, Summary};
 use std::collections::BTreeSet;
+
+/// What fills the lists of a reading.
+const FILLED: u64 = 7777;
 
 fn fields<const COUNT: usize>(line: &str) -> [&str; COUNT] {
     let fields: Vec<&str> = line.split('|').map(str::trim).collect();
@@ -17,26 +20,45 @@ fn numbers(field: &str) -> Vec<u64> {
     field.split_whitespace().map(|word| word.parse().expect("a number")).collect()
 }
 
-/// n, a, b, c, clock, word, and the entries of windows 1 to 8.
-fn table(numbers: &[u64]) -> Table {
-    let &[n, a, b, c, clock, word, ref entries @ ..] = numbers else { panic!("no table") };
-    let mut places = [Place::Remainder; WINDOWS];
-    for (place, entry) in places.iter_mut().zip(entries.chunks(2)) {
-        *place = Place::numbered(entry[0], entry[1]).expect("a place");
-    }
-    Table { values: Values { n, a, b, c }, clock, word, places }
+fn fixed<const COUNT: usize>(field: &str) -> [u64; COUNT] {
+    numbers(field).try_into().expect("as many numbers as a field has")
 }
 
-/// n, a, b, c, clock, word, and the entries of windows 1 to 8, each with two moments.
-fn deadline_table(numbers: &[u64]) -> DeadlineTable {
-    let mut lent = [0; DEADLINE_NUMBERS];
-    lent[..numbers.len()].copy_from_slice(numbers);
+fn answered(field: &str) -> Answer {
+    let [number, window, moment] = fixed(field);
+    answer(number, window, moment)
+}
+
+/// The three parts of a table of either kind, as numbers; those that a part leaves out at its end are 0.
+fn parts(field: &str, stride: usize) -> ([u64; 5], Vec<u64>, Vec<u64>) {
+    let parts: Vec<&str> = field.split(';').collect();
+    let &[header, limits, entries] = &parts[..] else { panic!("no table: {field}") };
+    let mut entries = numbers(entries);
+    entries.resize(stride * WINDOWS, 0);
+    (fixed(header), numbers(limits), entries)
+}
+
+/// `n b c clock word ; a .. ; place arrival ..`
+fn table(field: &str) -> Table {
+    let ([n, b, c, clock, word], limits, entries) = parts(field, 2);
+    let places = std::array::from_fn(|window| {
+        Place::numbered(entries[2 * window], entries[2 * window + 1]).expect("a place")
+    });
+    Table { values: Values::new(n, b, c, &limits), clock, word, places }
+}
+
+/// `n b c clock word ; a .. ; place first last ..`
+fn deadline_table(field: &str) -> DeadlineTable {
+    let (header, mut limits, entries) = parts(field, 3);
+    limits.resize(WINDOWS, 0);
+    let lent = [&header[..], &limits, &entries].concat();
     DeadlineTable::from_numbers(&lent).expect("a table of deadlines")
 }
 
-/// The counts, and what windows 1 to 8 have waited.
-fn summary(numbers: &[u64]) -> Summary {
-    let &[accepted, refused, entries, exits, longest_wait, ref waited @ ..] = numbers else {
+/// The counts, and what the windows have waited; those that are left out at the end have waited 0.
+fn summary(field: &str) -> Summary {
+    let numbers = numbers(field);
+    let &[accepted, refused, entries, exits, longest_wait, ref waited @ ..] = &numbers[..] else {
         panic!("no summary")
     };
     let mut summary = Summary { accepted, refused, entries, exits, longest_wait, ..Summary::new() };
@@ -44,27 +66,44 @@ fn summary(numbers: &[u64]) -> Summary {
     summary
 }
 
-fn answered(numbers: &[u64]) -> Answer {
-    answer(numbers[0], numbers[1], numbers[2])
+/// `n b c` and the values of a that are lent.
+fn values(field: &str, limits: &str) -> Values {
+    let [n, b, c] = fixed(field);
+    Values::new(n, b, c, &numbers(limits))
+}
+
+/// A refused line has no table after it: the calls by value give one of which no value stands.
+#[test]
+fn fresh_tables() {
+    for line in include_str!("../vectors/fresh.txt").lines() {
+        let [asked, limits, wanted, after] = fields(line);
+        let values = values(asked, limits);
+        let due = if after.is_empty() { fresh(Values::default()).1 } else { table(after) };
+        assert_eq!(fresh(values), (answered(wanted), due), "{line}");
+        let due = if after.is_empty() { deadline_fresh(Values::default()).1 } else { deadline_table(after) };
+        assert_eq!(deadline_fresh(values), (answered(wanted), due), "{line}");
+    }
 }
 
 #[test]
 fn steps() {
     for line in include_str!("../vectors/step.txt").lines() {
-        let [before, call, wanted, after] = fields(line).map(numbers);
-        let came = step(table(&before), call[0], call[1], call[2]);
-        assert_eq!(came, (answered(&wanted), table(&after)), "{line}");
+        let [before, call, wanted, after] = fields(line);
+        let [act, window, moment] = fixed(call);
+        let came = step(table(before), act, window, moment);
+        assert_eq!(came, (answered(wanted), table(after)), "{line}");
     }
 }
 
 #[test]
 fn recorded_steps() {
     for line in include_str!("../vectors/recorded.txt").lines() {
-        let [before, lent, call, wanted, after, left] = fields(line).map(numbers);
-        let mut counted = summary(&lent);
-        let came = recorded_step(table(&before), &mut counted, call[0], call[1], call[2]);
-        assert_eq!(came, (answered(&wanted), table(&after)), "{line}");
-        assert_eq!(counted, summary(&left), "{line}");
+        let [before, lent, call, wanted, after, left] = fields(line);
+        let [act, window, moment] = fixed(call);
+        let mut counted = summary(lent);
+        let came = recorded_step(table(before), &mut counted, act, window, moment);
+        assert_eq!(came, (answered(wanted), table(after)), "{line}");
+        assert_eq!(counted, summary(left), "{line}");
     }
 }
 
@@ -75,13 +114,47 @@ fn bytes(digits: &str) -> Vec<u8> {
 }
 
 #[test]
+fn readings() {
+    for line in include_str!("../vectors/reader.txt").lines() {
+        let [text, lengths, wanted, values, after] = fields(line);
+        let lengths: [u64; 4] = fixed(lengths);
+        let [mut a, mut times, mut windows, mut acts] = lengths.map(|length| vec![FILLED; length as usize]);
+        let (answer, read) = read_into(&bytes(text), &mut a, &mut times, &mut windows, &mut acts);
+        assert_eq!((answer, [read.n, read.b, read.c]), (answered(wanted), fixed(values)), "{line}");
+        let due = numbers(&after.replace(['[', ']', ','], " "));
+        assert_eq!([a, times, windows, acts].concat(), due, "{line}");
+    }
+}
+
+/// An output as it is after a call.
+fn quoted(field: &str) -> String {
+    field.trim_matches('"').replace("\\n", "\n")
+}
+
+fn output(length: &str) -> Vec<u8> {
+    let [length] = fixed(length);
+    vec![b'#'; length as usize]
+}
+
+#[test]
+fn writings() {
+    for line in include_str!("../vectors/writer.txt").lines() {
+        let [asked, limits, steps, length, wanted, after] = fields(line);
+        let steps = numbers(steps);
+        let column = |number: usize| steps.iter().skip(number).step_by(3).copied().collect::<Vec<u64>>();
+        let mut out = output(length);
+        let came = write(values(asked, limits), &column(0), &column(1), &column(2), &mut out);
+        assert_eq!((came, out), (answered(wanted), quoted(after).into_bytes()), "{line}");
+    }
+}
+
+#[test]
 fn readings_of_spans() {
     for line in include_str!("../vectors/spans.txt").lines() {
-        let [text, room, wanted, after] = fields(line);
-        let mut out = vec![b'#'; numbers(room)[0] as usize];
-        assert_eq!(spans(&bytes(text), &mut out), answered(&numbers(wanted)), "{line}");
-        let after = after.trim_matches('"').replace("\\n", "\n");
-        assert_eq!(out, after.as_bytes(), "{line}");
+        let [text, length, wanted, after] = fields(line);
+        let mut out = output(length);
+        let came = spans(&bytes(text), &mut out);
+        assert_eq!((came, out), (answered(wanted), quoted(after).into_bytes()), "{line}");
     }
 }
 
@@ -90,9 +163,10 @@ const DEADLINES: &str = include_str!("../vectors/deadline.txt");
 #[test]
 fn steps_of_deadlines() {
     for line in DEADLINES.lines() {
-        let [before, call, wanted, after] = fields(line).map(numbers);
-        let came = deadline_step(deadline_table(&before), call[0], call[1], call[2]);
-        assert_eq!(came, (answered(&wanted), deadline_table(&after)), "{line}");
+        let [before, call, wanted, after] = fields(line);
+        let [act, window, moment] = fixed(call);
+        let came = deadline_step(deadline_table(before), act, window, moment);
+        assert_eq!(came, (answered(wanted), deadline_table(after)), "{line}");
     }
 }
 
@@ -100,11 +174,12 @@ fn steps_of_deadlines() {
 fn steps_of_deadlines_have_every_answer_and_every_act_from_every_place() {
     let (mut answers, mut tried) = (BTreeSet::new(), BTreeSet::new());
     for line in DEADLINES.lines() {
-        let [before, call, wanted, _] = fields(line).map(numbers);
-        answers.insert(wanted[0]);
+        let [before, call, wanted, _] = fields(line);
+        let ([act, window, _], Answer { number, .. }) = (fixed(call), answered(wanted));
+        answers.insert(number);
         // those that are judged by the place
-        if matches!(wanted[0], 0 | 9 | 10) && call[1] > 0 {
-            tried.insert((call[0], deadline_table(&before).place(call[1]).number()));
+        if matches!(number, 0 | 9 | 10) && window > 0 {
+            tried.insert((act, deadline_table(before).place(window).number()));
         }
     }
     assert_eq!(answers, BTreeSet::from([0, 1, 4, 5, 6, 7, 8, 9, 10]));
@@ -116,18 +191,17 @@ fn steps_of_deadlines_have_every_answer_and_every_act_from_every_place() {
 fn matching_tables() {
     for line in include_str!("../vectors/matching.txt").lines() {
         let [call, before, wanted, after] = fields(line);
-        let [before, wanted, after] = [before, wanted, after].map(numbers);
-        let is_told = !after.is_empty();
-        assert_eq!(answered(&wanted), bare(if is_told { ACCEPTED } else { NO_TABLE }), "{line}");
+        let (wanted, is_told) = (answered(wanted), !after.is_empty());
+        assert_eq!(wanted, bare(if is_told { ACCEPTED } else { NO_TABLE }), "{line}");
         match call {
             "to_deadlines" => {
                 let refused = deadline_fresh(Values::default()).1;
-                let due = if is_told { deadline_table(&after) } else { refused };
-                assert_eq!(to_deadlines(&table(&before)), (answered(&wanted), due), "{line}");
+                let due = if is_told { deadline_table(after) } else { refused };
+                assert_eq!(to_deadlines(&table(before)), (wanted, due), "{line}");
             }
             "to_arrivals" => {
-                let due = if is_told { table(&after) } else { fresh(Values::default()).1 };
-                assert_eq!(to_arrivals(&deadline_table(&before)), (answered(&wanted), due), "{line}");
+                let due = if is_told { table(after) } else { fresh(Values::default()).1 };
+                assert_eq!(to_arrivals(&deadline_table(before)), (wanted, due), "{line}");
             }
             _ => panic!("{call} is no call"),
         }

@@ -12,7 +12,7 @@ use reference::summary::{recorded_step, Summary};
 
 /// At clock 20 with windows 1 to 7 at these places, the first latest moment being 23.
 fn table(places: [Place; 7]) -> Table {
-    let (_, mut table) = fresh(Values { n: 8, a: 5, b: 8, c: 12 });
+    let (_, mut table) = fresh(Values::equal(8, 5, 8, 12));
     (table.clock, table.word) = (20, 4);
     table.places[..7].copy_from_slice(&places);
     table
@@ -135,7 +135,7 @@ fn no_other_act_ends_a_wait() {
 #[test]
 fn no_sum_may_be_past_the_clock() {
     let waits = |clock, window: usize, waited| {
-        let table = Table { clock, ..fresh(Values { n: 2, a: 5, b: 8, c: 12 }).1 };
+        let table = Table { clock, ..fresh(Values::equal(2, 5, 8, 12)).1 };
         let mut lent = Summary::new();
         lent.waited[window] = waited;
         recorded_step(table, &mut lent, TRY, 1, clock).0.number
@@ -188,7 +188,7 @@ impl Threaded {
 /// The second window tries from 12 to 60, while the first one sells from 14 to 44: it has waited 2 and 16.
 #[test]
 fn a_sale_in_between_is_not_waited() {
-    let mut list = Threaded::new(Values { n: 2, a: 5, b: 8, c: 12 });
+    let mut list = Threaded::new(Values::equal(2, 5, 8, 12));
     assert_eq!(list.waited(TRY, 1, 0), [0, 0]);
     assert_eq!(list.waited(TEST, 1, 1), [1, 0]);
     assert_eq!(list.waited(SET, 1, 4), [4, 0]);
@@ -254,7 +254,7 @@ fn a_sound_summary_stays_sound() {
 /// At a point at which window 1 has tried at 3 and waited 4 since.
 #[test]
 fn what_is_not_reckoned_is_found() {
-    let mut list = Threaded::new(Values { n: 2, a: 5, b: 8, c: 12 });
+    let mut list = Threaded::new(Values::equal(2, 5, 8, 12));
     list.waited(TRY, 1, 3);
     list.waited(WAIT, 0, 7);
     let Threaded { table, summary, reckoning } = list;

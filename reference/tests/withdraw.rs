@@ -8,7 +8,7 @@ use reference::recording::{read, read_into, write};
 use reference::summary::{recorded_step, Summary};
 use std::collections::BTreeSet;
 
-const VALUES: Values = Values { n: 2, a: 5, b: 8, c: 12 };
+const VALUES: Values = Values::equal(2, 5, 8, 12);
 
 /// At clock 20, where window 1 is at that place and window 2 has the word.
 fn table(place: Place) -> Table {
@@ -66,9 +66,9 @@ fn a_summary_counts_it_and_forgets_the_wait() {
 
 #[test]
 fn its_word_is_read_and_written() {
-    let text = b"windows,a,b,c\n2,5,8,12\ntime,window,act\n0,1,try\n3,1,withdraw\n";
+    let text = b"windows,b,c\n2,8,12\nwindow,a\n1,5\n2,5\ntime,window,act\n0,1,try\n3,1,withdraw\n";
     let (mut times, mut windows, mut acts) = ([0; 2], [0; 2], [0; 2]);
-    let (reading, values) = read_into(text, &mut times, &mut windows, &mut acts);
+    let (reading, values) = read_into(text, &mut [0; WINDOWS], &mut times, &mut windows, &mut acts);
     assert_eq!((reading, values, acts), (answer(ACCEPTED, 0, 2), VALUES, [TRY, WITHDRAW]));
     let mut output = vec![0; text.len()];
     assert_eq!(write(values, &times, &windows, &acts, &mut output).number, ACCEPTED);

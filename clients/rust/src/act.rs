@@ -18,7 +18,8 @@ pub enum Act {
     /// [`Refusal::OutOfPlace`], and past the window's latest moment [`Refusal::Late`].
     ///
     /// Of a table from [`Table::fresh`](crate::Table::fresh) on: from a point at which a window is trying and nobody sells, the clock moves
-    /// on by at most 2c + 5a until some window is let in, as long as one that was trying then has not withdrawn since, [8.78] and [8.80].
+    /// on by at most 2c + 5a, with the largest a of all windows, until some window is let in, as long as one that was trying then has not
+    /// withdrawn since, [8.78] and [8.80].
     Withdraw,
 }
 

@@ -147,7 +147,7 @@ impl Display for Refusal {
             Refusal::OutOfPlace { window } => write!(to, "window {window} is not where the act starts from"),
             Refusal::Early { window, earliest } => write!(to, "window {window} may check from {earliest} on"),
             Refusal::WindowCount => write!(to, "the number of windows is outside 1 to 96"),
-            Refusal::Limits => write!(to, "a, b, c break 1 ≤ a < b ≤ c ≤ 10,000,000"),
+            Refusal::Limits => write!(to, "the limits break 1 ≤ each a < b ≤ c ≤ 10,000,000"),
             Refusal::Names { line } => write!(to, "line {line} is not the names line that it should be"),
             Refusal::Line { line } => write!(to, "line {line} differs from its form"),
             Refusal::Length => write!(to, "the text is longer than 65,536 bytes"),

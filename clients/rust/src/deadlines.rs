@@ -2,13 +2,16 @@
 //! its table a state of deadlines.
 
 use crate::answer::{Accepted, Refusal};
+use crate::header::Header;
 use crate::layout;
+use crate::limits::Limits;
 use crate::raw;
 use crate::table::{Place, Table};
 
 /// The first and the last moment at which a window may leave the place where it is.
 ///
-/// The first is the moment at which it came there or, in checking, b later; the last is a after that moment or, in checking, c.
+/// The first is the moment at which it came there or, in checking, b later; the last is the window's own a after that moment or, in checking,
+/// c.
 #[derive(Clone, Copy, Debug, PartialEq, Eq, Hash)]
 pub struct Moments {
     /// before it a check is [`Refusal::Early`]; elsewhere the clock has reached it
@@ -25,9 +28,9 @@ pub struct Moments {
 /// one copy, handed on, and [`from_table`](DeadlineTable::from_table) and [`into_table`](DeadlineTable::into_table) hand it on from one engine to the other.
 ///
 /// ```
-/// use funnelfawn::{Accepted, Act, DeadlineTable, Moments, Place, Refusal};
+/// use funnelfawn::{Accepted, Act, DeadlineTable, Limits, Moments, Place, Refusal};
 ///
-/// let mut deadlines = DeadlineTable::fresh(2, 5, 8, 12)?;
+/// let mut deadlines = DeadlineTable::fresh(&Limits { a: vec![5, 7], b: 8, c: 12 })?;
 /// deadlines.step(Act::Try, 1, 3)?;
 /// assert_eq!(deadlines.place(1), Some((Place::Testing, Some(Moments { first: 3, last: 8 }))));
 /// deadlines.step(Act::Test, 1, 5)?;
@@ -46,10 +49,12 @@ pub struct DeadlineTable {
 }
 
 impl DeadlineTable {
-    /// A deadline table of n windows with the limits a, b, c: all in remainder, at clock 0, with word 0. If they are refused there is none.
-    pub fn fresh(n: u64, a: u64, b: u64, c: u64) -> Result<DeadlineTable, Refusal> {
+    /// A deadline table of as many windows as the limits have values of a: all in remainder, at clock 0, with word 0. If they are refused
+    /// there is none.
+    pub fn fresh(limits: &Limits) -> Result<DeadlineTable, Refusal> {
         let mut deadlines = DeadlineTable::from_numbers([0; raw::DEADLINES]);
-        raw::fresh_deadlines(n, a, b, c, &mut deadlines.numbers).result()?;
+        let Limits { a, b, c } = limits;
+        raw::fresh_deadlines(limits.windows(), *b, *c, a, &mut deadlines.numbers).result()?;
         Ok(deadlines)
     }
 
@@ -78,32 +83,37 @@ impl DeadlineTable {
         raw::step_deadlines(&mut self.numbers, act.into(), window, moment).accepted()
     }
 
-    /// The number of windows, n.
-    pub fn windows(&self) -> u64 {
-        self.numbers[0]
+    fn header(&self) -> Header<'_> {
+        Header(&self.numbers)
     }
 
-    /// The limits a, b, c.
-    pub fn limits(&self) -> [u64; 3] {
-        [self.numbers[1], self.numbers[2], self.numbers[3]]
+    /// The number of windows, n.
+    pub fn windows(&self) -> u64 {
+        self.header().windows()
+    }
+
+    /// Its limits, as those of [`Table::limits`].
+    pub fn limits(&self) -> Limits {
+        self.header().limits()
+    }
+
+    /// The a of a window of 1 to n.
+    pub fn a(&self, window: u64) -> Option<u64> {
+        self.header().a(window)
     }
 
     pub fn clock(&self) -> u64 {
-        self.numbers[4]
+        self.header().clock()
     }
 
     /// The shared word [2.50]: a window, or 0 where it is free.
     pub fn word(&self) -> u64 {
-        self.numbers[5]
+        self.header().word()
     }
 
     /// The place of a window of 1 to n, and its first and last moment if the place is timed.
     pub fn place(&self, window: u64) -> Option<(Place, Option<Moments>)> {
-        if window > self.windows() {
-            return None;
-        }
-        let index = usize::try_from(window.checked_sub(1)?).ok()?;
-        let entry = self.numbers[raw::HEADER..].chunks(raw::DEADLINES_STRIDE).nth(index)?;
+        let entry = self.header().entry(window, raw::DEADLINES_STRIDE)?;
         let place = Place::try_from(entry[0]).ok()?;
         Some((place, place.timed().then_some(Moments { first: entry[1], last: entry[2] })))
     }
@@ -114,7 +124,8 @@ impl DeadlineTable {
     }
 
     /// A deadline table of stored numbers. Any will do, as each call judges them anew and may answer [`NoTable`](Refusal::NoTable): it does
-    /// so too where the first and the last moment of a window are not those of one arrival, [12.35].
+    /// so too where the first and the last moment of a window are not those of one arrival, [12.35]. But those stored with another layout mean
+    /// something else, and no call tells: [`raw::LAYOUT`](crate::raw::LAYOUT) has what to do.
     pub fn from_numbers(numbers: [u64; raw::DEADLINES]) -> DeadlineTable {
         layout::assert_same();
         DeadlineTable { numbers }

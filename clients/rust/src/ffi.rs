@@ -5,7 +5,15 @@ use crate::raw::{Answer, Reading, Told};
 extern "C" {
     pub fn funnelfawn_layout() -> u64;
 
-    pub fn funnelfawn_fresh(n: u64, a: u64, b: u64, c: u64, table: *mut u64, table_length: usize) -> Answer;
+    pub fn funnelfawn_fresh(
+        n: u64,
+        b: u64,
+        c: u64,
+        a: *const u64,
+        a_length: usize,
+        table: *mut u64,
+        table_length: usize,
+    ) -> Answer;
 
     pub fn funnelfawn_step(
         table: *mut u64,
@@ -53,9 +61,10 @@ extern "C" {
 
     pub fn funnelfawn_fresh_deadlines(
         n: u64,
-        a: u64,
         b: u64,
         c: u64,
+        a: *const u64,
+        a_length: usize,
         deadlines: *mut u64,
         deadlines_length: usize,
     ) -> Answer;
@@ -85,6 +94,8 @@ extern "C" {
     pub fn funnelfawn_read(
         text: *const u8,
         text_length: usize,
+        a: *mut u64,
+        a_length: usize,
         moments: *mut u64,
         moments_length: usize,
         windows: *mut u64,
@@ -95,9 +106,10 @@ extern "C" {
 
     pub fn funnelfawn_write(
         n: u64,
-        a: u64,
         b: u64,
         c: u64,
+        a: *const u64,
+        a_length: usize,
         moments: *const u64,
         moments_length: usize,
         windows: *const u64,

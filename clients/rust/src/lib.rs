@@ -2,9 +2,9 @@
 //! nothing is decided here; the README of the repository has the meaning of the answers, docs/SPECIFICATION.md the rules.
 //!
 //! ```
-//! use funnelfawn::{Accepted, Act, Refusal, Summary, Table};
+//! use funnelfawn::{Accepted, Act, Limits, Refusal, Summary, Table};
 //!
-//! let mut table = Table::fresh(2, 5, 8, 12)?;
+//! let mut table = Table::fresh(&Limits { a: vec![5, 7], b: 8, c: 12 })?;
 //! let mut summary = Summary::new();
 //! table.record(&mut summary, Act::Try, 1, 0)?;
 //! table.record(&mut summary, Act::Test, 1, 3)?;
@@ -20,14 +20,16 @@
 //! # Ok::<(), Refusal>(())
 //! ```
 //!
+//! [`Limits`] has an a for each window, for houses with tills of two ages; where all are of one, there is [`Limits::equal`].
+//!
 //! For a screen in the foyer there is [`Board`], which [`Table::record_and_tell`] tells of each window that is let in. For accounts
 //! there is [`spans`]: out of a recording, who sold from when to when. For maintenance there is [`DeadlineTable`], a second engine: of each
 //! window it has the first and the last moment at which it may act, and it answers every act as [`Table`] does.
 //!
 //! ```
-//! use funnelfawn::{Act, DeadlineTable, Moments, Place, Refusal, Table};
+//! use funnelfawn::{Act, DeadlineTable, Limits, Moments, Place, Refusal, Table};
 //!
-//! let mut table = Table::fresh(2, 5, 8, 12)?;
+//! let mut table = Table::fresh(&Limits::equal(2, 5, 8, 12))?;
 //! table.step(Act::Try, 1, 0)?;
 //! table.step(Act::Test, 1, 3)?;
 //! table.step(Act::Set, 1, 8)?;
@@ -55,7 +57,9 @@ mod answer;
 mod board;
 mod deadlines;
 mod ffi;
+mod header;
 mod layout;
+mod limits;
 #[allow(unsafe_code)]
 pub mod raw;
 mod recording;
@@ -67,6 +71,7 @@ pub use act::Act;
 pub use answer::{Accepted, Fault, Figures, Refusal};
 pub use board::{Board, Told};
 pub use deadlines::{DeadlineTable, Moments};
+pub use limits::Limits;
 pub use recording::{read, replay, Recording, Step};
 pub use spans::{spans, spans_text, Span};
 pub use summary::Summary;

@@ -9,13 +9,52 @@ use crate::ffi::*;
 /// functions here compares it with [`layout`] once. [`Table`](crate::Table), [`DeadlineTable`](crate::DeadlineTable),
 /// [`Summary`](crate::Summary) and [`Board`](crate::Board) do it themselves.
 ///
-/// With 1 a summary held the moment of each window's try where it now holds what the window has waited, [`WAITED`]. Numbers of either
-/// kind may be sound, so no call finds out a summary of layout 1: whoever stores numbers stores this number beside them.
-pub const LAYOUT: u64 = 2;
-/// The entries of every table, whatever its n.
+/// Whoever stores numbers stores this number beside them, as no call tells by what layout they were stored: they may be sound by another one
+/// too, and mean something else.
+///
+/// With 2 tables of both kinds had one a for all windows: they began with n, a, b, c, the clock and the word, and the entries followed. A
+/// stored one has to be laid out anew, with its a for each of its windows:
+///
+/// ```
+/// use funnelfawn::raw::{TABLE, WINDOWS};
+/// use funnelfawn::{Act, Limits, Refusal, Table};
+///
+/// /// Of a table, 198 numbers; so it is with a deadline table, which had 294.
+/// fn laid_out_anew(stored: &[u64; 198]) -> [u64; TABLE] {
+///     let &[n, a, b, c, clock, word, ref entries @ ..] = stored;
+///     let mut values = [0; WINDOWS];
+///     values[..n as usize].fill(a);
+///     [&[n, b, c, clock, word][..], &values, entries].concat().try_into().expect("a table")
+/// }
+///
+/// // two windows with the limits 5, 8 and 12, of which the first came to testing at 3
+/// let mut stored = [0; 198];
+/// stored[..8].copy_from_slice(&[2, 5, 8, 12, 3, 0, 1, 3]);
+/// let mut table = Table::fresh(&Limits::equal(2, 5, 8, 12))?;
+/// table.step(Act::Try, 1, 3)?;
+/// assert_eq!(Table::from_numbers(laid_out_anew(&stored)), table);
+/// # Ok::<(), Refusal>(())
+/// ```
+///
+/// Summaries and boards of 2 are those of 3. With 1 a summary held the moment of each window's try where it now holds what the window has
+/// waited, [`WAITED`]; it has to be started anew, and a board too.
+pub const LAYOUT: u64 = 3;
+/// The entries of every table, whatever its n, and its values of a.
 pub const WINDOWS: usize = 96;
-/// The numbers of a table before its entries: n, a, b, c, the clock, the word.
-pub const HEADER: usize = 6;
+/// Where a table of either kind has n.
+pub const AT_N: usize = 0;
+/// Where it has b.
+pub const AT_B: usize = 1;
+/// Where it has c.
+pub const AT_C: usize = 2;
+/// Where it has the clock.
+pub const AT_CLOCK: usize = 3;
+/// Where it has the word.
+pub const AT_WORD: usize = 4;
+/// Where it has the a of window 1; those of the others follow, and are 0 above n.
+pub const AT_A: usize = 5;
+/// The numbers of a table before its entries.
+pub const HEADER: usize = AT_A + WINDOWS;
 /// The numbers of an entry: place, arrival.
 pub const STRIDE: usize = 2;
 /// The numbers of a table.
@@ -60,13 +99,12 @@ pub struct Told {
     pub board: Answer,
 }
 
-/// A reading's answer, and the values of line 2, which are 0 where it is refused.
+/// A reading's answer, and n, b and c, which are 0 where it is refused.
 #[repr(C)]
 #[derive(Clone, Copy, Debug, PartialEq, Eq)]
 pub struct Reading {
     pub answer: Answer,
     pub n: u64,
-    pub a: u64,
     pub b: u64,
     pub c: u64,
 }
@@ -76,10 +114,13 @@ pub fn layout() -> u64 {
     unsafe { funnelfawn_layout() }
 }
 
+/// Of the list `a` the first [`WINDOWS`] numbers are looked at, and 0 stands for those that it has not; above n nothing but 0 may stand there.
+/// So n numbers are enough. [`Table::fresh`](crate::Table::fresh) sees to it.
+///
 /// Look at the answer before stepping on the list: refused, it is as it was, and one that held an older table holds that table still,
 /// sound if it was sound. [`Table::fresh`](crate::Table::fresh) gives no table then.
-pub fn fresh(n: u64, a: u64, b: u64, c: u64, table: &mut [u64]) -> Answer {
-    unsafe { funnelfawn_fresh(n, a, b, c, table.as_mut_ptr(), table.len()) }
+pub fn fresh(n: u64, b: u64, c: u64, a: &[u64], table: &mut [u64]) -> Answer {
+    unsafe { funnelfawn_fresh(n, b, c, a.as_ptr(), a.len(), table.as_mut_ptr(), table.len()) }
 }
 
 pub fn step(table: &mut [u64], act: u64, window: u64, moment: u64) -> Answer {
@@ -131,8 +172,8 @@ pub fn record_and_tell(
 }
 
 /// As [`fresh`]: refused, the list is as it was.
-pub fn fresh_deadlines(n: u64, a: u64, b: u64, c: u64, deadlines: &mut [u64]) -> Answer {
-    unsafe { funnelfawn_fresh_deadlines(n, a, b, c, deadlines.as_mut_ptr(), deadlines.len()) }
+pub fn fresh_deadlines(n: u64, b: u64, c: u64, a: &[u64], deadlines: &mut [u64]) -> Answer {
+    unsafe { funnelfawn_fresh_deadlines(n, b, c, a.as_ptr(), a.len(), deadlines.as_mut_ptr(), deadlines.len()) }
 }
 
 pub fn step_deadlines(deadlines: &mut [u64], act: u64, window: u64, moment: u64) -> Answer {
@@ -149,23 +190,24 @@ pub fn to_arrivals(deadlines: &[u64], table: &mut [u64]) -> Answer {
     unsafe { funnelfawn_to_arrivals(deadlines.as_ptr(), deadlines.len(), table.as_mut_ptr(), table.len()) }
 }
 
+/// All [`WINDOWS`] values of a go to the list `a`, with 0 above n. With fewer places there it is refused with 16, whatever n is.
 #[rustfmt::skip]
-pub fn read(text: &[u8], moments: &mut [u64], windows: &mut [u64], acts: &mut [u64]) -> Reading {
+pub fn read(text: &[u8], a: &mut [u64], moments: &mut [u64], windows: &mut [u64], acts: &mut [u64]) -> Reading {
     unsafe {
         funnelfawn_read(
-            text.as_ptr(), text.len(),
+            text.as_ptr(), text.len(), a.as_mut_ptr(), a.len(),
             moments.as_mut_ptr(), moments.len(), windows.as_mut_ptr(), windows.len(), acts.as_mut_ptr(), acts.len(),
         )
     }
 }
 
-/// The values are n, a, b, c.
+/// The values are n, b, c; the list `a` is as [`fresh`] has it.
 #[rustfmt::skip]
-pub fn write(values: [u64; 4], moments: &[u64], windows: &[u64], acts: &[u64], out: &mut [u8]) -> Answer {
-    let [n, a, b, c] = values;
+pub fn write(values: [u64; 3], a: &[u64], moments: &[u64], windows: &[u64], acts: &[u64], out: &mut [u8]) -> Answer {
+    let [n, b, c] = values;
     unsafe {
         funnelfawn_write(
-            n, a, b, c,
+            n, b, c, a.as_ptr(), a.len(),
             moments.as_ptr(), moments.len(), windows.as_ptr(), windows.len(), acts.as_ptr(), acts.len(),
             out.as_mut_ptr(), out.len(),
         )

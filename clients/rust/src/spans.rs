@@ -20,13 +20,16 @@ pub struct Span {
 /// ```
 /// use funnelfawn::{spans, Fault, Refusal, Span};
 ///
-/// let head = "windows,a,b,c\n2,5,8,12\ntime,window,act\n";
+/// let head = "windows,b,c\n2,8,12\nwindow,a\n1,5\n2,7\ntime,window,act\n";
 /// let sale = "0,1,try\n1,1,test\n2,1,set\n10,1,check\n12,1,crit\n16,1,exit\n";
 /// let recording = [head, sale].concat();
 /// assert_eq!(spans(recording.as_bytes())?, [Span { window: 1, from: 12, to: Some(16) }]);
 ///
-/// let many = spans(b"windows,a,b,c\n97,5,8,12\n");
+/// let many = spans(b"windows,b,c\n97,8,12\n");
 /// assert_eq!(many, Err(Fault { refusal: Refusal::WindowCount, line: Some(2) }));
+/// // limits are judged once the last of them is read
+/// let equal = spans(b"windows,b,c\n2,8,12\nwindow,a\n1,8\n2,7\n");
+/// assert_eq!(equal, Err(Fault { refusal: Refusal::Limits, line: Some(5) }));
 /// # Ok::<(), Fault>(())
 /// ```
 pub fn spans(text: &[u8]) -> Result<Vec<Span>, Fault> {

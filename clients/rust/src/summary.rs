@@ -9,9 +9,9 @@ use crate::raw;
 /// sold, [5.75]. Here window 2 tries at 10, and window 1 sells from 12 to 15; at 16, window 2 has waited 2 and then 1:
 ///
 /// ```
-/// use funnelfawn::{Act::*, Refusal, Summary, Table};
+/// use funnelfawn::{Act::*, Limits, Refusal, Summary, Table};
 ///
-/// let (mut table, mut summary) = (Table::fresh(2, 5, 8, 12)?, Summary::new());
+/// let (mut table, mut summary) = (Table::fresh(&Limits::equal(2, 5, 8, 12))?, Summary::new());
 /// for (act, moment) in [(Try, 0), (Test, 1), (Set, 2)] {
 ///     table.record(&mut summary, act, 1, moment)?;
 /// }
@@ -70,7 +70,7 @@ impl Summary {
     }
 
     /// A summary of stored numbers. Any will do, as each call judges them anew and may answer
-    /// [`NoSummary`](crate::Refusal::NoSummary); but those stored with another layout mean something else, and no call tells.
+    /// [`NoSummary`](crate::Refusal::NoSummary); but those stored with layout 1 mean something else, and no call tells.
     pub fn from_numbers(numbers: [u64; raw::SUMMARY]) -> Summary {
         layout::assert_same();
         Summary { numbers }

@@ -2,7 +2,9 @@
 
 use crate::answer::{Accepted, Refusal};
 use crate::board::{Board, Told};
+use crate::header::Header;
 use crate::layout;
+use crate::limits::Limits;
 use crate::raw;
 use crate::summary::Summary;
 
@@ -60,10 +62,11 @@ pub struct Table {
 }
 
 impl Table {
-    /// A table of n windows with the limits a, b, c: all in remainder, at clock 0, with word 0. If they are refused there is no table.
-    pub fn fresh(n: u64, a: u64, b: u64, c: u64) -> Result<Table, Refusal> {
+    /// A table of as many windows as the limits have values of a: all in remainder, at clock 0, with word 0. If they are refused there is no
+    /// table.
+    pub fn fresh(limits: &Limits) -> Result<Table, Refusal> {
         let mut table = Table::from_numbers([0; raw::TABLE]);
-        raw::fresh(n, a, b, c, &mut table.numbers).result()?;
+        raw::fresh(limits.windows(), limits.b, limits.c, &limits.a, &mut table.numbers).result()?;
         Ok(table)
     }
 
@@ -90,9 +93,10 @@ impl Table {
     /// [`NoSummary`](Refusal::NoSummary).
     ///
     /// ```
-    /// use funnelfawn::{Act, Board, Figures, Refusal, Summary, Table};
+    /// use funnelfawn::{Act, Board, Figures, Limits, Refusal, Summary, Table};
     ///
-    /// let (mut table, mut summary, mut board) = (Table::fresh(2, 5, 8, 12)?, Summary::new(), Board::set_up(30)?);
+    /// let mut table = Table::fresh(&Limits::equal(2, 5, 8, 12))?;
+    /// let (mut summary, mut board) = (Summary::new(), Board::set_up(30)?);
     /// for (act, moment) in [(Act::Try, 0), (Act::Test, 1), (Act::Set, 2), (Act::Check, 10)] {
     ///     let told = table.record_and_tell(&mut summary, &mut board, act, 1, moment);
     ///     assert!(told.step.is_ok() && told.board.is_none());
@@ -113,32 +117,37 @@ impl Table {
         raw::record_and_tell(table, summary, board, act.into(), window, moment).into()
     }
 
-    /// The number of windows, n.
-    pub fn windows(&self) -> u64 {
-        self.numbers[0]
+    fn header(&self) -> Header<'_> {
+        Header(&self.numbers)
     }
 
-    /// The limits a, b, c.
-    pub fn limits(&self) -> [u64; 3] {
-        [self.numbers[1], self.numbers[2], self.numbers[3]]
+    /// The number of windows, n.
+    pub fn windows(&self) -> u64 {
+        self.header().windows()
+    }
+
+    /// Its limits, with an a for each window of 1 to n. Where the numbers tell no sound table and n is above 96 there are 96 of them.
+    pub fn limits(&self) -> Limits {
+        self.header().limits()
+    }
+
+    /// The a of a window of 1 to n.
+    pub fn a(&self, window: u64) -> Option<u64> {
+        self.header().a(window)
     }
 
     pub fn clock(&self) -> u64 {
-        self.numbers[4]
+        self.header().clock()
     }
 
     /// The shared word [2.50]: a window, or 0 where it is free.
     pub fn word(&self) -> u64 {
-        self.numbers[5]
+        self.header().word()
     }
 
     /// The place of a window of 1 to n, and its arrival if the place is timed.
     pub fn place(&self, window: u64) -> Option<(Place, Option<u64>)> {
-        if window > self.windows() {
-            return None;
-        }
-        let index = usize::try_from(window.checked_sub(1)?).ok()?;
-        let entry = self.numbers[raw::HEADER..].chunks(raw::STRIDE).nth(index)?;
+        let entry = self.header().entry(window, raw::STRIDE)?;
         let place = Place::try_from(entry[0]).ok()?;
         Some((place, place.timed().then_some(entry[1])))
     }
@@ -148,7 +157,8 @@ impl Table {
         &self.numbers
     }
 
-    /// A table of stored numbers. Any will do, as each call judges them anew and may answer [`NoTable`](Refusal::NoTable).
+    /// A table of stored numbers. Any will do, as each call judges them anew and may answer [`NoTable`](Refusal::NoTable);
+    /// but those stored with another layout mean something else, and no call tells: [`raw::LAYOUT`](crate::raw::LAYOUT) has what to do.
     pub fn from_numbers(numbers: [u64; raw::TABLE]) -> Table {
         layout::assert_same();
         Table { numbers }

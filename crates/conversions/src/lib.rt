@@ -14,6 +14,7 @@ use model::Process;
 use model::State;
 use rules::actions::WAIT;
 use values::answer_with;
+use values::limits::limit_of;
 use values::no_parameters;
 ghost use mathlib.Core.Path.{_≡_};
 ghost use Rattle.deadlines.specs.Matching.{toDeadlines, toArrivals};
@@ -32,7 +33,8 @@ pub fn to_deadlines(state: State) -> DeadlineOutcome
             state: blank,
         };
     }
-    let parameters = state.parameters;
+    let b = state.parameters.b;
+    let c = state.parameters.c;
     let mut processes = [DeadlineProcess {
         location: DeadlineLocation::Remainder,
     }; 96];
@@ -40,9 +42,11 @@ pub fn to_deadlines(state: State) -> DeadlineOutcome
     while i < 96 {
         let entry = state.processes[i];
         let location = entry.location;
-        processes[i] = entry_with(dated(parameters, (i as u64) + 1, location));
+        let limit = limit_of(&state.parameters.a, (i as u64) + 1);
+        processes[i] = entry_with(dated(b, c, limit, location));
         i += 1;
     }
+    let parameters = state.parameters;
     DeadlineOutcome {
         answer: answer_with(0, 0, 0),
         state: DeadlineState {
@@ -68,7 +72,7 @@ pub fn to_arrivals(state: DeadlineState) -> Outcome
             state: blank,
         };
     }
-    let parameters = state.parameters;
+    let b = state.parameters.b;
     let mut processes = [Process {
         location: Location::Remainder,
     }; 96];
@@ -76,9 +80,10 @@ pub fn to_arrivals(state: DeadlineState) -> Outcome
     while i < 96 {
         let entry = state.processes[i];
         let location = entry.location;
-        processes[i] = entry_at(arrived(parameters, location));
+        processes[i] = entry_at(arrived(b, location));
         i += 1;
     }
+    let parameters = state.parameters;
     Outcome {
         answer: answer_with(0, 0, 0),
         state: State {

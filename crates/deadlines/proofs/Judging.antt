@@ -216,7 +216,8 @@ dated-fits k i (Leaving t) h b c a = λ j. with.Leaving (plain t j) (sum t (limi
 pub exit-moved-with : (d : DeadlineState) (act p m slot : ℕ) (t : Transition) (o : DeadlineOutcome) (j : Answer)
     → (p ≤ 96 → slot ≡ p - 1) → (act ≢ waitAct → act ≤ lastAct → t ≡ transitionOf (d .word) act p m) → m ≤ lastTime → Small d
     → GoesWith d act p m o j → j .code ≡ 0 → act ≢ waitAct
-    → record { answer = j; state = changedWith d m (t .word) (set (d .processes) slot (entryWith (datedWith (d .parameters .b) (d .parameters .c) (limitIn (d .parameters) p) (t .to)))) } ≡ o
+    → (let k = d .parameters in
+    record { answer = j; state = changedWith d m (t .word) (set (d .processes) slot (entryWith (datedWith (k .b) (k .c) (limitIn k p) (t .to)))) } ≡ o)
 exit-moved-with d act p m slot t o j slot-is t-is last few (refuse e n) h a = absurd (n h)
 exit-moved-with d act p m slot t o j slot-is t-is last few (wait a′ z e h′) h a = absurd (a a′)
 exit-moved-with d act p m slot t o j slot-is t-is last few (move some known from to e h′) h a =

@@ -24,7 +24,7 @@ use Rattle.deadlines.specs.Matching.{Matches}
 use Rattle.matching.specs.Facts.{HasTimes}
 use Rattle.matching.specs.Lists.{Demand3With}
 use Rattle.deadline_layout.specs.Encodings.{deadlineLength, stateNumbersWith, deadlineTableIn, isSoundDeadlineTable}
-use Rattle.exported.specs.Lending.{Lends}
+use Rattle.exported.specs.Lending.{Lends, LendsLimits}
 use Rattle.funnelfawn.proofs.funnelfawn_fresh_deadlines.Reads as fresh-reads
 use Rattle.funnelfawn.proofs.funnelfawn_step_deadlines.Reads as step-reads
 use Rattle.funnelfawn.proofs.funnelfawn_to_deadlines.Reads as to-reads
@@ -32,11 +32,12 @@ use Rattle.funnelfawn.proofs.funnelfawn_to_arrivals.Reads as fro-reads
 
 -- What the contracts allow
 
--- [12.150] `funnelfawn_fresh_deadlines` may give r
+-- [9.45] [12.150] `funnelfawn_fresh_deadlines` may give r
 abbrev pub StartsDeadlines : Parameters → List ℕ → Lent → Type 0
 StartsDeadlines k table r =
-    (κs : Lfts 1) × (t : Lends table (r .table))
-    × fresh-reads.Post κs (k .n, (k .a, (k .b, (k .c, (t .lent, tt))))) (r .answer) (k .n, (k .a, (k .b, (k .c, (t .left, tt)))))
+    (κs : Lfts 2) × (a : LendsLimits (k .a)) × (t : Lends table (r .table))
+    × fresh-reads.Post κs (k .n, (k .b, (k .c, (a .list .lent, (t .lent, tt))))) (r .answer)
+    (k .n, (k .b, (k .c, (a .list .left, (t .left, tt)))))
 
 -- [12.150] `funnelfawn_step_deadlines` may give r
 abbrev pub StepsDeadlines : List ℕ → ℕ → ℕ → ℕ → Lent → Type 0

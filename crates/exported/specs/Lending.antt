@@ -6,6 +6,7 @@ use mathlib.Core.List.{List}
 use contract.Lifetimes.{Lfts}
 use denote.Ref.{RefT}
 use Rattle.model.specs.declared.Parameters.{Parameters}
+use Rattle.model.specs.States.{limitsIn}
 use Rattle.layout.specs.Interface.{Lent, LentSummary, LentBoth}
 use Rattle.recent.specs.Encodings.{LentBoard}
 use Rattle.recent.specs.Tellings.{LentTold}
@@ -25,13 +26,20 @@ pub record Lends (before after : List ℕ) : Type 0 where
   pub entry : lent .now ≡ before
   pub exit : left .now ≡ after
 
+-- [9.45] a list is lent that stands for these values of a, and is only read
+pub record LendsLimits (a : List ℕ) : Type 0 where
+  pub values : List ℕ
+  pub told : limitsIn values ≡ a
+  pub list : Lends values values
+
 -- Starts
 
--- [9.152] [10.236] `funnelfawn_fresh` may give r
+-- [9.45] [9.152] [10.236] `funnelfawn_fresh` may give r
 abbrev pub Starts : Parameters → List ℕ → Lent → Type 0
 Starts k table r =
-    (κs : Lfts 1) × (t : Lends table (r .table))
-    × fresh-reads.Post κs (k .n, (k .a, (k .b, (k .c, (t .lent, tt))))) (r .answer) (k .n, (k .a, (k .b, (k .c, (t .left, tt)))))
+    (κs : Lfts 2) × (a : LendsLimits (k .a)) × (t : Lends table (r .table))
+    × fresh-reads.Post κs (k .n, (k .b, (k .c, (a .list .lent, (t .lent, tt))))) (r .answer)
+    (k .n, (k .b, (k .c, (a .list .left, (t .left, tt)))))
 
 -- [9.154] [10.236] `funnelfawn_new_summary` may give r
 abbrev pub StartsSummary : List ℕ → LentSummary → Type 0

@@ -4,15 +4,17 @@
 use intervals::write_intervals;
 use model::Answer;
 use model::Parameters;
-use model::Reading;
 use report::report;
 use rules::actions::CRIT;
+use trace::ReadingTo;
 use values::answer_with;
+use values::limits::limits_in;
 ghost use mathlib.Core.Path.{_≡_};
-ghost use Rattle.model.specs.States.{parametersOf};
-ghost use Rattle.model.specs.Readings.{lent, readGave, readOf};
+ghost use Rattle.model.specs.States.{parametersOf, limitsIn};
+ghost use Rattle.model.specs.Readings.{lent};
 ghost use Rattle.model.specs.Writings.{eventsOf, writeGave, writeOf};
 ghost use Rattle.model.specs.Reports.{reportOf};
+ghost use Rattle.trace.specs.ReadingTo.{readToGave, readToOf};
 ghost use Rattle.intervals.specs.Intervals.{writeIntervalsOf};
 ghost use Rattle.layout.specs.Layouts.{layoutNumber};
 ghost use Rattle.layout.specs.Interface.{lentGave, lentFresh, lentStep, recordGave, lentRecord, summaryGave, lentSummary};
@@ -29,24 +31,30 @@ pub extern "C" fn funnelfawn_layout() -> u64
     layout::number()
 }
 
-// The parameters that a call is handed as numbers.
-fn parameters_of(n: u64, a: u64, b: u64, c: u64) -> Parameters
-    ensures { λ r. ⌜ r ≡ parametersOf n a b c ⌝ }
+// [9.45] The parameters that a call is handed as numbers and a list of values of a.
+fn parameters_with(n: u64, b: u64, c: u64, a: &[u64]) -> Parameters
+    ensures { λ r. ⌜ r ≡ parametersOf n b c (limitsIn (now (a .entry))) ⌝ }
 {
     Parameters {
         n: n,
-        a: a,
         b: b,
         c: c,
+        a: limits_in(a),
     }
 }
 
-// [9.50] [21.110] A fresh table, in the lent numbers.
+// [9.45] [9.50] [21.110] A fresh table, in the lent numbers.
 #[no_mangle]
-pub extern "C" fn funnelfawn_fresh(n: u64, a: u64, b: u64, c: u64, table: &mut [u64]) -> Answer
-    ensures { λ r. ⌜ lentGave r (now (table .exit)) ≡ lentFresh (parametersOf n a b c) (now (table .entry)) ⌝ }
+pub extern "C" fn funnelfawn_fresh(
+    n: u64,
+    b: u64,
+    c: u64,
+    a: &[u64],
+    table: &mut [u64],
+) -> Answer
+    ensures { λ r. ⌜ lentGave r (now (table .exit)) ≡ lentFresh (parametersOf n b c (limitsIn (now (a .entry)))) (now (table .entry)) ⌝ }
 {
-    layout::fresh(parameters_of(n, a, b, c), table)
+    layout::fresh(parameters_with(n, b, c, a), table)
 }
 
 // [9.60] [21.110] One act, in the lent table.
@@ -80,36 +88,38 @@ pub extern "C" fn funnelfawn_record(
     layout::record(table, summary, action, process, time)
 }
 
-// [9.90] [21.110] Reads a recording: its steps go to the three lists.
+// [9.90] [21.110] Reads a recording: its values of a go to a list, and its steps to three.
 #[no_mangle]
 pub extern "C" fn funnelfawn_read(
     text: &[u8],
+    a: &mut [u64],
     times: &mut [u64],
     processes: &mut [u64],
     actions: &mut [u64],
-) -> Reading
-    ensures { λ r. ⌜ readGave r (lent (times .exit) (processes .exit) (actions .exit))
-        ≡ readOf (now (text .entry)) (lent (times .entry) (processes .entry) (actions .entry)) ⌝ }
+) -> ReadingTo
+    ensures { λ r. ⌜ readToGave r (now (a .exit)) (lent (times .exit) (processes .exit) (actions .exit))
+        ≡ readToOf (now (text .entry)) (now (a .entry)) (lent (times .entry) (processes .entry) (actions .entry)) ⌝ }
 {
-    trace::read(text, times, processes, actions)
+    trace::read_to(text, a, times, processes, actions)
 }
 
-// [9.100] [21.110] Writes a recording of the steps in the three lists.
+// [9.45] [9.100] [21.110] Writes a recording of the steps in the three lists.
 #[no_mangle]
 pub extern "C" fn funnelfawn_write(
     n: u64,
-    a: u64,
     b: u64,
     c: u64,
+    a: &[u64],
     times: &[u64],
     processes: &[u64],
     actions: &[u64],
     out: &mut [u8],
 ) -> Answer
     ensures { λ r. ⌜ writeGave r (now (out .exit))
-        ≡ writeOf (parametersOf n a b c) (eventsOf (lent (times .entry) (processes .entry) (actions .entry))) (now (out .entry)) ⌝ }
+        ≡ writeOf (parametersOf n b c (limitsIn (now (a .entry)))) (eventsOf (lent (times .entry) (processes .entry) (actions .entry)))
+            (now (out .entry)) ⌝ }
 {
-    let parameters = parameters_of(n, a, b, c);
+    let parameters = parameters_with(n, b, c, a);
     trace::write(parameters, times, processes, actions, out)
 }
 
@@ -207,18 +217,19 @@ pub extern "C" fn funnelfawn_record_and_tell(
 
 // The second engine
 
-// [12.120] [21.110] A fresh deadline table, in the lent numbers.
+// [9.45] [12.120] [21.110] A fresh deadline table, in the lent numbers.
 #[no_mangle]
 pub extern "C" fn funnelfawn_fresh_deadlines(
     n: u64,
-    a: u64,
     b: u64,
     c: u64,
+    a: &[u64],
     deadlines: &mut [u64],
 ) -> Answer
-    ensures { λ r. ⌜ lentGave r (now (deadlines .exit)) ≡ lentFreshWith (parametersOf n a b c) (now (deadlines .entry)) ⌝ }
+    ensures { λ r. ⌜ lentGave r (now (deadlines .exit))
+        ≡ lentFreshWith (parametersOf n b c (limitsIn (now (a .entry)))) (now (deadlines .entry)) ⌝ }
 {
-    deadline_layout::fresh(parameters_of(n, a, b, c), deadlines)
+    deadline_layout::fresh(parameters_with(n, b, c, a), deadlines)
 }
 
 // [12.130] [21.110] One act, in the lent deadline table.

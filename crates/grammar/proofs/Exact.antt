@@ -1,5 +1,5 @@
--- What a text tells: it is read as a trace exactly when it is the text written for that trace and the trace has a form, and any other
--- has a fault. Assumes nothing.
+-- What a text tells: it is read as a trace exactly when it is a text for that trace, in either shape, and the trace has a form, and any
+-- other has a fault. Assumes nothing.
 use Prim.Native.Nat.{ℕ, zero, suc, _+_, _≤_, _<_}
 use mathlib.Core.Path.{_≡_, refl, sym, ap, _∙_}
 use mathlib.Core.Logic.{_≢_}
@@ -15,19 +15,20 @@ use Rattle.model.specs.declared.Row.the-variants.{Step, Unread}
 use Rattle.model.specs.declared.Parameters.{Parameters}
 use Rattle.model.specs.declared.Scan.{Scan}
 use Rattle.model.specs.States.{parametersStand}
-use Rattle.model.specs.Texts.{Event, event, eventText, headText, firstLine, eventsText, traceText, hasForm, textLimit}
+use Rattle.model.specs.Texts.{Event, event, eventText, eventsText, hasForm, textLimit}
 use Rattle.model.specs.Readings.{eventAt, scanOf, scanFails, headOf, Body, bodyIn, bodyOf, Trace, refused, trace, ofBody, ofHead, traceOf}
 use Rattle.model.specs.Writings.{formlessFrom}
-use Rattle.grammar.specs.Exact.{Formed, Says, ReadExactly, WordForEachAct}
+use Rattle.grammar.specs.Exact.{FirstLines, Says, ReadExactly, WordForEachAct}
 use Rattle.grammar.specs.Digits.{HasForm}
-use Rattle.grammar.specs.Faults.{Differs, Fault, long, names, values, count, limits, steps, step, RefusedExactly, OneFault}
+use Rattle.grammar.specs.Faults.{Differs, Fault, long, names, values, count, limit-names, limit, limits, steps, step, RefusedExactly, OneFault}
 use Rattle.model.proofs.Tests.{by-test, by-cond}
 use Rattle.grammar.proofs.Faults.{fault-some}
-use Rattle.grammar.proofs.Lines.{event-some, event-was, event-reads}
+use Rattle.grammar.proofs.Lines.{took-then, event-some, event-was, event-reads}
 use Rattle.grammar.proofs.Digits.{form-iff-digits}
 use Rattle.grammar.proofs.Bodies.{body-step, body-fault, body-end}
-use Rattle.grammar.proofs.Heads.{first-line, HeadTook, head-line, HeadTells, head-tells, head-reads, trace-refused, trace-events, trace-fault}
-use Rattle.grammar.proofs.Heads.{fails-long, fails-names, fails-values, fails-count, fails-limits, fails-steps}
+use Rattle.grammar.proofs.Shapes.{first-line}
+use Rattle.grammar.proofs.Heads.{HeadTook, head-line, HeadTells, head-tells, head-reads, trace-refused, trace-events, trace-fault}
+use Rattle.grammar.proofs.Heads.{fails-long, fails-names, fails-values, fails-count, fails-limit-names, fails-limit, fails-limits, fails-steps}
 
 -- The steps
 
@@ -81,7 +82,7 @@ body-tells (suc k) line (x ∷ s) p h = go (eventAt line (x ∷ s)) refl (λ i. 
         rw (q, bodyIn)
         (record {
           rest = r .rest;
-          split = w .took .split ∙ (ap (λ (l : List ℕ). eventText e ++ l) (r .split) ∙ sym (append-assoc (eventText e) _ (r .rest)));
+          split = took-then (w .took) _ (r .rest) (r .split);
           forms = λ n. rw (w .formed) (r .forms (n + 1));
           ends = r .ends;
           stops = λ n. let o = r .stops n in record { named = omega (arith, o .named); some = o .some; none = o .none };
@@ -117,14 +118,14 @@ body-reads line (e ∷ es) rest h f =
 
 -- Whole traces
 
-trace-reads : (k : Parameters) (events : List Event) → Formed k events → traceOf (traceText k events) ≡ trace (firstLine k) k events
-trace-reads k events f =
-    let text : List ℕ = traceText k events in
-    let h = head-reads k (eventsText events) (f .stand) (f .short) in
-    let body : bodyOf (firstLine k) (drop (length (headText k)) text) ≡ record { events = events; fault = 0 } =
-    rw (drop-append-seam, ← append-nil (eventsText events))
-    (body-reads (firstLine k) events [] (first-line k .0) (f .forms) ∙ rw (body-end (firstLine k + length events), append-nil)) in
-    trace-events text (scanOf (firstLine k) k (length (headText k))) h refl (ap (λ (b : Body). b .fault) body) ∙ rw body
+trace-reads : {text : List ℕ} {line : ℕ} {k : Parameters} {events : List Event} → Says text line k events → traceOf text ≡ trace line k events
+trace-reads {text} {line} {k} {events} f =
+    let head : List ℕ = f .head in
+    let h : headOf text ≡ scanOf line k (length head) = rw (f .text-is) (head-reads (f .shape) (eventsText events) (f .stand) (rw (f .text-is) at (f .short))) in
+    let body : bodyOf line (drop (length head) text) ≡ record { events = events; fault = 0 } =
+    rw (f .text-is, drop-append-seam, ← append-nil (eventsText events))
+    (body-reads line events [] (first-line (f .shape) (f .stand) .0) (f .forms) ∙ rw (body-end (line + length events), append-nil)) in
+    trace-events text (scanOf line k (length head)) h refl (ap (λ (b : Body). b .fault) body) ∙ rw body
 
 -- a line that is no step ends the steps
 body-stops : (line : ℕ) (rest : List ℕ) → 0 < length rest → ((e : Event) → HasForm e → Differs (eventText e) rest)
@@ -143,25 +144,27 @@ TraceTells text (trace line k events) = Says text line k events
 TraceTells text (refused code line) = Fault text code line
 
 module _ (text : List ℕ) (h : Scan) (told : HeadTook text h) (body : Body) (r : BodyTells (drop (h .size) text) (h .line) body) where
-  split : text ≡ headText (h .parameters) ++ (eventsText (body .events) ++ r .rest)
-  split = told .took .split ∙ ap (λ (l : List ℕ). headText (h .parameters) ++ l) (r .split)
+  split : text ≡ told .head ++ (eventsText (body .events) ++ r .rest)
+  split = told .took .split ∙ ap (λ (l : List ℕ). told .head ++ l) (r .split)
 
   -- steps to the end of the text
   says : body .fault ≡ 0 → Says text (h .line) (h .parameters) (body .events)
-  says z =
-      let text-is : text ≡ traceText (h .parameters) (body .events) = rw (r .ends z, append-nil) at split in
-      record {
-        line-is = told .line-is;
-        text-is = text-is;
-        formed = record { stand = told .stand; forms = r .forms (firstLine (h .parameters)); short = rw text-is at (told .short) };
-      }
+  says z = record {
+    head = told .head;
+    shape = told .shape;
+    text-is = rw (r .ends z, append-nil) at split;
+    stand = told .stand;
+    forms = r .forms (h .line);
+    short = told .short;
+  }
 
   -- or to a line that is none
   faulty : body .fault ≢ 0 → Fault text 14 (body .fault)
   faulty n =
       let o = r .stops n in
-      rw (o .named, told .line-is)
-      (step (h .parameters) (body .events) (r .rest) (told .short) split (told .stand) (r .forms (firstLine (h .parameters))) (o .some) (o .none))
+      rw (o .named)
+      (step (h .parameters) (told .head) (h .line) (body .events) (r .rest) (told .shape) (told .short) split (told .stand) (r .forms (h .line))
+      (o .some) (o .none))
 
   body-then : TraceTells text (ofBody (h .line) (h .parameters) body)
   body-then = by-cond (TraceTells text) (eqb (body .fault) 0) (λ t. says (eqb-true _ _ t)) (λ t. faulty (eqb-false _ _ t))
@@ -182,32 +185,34 @@ trace-tells text = head-then text (headOf text) (head-tells text)
 
 pub read-exactly : ReadExactly
 read-exactly text line k events =
-    (λ e. rw e at (trace-tells text), λ h. rw (h .text-is, h .line-is) (trace-reads k events (h .formed)))
+    (λ e. rw e at (trace-tells text), trace-reads)
 
 -- A text with a fault is refused for it
 
 fails-first : {text : List ℕ} {code line : ℕ} → Fault text code line → headOf text ≡ scanFails code line → traceOf text ≡ refused code line
 fails-first {text} {code} {line} f e = trace-refused text (scanFails code line) e (λ z. omega (arith, fault-some f))
 
-fails-step : {text : List ℕ} (k : Parameters) (events : List Event) (rest : List ℕ) → length text ≤ textLimit
-    → text ≡ headText k ++ (eventsText events ++ rest) → parametersStand k ≡ true
-    → formlessFrom (firstLine k) events ≡ 0 → 0 < length rest → ((e : Event) → HasForm e → Differs (eventText e) rest)
-    → traceOf text ≡ refused 14 (firstLine k + length events)
-fails-step {text} k events rest short is stand forms some none =
-    let h : headOf text ≡ scanOf (firstLine k) k (length (headText k)) =
-    rw is (head-reads k (eventsText events ++ rest) stand (rw is at short)) in
-    let fault : bodyOf (firstLine k) (drop (length (headText k)) text) .fault ≡ firstLine k + length events =
-    rw (is, drop-append-seam, body-reads (firstLine k) events rest (first-line k .0) forms, body-stops (firstLine k + length events) rest some none) in
-    trace-fault text (scanOf (firstLine k) k (length (headText k))) h refl (λ z. omega (arith, fault, first-line k)) ∙ rw fault
+fails-step : {text : List ℕ} {k : Parameters} {head : List ℕ} {line : ℕ} (events : List Event) (rest : List ℕ) → FirstLines k head line
+    → length text ≤ textLimit → text ≡ head ++ (eventsText events ++ rest) → parametersStand k ≡ true
+    → formlessFrom line events ≡ 0 → 0 < length rest → ((e : Event) → HasForm e → Differs (eventText e) rest)
+    → traceOf text ≡ refused 14 (line + length events)
+fails-step {text} {k} {head} {line} events rest shape short is stand forms some none =
+    let first = first-line shape stand in
+    let h : headOf text ≡ scanOf line k (length head) = rw is (head-reads shape (eventsText events ++ rest) stand (rw is at short)) in
+    let fault : bodyOf line (drop (length head) text) .fault ≡ line + length events =
+    rw (is, drop-append-seam, body-reads line events rest (first .0) forms, body-stops (line + length events) rest some none) in
+    trace-fault text (scanOf line k (length head)) h refl (λ z. omega (arith, fault)) ∙ rw fault
 
 pub refused-when : {text : List ℕ} {code line : ℕ} → Fault text code line → traceOf text ≡ refused code line
 refused-when {text} (long h) = fails-first (long h) (fails-long text h)
-refused-when {text} (names h d) = fails-first (names h d) (fails-names text h d)
-refused-when {text} (values rest h e d) = fails-first (values rest h e d) (fails-values text rest h e d)
-refused-when (count k rest s c) = fails-first (count k rest s c) (fails-count s c)
-refused-when (limits k rest s c l) = fails-first (limits k rest s c l) (fails-limits s c l)
-refused-when (steps k rest s e d) = fails-first (steps k rest s e d) (fails-steps s e d)
-refused-when (step k events rest h e st f some none) = fails-step k events rest h e st f some none
+refused-when {text} (names h d f) = fails-first (names h d f) (fails-names text h d f)
+refused-when (values first rest more w h e d) = fails-first (values first rest more w h e d) (fails-values w rest h e d)
+refused-when (count first n others rest w s c) = fails-first (count first n others rest w s c) (fails-count w refl s c)
+refused-when (limit-names n b c rest s e d) = fails-first (limit-names n b c rest s e d) (fails-limit-names s e d)
+refused-when (limit n b c a rest s e f l d) = fails-first (limit n b c a rest s e f l d) (fails-limit a rest s e f l d)
+refused-when (limits k first rest line w h e c l) = fails-first (limits k first rest line w h e c l) (fails-limits h w rest e c l)
+refused-when (steps k first rest line w h e st d) = fails-first (steps k first rest line w h e st d) (fails-steps h w rest e st d)
+refused-when (step k head line events rest w h e st f some none) = fails-step events rest w h e st f some none
 
 pub refused-exactly : RefusedExactly
 refused-exactly text code line = (λ e. rw e at (trace-tells text), refused-when)

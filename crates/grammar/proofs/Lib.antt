@@ -3,6 +3,7 @@ pub mod Tables
 pub mod Fields
 pub mod Lines
 pub mod LinesOfA
+pub mod Shapes
 pub mod Bodies
 pub mod Faults
 pub mod Heads

@@ -76,6 +76,10 @@ took-both {s} {x} {y} {i} {j} f g =
       size = omega (arith, length-append x y, f .size, g .size);
     }
 
+-- what follows was taken apart
+pub took-then : {s x : List ℕ} {i : ℕ} → Took s x i → (y rest : List ℕ) → drop i s ≡ y ++ rest → s ≡ (x ++ y) ++ rest
+took-then {s} {x} f y rest e = rw (append-assoc x y rest) (f .split ∙ ap (λ (l : List ℕ). x ++ l) e)
+
 -- A line of numbers
 
 -- small enough for its field, and of few digits
@@ -86,6 +90,10 @@ few = bounds-are-digits .number
 abbrev pub numbersIn : ℕ → ℕ → List ℕ → List ℕ
 numbersIn zero i l = []
 numbersIn (suc many) i l = getD l i 0 ∷ numbersIn many (i + 1) l
+
+pub numbers-many : (many i : ℕ) (l : List ℕ) → length (numbersIn many i l) ≡ many
+numbers-many zero i l = refl
+numbers-many (suc many) i l = ap suc (numbers-many many (i + 1) l)
 
 -- l was read from s: `more` numbers and one before them stand in its first places
 pub record LineTook (s : List ℕ) (more : ℕ) (l : Line) : Type 0 where

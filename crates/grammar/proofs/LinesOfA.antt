@@ -21,7 +21,7 @@ use Rattle.model.proofs.Tests.{by-cond, tests}
 use Rattle.grammar.specs.Digits.{digitsOf, Few}
 use Rattle.grammar.specs.Faults.{Differs}
 use Rattle.grammar.proofs.Fields.{Took}
-use Rattle.grammar.proofs.Lines.{took-both, numbers-long, few, numbers-was, numbers-fail, numbers-reads}
+use Rattle.grammar.proofs.Lines.{took-both, took-then, numbers-long, few, numbers-was, numbers-fail, numbers-reads}
 
 -- The line of process i
 
@@ -142,7 +142,7 @@ limits-tell (suc many) i j at got s p h =
             fewer = omega (arith, r .fewer);
             digits = (w .digits, r .digits);
             rest = r .rest;
-            split = w .took .split ∙ (ap (λ (m : List ℕ). numbersText i (x ∷ []) ++ m) (r .split) ∙ sym (append-assoc (numbersText i (x ∷ [])) _ (r .rest)));
+            split = took-then (w .took) (limitsText (i + 1) (r .values)) (r .rest) (r .split);
             none = rw more at (r .none);
             told = rw more at (r .told);
           };
@@ -212,12 +212,18 @@ module _ (values : List ℕ) (h : length values ≤ 96) where
   unfolding limitsIn
   limits-front = rw (take-all 96 values h) (take-append-seam values (replicate (96 - length values) 0))
 
+  -- all the lines that are written are read, from that of process 1 on
+  pub limits-read : (s : List ℕ) → Few values
+      → limitsFrom (length values) 1 0 (replicate 96 0) (limitsText 1 values ++ s) ≡ limitsOf (limitsIn values) (length (limitsText 1 values))
+  unfolding limitsFrom
+  limits-read s d = rw (← limits-filled) (rw (add-zero, zero-add) at (limits-after values 0 1 0 0 (replicate 96 0) s refl (omega arith) d))
+
 -- 96 values that are 0 from n on are those of their first n
 pub limits-back : (n : ℕ) (a : List ℕ) → length a ≡ 96 → n ≤ 96 → ((j : ℕ) → n ≤ j → getD a j 0 ≡ 0) → limitsIn (take n a) ≡ a
 unfolding limitsIn
 limits-back n a l h zeros =
     let m : length (take n a) ≡ n = length-take-le n a (omega arith) in
     let tail : drop n a ≡ replicate (96 - n) 0 =
-    ext-getD 0 (drop n a) (replicate (96 - n) 0) (omega (arith, length-drop n a, length-replicate (96 - n) 0))
+    ext-getD 0 (drop n a) (replicate (96 - n) 0) (omega (arith, length-drop n a, length-replicate {A = ℕ} (96 - n) 0))
     (λ i g. getD-drop n a i 0 ∙ (zeros (n + i) (omega arith) ∙ sym (getD-replicate (96 - n) i 0 0 (omega (arith, length-drop n a))))) in
     rw (take-all 96 (take n a) (omega arith), m, ← tail) (take-append-drop n a)

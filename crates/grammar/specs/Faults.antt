@@ -56,7 +56,7 @@ pub data Fault (text : List ℕ) : ℕ → ℕ → Type 0 where
   -- [4.14] [6.34] [6.15] [6.100] the line of a process: the lines before it are those of the processes before it, which have these values
   limit : (n b c : ℕ) (a rest : List ℕ) → StartsWithValues text valueNames n (b ∷ c ∷ []) (limitNames ++ (limitsText 1 a ++ rest))
       → countStands n ≡ true → Few a → length a < n
-      → ((x : ℕ) → digitsOf x ≤ 8 → Differs (numbersText (length a + 1) (x ∷ [])) rest) → Fault text 14 (length a + 4)
+      → ((x : ℕ) → digitsOf x ≤ 8 → Differs (numbersText (1 + length a) (x ∷ [])) rest) → Fault text 14 (4 + length a)
   -- [4.12] [6.36]
   limits : (k : Parameters) (first rest : List ℕ) (line : ℕ) → LimitLines k first line → length text ≤ textLimit → text ≡ first ++ rest
       → countStands (k .n) ≡ true → limitsStand k ≡ false → Fault text 12 line

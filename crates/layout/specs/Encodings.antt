@@ -20,29 +20,33 @@ use Rattle.model.specs.Summaries.{countsOf, countsNumbers, statisticsOf}
 abbrev pub countPlace : ℕ
 countPlace = 0
 
--- [9.10] where a stands
-abbrev pub aPlace : ℕ
-aPlace = 1
-
 -- [9.10] where b stands
 abbrev pub bPlace : ℕ
-bPlace = 2
+bPlace = 1
 
 -- [9.10] where c stands
 abbrev pub cPlace : ℕ
-cPlace = 3
+cPlace = 2
 
 -- [9.10] where the clock stands
 abbrev pub clockPlace : ℕ
-clockPlace = 4
+clockPlace = 3
 
 -- [9.10] where the word stands
 abbrev pub wordPlace : ℕ
-wordPlace = 5
+wordPlace = 4
+
+-- [9.10] where the values of a start
+abbrev pub limitsPlace : ℕ
+limitsPlace = 5
+
+-- [9.10] where the a of an entry's process stands, entry 0 being that of process 1
+abbrev pub limitPlace : ℕ → ℕ
+limitPlace i = limitsPlace + i
 
 -- [9.10] the numbers before the entries
 abbrev pub headerLength : ℕ
-headerLength = 6
+headerLength = limitPlace 96
 
 -- [9.10] the numbers of an entry
 abbrev pub stride : ℕ
@@ -65,19 +69,35 @@ unfoldable pub processNumbers : List Process → List ℕ
 processNumbers [] = []
 processNumbers (q ∷ qs) = stageOf (q .location) ∷ sinceOf (q .location) ∷ processNumbers qs
 
--- [9.10] the numbers of the parameters
-abbrev pub parametersNumbers : Parameters → List ℕ
-parametersNumbers k = k .n ∷ k .a ∷ k .b ∷ k .c ∷ []
+-- [9.10] the numbers before them
+abbrev pub headerNumbers : Parameters → ℕ → ℕ → List ℕ
+headerNumbers k clock word = k .n ∷ k .b ∷ k .c ∷ clock ∷ word ∷ k .a
 
 -- [9.10]
 unfoldable pub stateNumbers : State → List ℕ
-stateNumbers s = parametersNumbers (s .parameters) ++ (s .clock ∷ s .word ∷ processNumbers (s .processes))
+stateNumbers s = headerNumbers (s .parameters) (s .clock) (s .word) ++ processNumbers (s .processes)
 
 -- The state that numbers tell
 
+-- [9.10] n
+abbrev pub countIn : List ℕ → ℕ
+countIn l = getD l countPlace 0
+
+-- [9.10] b
+abbrev pub bIn : List ℕ → ℕ
+bIn l = getD l bPlace 0
+
+-- [9.10] c
+abbrev pub cIn : List ℕ → ℕ
+cIn l = getD l cPlace 0
+
+-- [9.10] the values of a
+abbrev pub limitsTold : List ℕ → List ℕ
+limitsTold l = take 96 (drop limitsPlace l)
+
 -- [9.10] its parameters
 abbrev pub tableParameters : List ℕ → Parameters
-tableParameters l = parametersOf (getD l countPlace 0) (getD l aPlace 0) (getD l bPlace 0) (getD l cPlace 0)
+tableParameters l = parametersOf (countIn l) (bIn l) (cIn l) (limitsTold l)
 
 -- [9.10] the clock
 abbrev pub clockIn : List ℕ → ℕ

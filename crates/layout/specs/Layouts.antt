@@ -26,13 +26,17 @@ firstLayout = record { table = 198; header = 6; entry = 2; summary = 101; counts
 abbrev pub secondLayout : Layout
 secondLayout = record { table = 198; header = 6; entry = 2; summary = 101; counts = 5; board = 3_076; deadlines = 294 }
 
+-- helper: that of the number 3: in a table and a deadline table 96 values of a stand between the word and the entries
+abbrev pub thirdLayout : Layout
+thirdLayout = record { table = 293; header = 101; entry = 2; summary = 101; counts = 5; board = 3_076; deadlines = 389 }
+
 -- [9.15] all that there have been, that of the number 1 first
 abbrev pub layouts : List Layout
-layouts = firstLayout ∷ secondLayout ∷ []
+layouts = firstLayout ∷ secondLayout ∷ thirdLayout ∷ []
 
 -- [9.15] the number of the one that lists have
 abbrev pub layoutNumber : ℕ
-layoutNumber = 2
+layoutNumber = 3
 
 -- [9.15] the layout of that number
 abbrev pub layout : Layout

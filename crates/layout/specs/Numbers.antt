@@ -5,21 +5,31 @@ use mathlib.Core.Path.{_≡_}
 use mathlib.Core.Bool.{true}
 use mathlib.Core.List.{List, _++_}
 use lib.ListN.{length}
+use Rattle.model.specs.declared.Parameters.{Parameters}
 use Rattle.model.specs.declared.State.{State}
 use Rattle.model.specs.declared.Statistics.{Statistics}
 use Rattle.model.specs.Readings.{over}
 use Rattle.layout.specs.Encodings.{stateNumbers, isTable, tableIn, summaryLength, statisticsNumbers, summaryIn}
 
--- Tables, of 96 entries as each of the code is
+-- Tables
+
+-- [2.10] 96 values of a and 96 entries, as the types of the code have it; of either engine
+pub record HasAll {A : Type 0} (k : Parameters) (qs : List A) : Type 0 where
+  pub limits : length (k .a) ≡ 96
+  pub entries : length qs ≡ 96
+
+-- [2.10] of a state
+abbrev pub IsWhole : State → Type 0
+IsWhole s = HasAll (s .parameters) (s .processes)
 
 -- [9.40] the numbers of a table, whatever stands after them, are those of a table, and tell that one
 abbrev pub TableComesBack : Type 0
-TableComesBack = (s : State) → length (s .processes) ≡ 96 → (rest : List ℕ)
+TableComesBack = (s : State) → IsWhole s → (rest : List ℕ)
     → (isTable (stateNumbers s ++ rest) ≡ true) × (tableIn (stateNumbers s ++ rest) ≡ s)
 
--- [9.10] what numbers tell is a whole state: it has 96 entries
+-- [9.10] what numbers tell is a whole state
 abbrev pub TableIsWhole : Type 0
-TableIsWhole = (l : List ℕ) → isTable l ≡ true → length (tableIn l .processes) ≡ 96
+TableIsWhole = (l : List ℕ) → isTable l ≡ true → IsWhole (tableIn l)
 
 -- [9.40] numbers that tell a table are its numbers, whatever stands after them
 abbrev pub NumbersComeBack : Type 0

@@ -1,15 +1,16 @@
 -- The numbers of an entry, and what the functions that write places make of a list. For the proofs only. `proofs/` relates these
 -- definitions to the encodings. Assumes nothing.
 use Prim.Native.Nat.{ℕ, _+_, _*_}
-use mathlib.Core.Bool.{Bool, true, _&&_}
+use mathlib.Core.Bool.{Bool, cond}
 use mathlib.Core.List.{List, [], _∷_}
-use lib.Dec.{eqb}
-use lib.ListN.{getD, take, drop, set}
+use lib.Dec.{ltb}
+use lib.ListN.{length, getD, take, drop, set}
 use Rattle.model.specs.declared.Location.{Location}
 use Rattle.model.specs.declared.Parameters.{Parameters}
 use Rattle.model.specs.declared.Counts.{Counts}
 use Rattle.model.specs.States.{stageOf, sinceOf, locationAt}
-use Rattle.layout.specs.Encodings.{countPlace, aPlace, bPlace, cPlace, stride, clockPlace, wordPlace, stagePlace, sincePlace, tellsEntry}
+use Rattle.model.specs.Readings.{over}
+use Rattle.layout.specs.Encodings.{clockPlace, wordPlace, headerLength, stride, stagePlace, sincePlace, headerNumbers, tellsEntry}
 use Rattle.layout.specs.Encodings.{acceptedPlace, refusedPlace, entriesPlace, exitsPlace, longestPlace}
 
 -- The numbers of an entry
@@ -59,14 +60,9 @@ entriesFrom l i = drop (stagePlace i) l
 abbrev pub firstEntries : ℕ → List ℕ → List ℕ
 firstEntries k l = take (stride * k) l
 
--- helper: numbers that are all 0, as those of entries in the remainder are
-unfoldable pub areZero : List ℕ → Bool
-areZero [] = true
-areZero (x ∷ xs) = eqb x 0 && areZero xs
-
--- [9.10] with other parameters
-abbrev pub parametersPut : List ℕ → Parameters → List ℕ
-parametersPut l k = set (set (set (set l countPlace (k .n)) aPlace (k .a)) bPlace (k .b)) cPlace (k .c)
+-- [9.10] [12.110] with other numbers before the entries; a list that has no room for them stays
+abbrev pub headerPut : List ℕ → Parameters → ℕ → ℕ → List ℕ
+headerPut l k clock word = cond (ltb (length l) headerLength) l (over (headerNumbers k clock word) l)
 
 -- [9.10] with another clock and another word
 abbrev pub clocked : List ℕ → ℕ → ℕ → List ℕ

@@ -4,27 +4,27 @@ use Prim.Native.Nat.{ℕ, _+_}
 use mathlib.Core.Bool.{cond, not}
 use mathlib.Core.List.{List, [], _∷_}
 use lib.Dec.{eqb}
-use Rattle.model.specs.declared.Parameters.{Parameters}
 use Rattle.model.specs.declared.Transition.{Transition}
 use Rattle.model.specs.declared.Answer.{Answer}
 use Rattle.model.specs.Acts.{waitAct}
-use Rattle.model.specs.States.{stageOf, limitIn}
+use Rattle.model.specs.States.{stageOf, limitAt}
 use Rattle.rules.specs.declared.survey.Scene.{Scene}
 use Rattle.rules.specs.declared.survey.Survey.{Survey}
 use Rattle.rules.specs.Survey.{numbersStand, sceneOf, nothing, unsound, numbersNoted}
 use Rattle.rules.specs.Judging.{slotOf, checkFrom, rowOf, judged}
-use Rattle.layout.specs.Encodings.{tableParameters, clockIn, wordIn}
+use Rattle.values.specs.Bits.{areZero}
+use Rattle.layout.specs.Encodings.{countIn, bIn, limitsTold, tableParameters, clockIn, wordIn}
 use Rattle.layout.specs.Interface.{Lent, lentGave}
-use Rattle.layout.specs.Places.{EntryNumbers, entriesIn, entriesFrom, firstEntries, locationIn, areZero, clocked, placedAt}
+use Rattle.layout.specs.Places.{EntryNumbers, entriesIn, entriesFrom, firstEntries, locationIn, clocked, placedAt}
 
 -- What is found
 
--- the entries from process k on, after f was found; a fault ends the pass
-unfoldable pub entriesNoted : Parameters → Scene → ℕ → List EntryNumbers → Survey → Survey
-entriesNoted q x k [] f = f
-entriesNoted q x k (e ∷ es) f =
-    cond (eqb (numbersNoted x k (e .stage) (e .since) (limitIn q k) f .faulty) 0)
-    (entriesNoted q x (k + 1) es (numbersNoted x k (e .stage) (e .since) (limitIn q k) f))
+-- the entries from process k on, after f was found, with the values of a from process 1 on; a fault ends the pass
+unfoldable pub entriesNoted : List ℕ → Scene → ℕ → List EntryNumbers → Survey → Survey
+entriesNoted a x k [] f = f
+entriesNoted a x k (e ∷ es) f =
+    cond (eqb (numbersNoted x k (e .stage) (e .since) (limitAt a k) f .faulty) 0)
+    (entriesNoted a x (k + 1) es (numbersNoted x k (e .stage) (e .since) (limitAt a k) f))
     unsound
 
 -- the entries of the processes from 1 to n
@@ -37,14 +37,14 @@ sceneIn l acting = sceneOf (tableParameters l) (clockIn l) acting
 
 -- what the pass over the entries up to n finds
 abbrev pub passIn : List ℕ → ℕ → Survey
-passIn l acting = entriesNoted (tableParameters l) (sceneIn l acting) 1 (entriesUpTo (tableParameters l .n) l) nothing
+passIn l acting = entriesNoted (limitsTold l) (sceneIn l acting) 1 (entriesUpTo (countIn l) l) nothing
 
 -- of just the numbers of a table
 unfoldable pub surveyIn : List ℕ → ℕ → Survey
 surveyIn l acting =
     cond (not (numbersStand (tableParameters l) (clockIn l) (wordIn l))) unsound
     (cond (not (eqb (passIn l acting .faulty) 0)) unsound
-    (cond (not (areZero (entriesFrom l (tableParameters l .n)))) unsound
+    (cond (not (areZero (entriesFrom l (countIn l)))) unsound
     (passIn l acting)))
 
 -- What an action makes of it
@@ -60,7 +60,7 @@ rowIn l act p m = rowOf act p m (wordIn l)
 -- the answer, from what was found
 abbrev pub answerIn : List ℕ → Survey → ℕ → ℕ → ℕ → Answer
 answerIn l f act p m =
-    judged f (sceneIn l p) (stageOf (locationIn l (slotOf p))) (checkFrom (locationIn l (slotOf p)) (tableParameters l .b)) (rowIn l act p m) act m
+    judged f (sceneIn l p) (stageOf (locationIn l (slotOf p))) (checkFrom (locationIn l (slotOf p)) (bIn l)) (rowIn l act p m) act m
 
 -- the answer, and the numbers
 unfoldable pub actedIn : List ℕ → Survey → ℕ → ℕ → ℕ → Lent

@@ -7,9 +7,9 @@ use crate::summaries::put_refused;
 use crate::summaries::put_waited;
 use crate::summaries::waited_in;
 use crate::tables::HEADER;
+use crate::tables::N;
 use crate::tables::STRIDE;
 use crate::tables::TABLE;
-use crate::tables::parameters_in;
 use crate::tables::stage_at;
 use rules::answers::slot_of;
 use statistics::counting::counts_after;
@@ -84,11 +84,10 @@ pub(crate) fn count_accepted(
     let wait = wrapping_add_u64(waited_in(summary, slot), unused);
     put_counts(summary, counts_after(counts_in(summary), action, wait));
     if unused != 0 {
-        let parameters = parameters_in(table);
         wait_on(
             &mut summary[COUNTS..SUMMARY],
             &table[HEADER..TABLE],
-            parameters.n as usize,
+            table[N] as usize,
             unused,
         );
     }

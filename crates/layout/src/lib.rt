@@ -12,8 +12,8 @@ use crate::steps::act;
 use crate::steps::survey_table;
 use crate::summaries::SUMMARY;
 use crate::summaries::clear;
+use crate::tables::CLOCK;
 use crate::tables::TABLE;
-use crate::tables::clock_in;
 use crate::tables::put_table;
 use model::Answer;
 use model::Parameters;
@@ -26,7 +26,7 @@ ghost use Rattle.layout.specs.Layouts.{layoutNumber};
 ghost use Rattle.layout.specs.Countings.{refusedWith};
 
 // [9.15]
-const LAYOUT: u64 = 2;
+const LAYOUT: u64 = 3;
 
 // [9.15] [21.110] The number of the layout.
 pub fn number() -> u64
@@ -136,7 +136,7 @@ pub fn record_entry(
     if summary.len() < SUMMARY {
         return refused(answer_with(2, 0, 0));
     }
-    let clock = clock_in(&table[..TABLE]);
+    let clock = table[CLOCK];
     let fault = fault_of(&summary[..SUMMARY], clock);
     if fault != 0 {
         return refused(answer_with(fault, 0, 0));

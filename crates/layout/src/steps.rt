@@ -1,19 +1,20 @@
 // A lent table, judged where it lies: one pass over the entries up to n finds what a step needs, those above n have to be zeros, and an
 // accepted act writes four numbers at most.
+use crate::tables::B;
+use crate::tables::C;
+use crate::tables::CLOCK;
 use crate::tables::HEADER;
+use crate::tables::LIMITS;
+use crate::tables::N;
 use crate::tables::STRIDE;
 use crate::tables::TABLE;
-use crate::tables::clock_in;
+use crate::tables::WORD;
 use crate::tables::location_in;
-use crate::tables::parameters_in;
 use crate::tables::place_of;
-use crate::tables::put_clock;
 use crate::tables::put_entry;
 use crate::tables::since_at;
 use crate::tables::stage_at;
-use crate::tables::word_in;
 use model::Answer;
-use model::Parameters;
 use model::Transition;
 use rules::actions::WAIT;
 use rules::actions::transition_of;
@@ -28,28 +29,22 @@ use rules::survey::empty;
 use rules::survey::fault;
 use rules::survey::note_numbers;
 use rules::survey::scene_of;
-use values::bits_of;
-use values::limit_of;
+use values::are_zero;
 ghost use mathlib.Core.Path.{_≡_};
-ghost use Prim.Native.Nat.{_*_, _<_};
+ghost use Prim.Native.Nat.{_*_, _<_, _≤_};
 ghost use lib.ListN.{length};
 ghost use Rattle.layout.specs.Encodings.{stride, tableLength};
 ghost use Rattle.layout.specs.Interface.{lentGave};
-ghost use Rattle.layout.specs.Places.{entriesIn, areZero};
+ghost use Rattle.layout.specs.Places.{entriesIn};
 ghost use Rattle.rules.specs.Survey.{nothing};
 ghost use Rattle.layout.specs.Steps.{entriesNoted, surveyIn, actionPut, actedIn};
 
-fn are_zero(numbers: &[u64]) -> bool
-    ensures { λ r. ⌜ r ≡ areZero (now (numbers .entry)) ⌝ }
-{
-    bits_of(numbers) == 0
-}
-
 // What a pass over entries finds, those of the processes from 1 on. The process is told by the place in the list: where it is counted
 // beside it, an entry takes two instructions more.
-fn survey_entries(entries: &[u64], parameters: Parameters, scene: Scene) -> Survey
-    requires { ⌜ length (now entries) ≡ stride * parameters .n ⌝ }
-    ensures { λ r. ⌜ r ≡ entriesNoted parameters scene 1 (entriesIn (now (entries .entry))) nothing ⌝ }
+fn survey_entries(entries: &[u64], limits: &[u64], scene: Scene) -> Survey
+    requires { ⌜ length (now entries) ≡ stride * scene .n ⌝ }
+    requires { ⌜ scene .n ≤ length (now limits) ⌝ }
+    ensures { λ r. ⌜ r ≡ entriesNoted (now (limits .entry)) scene 1 (entriesIn (now (entries .entry))) nothing ⌝ }
 {
     let end = entries.len();
     let mut found = empty();
@@ -64,7 +59,7 @@ fn survey_entries(entries: &[u64], parameters: Parameters, scene: Scene) -> Surv
             process,
             stage,
             since,
-            limit_of(parameters, process),
+            limits[i / STRIDE],
         );
         // another value is returned, not what was found: so that stays in registers
         if found.faulty != 0 {
@@ -80,14 +75,15 @@ pub(crate) fn survey_table(table: &[u64], acting: u64) -> Survey
     requires { ⌜ length (now table) ≡ tableLength ⌝ }
     ensures { λ r. ⌜ r ≡ surveyIn (now (table .entry)) acting ⌝ }
 {
-    let parameters = parameters_in(table);
-    let clock = clock_in(table);
-    if !numbers_stand(parameters, clock, word_in(table)) {
+    let n = table[N];
+    let c = table[C];
+    let clock = table[CLOCK];
+    if !numbers_stand(n, table[B], c, &table[LIMITS..HEADER], clock, table[WORD]) {
         return fault();
     }
-    let end = place_of(parameters.n as usize);
-    let scene = scene_of(parameters, clock, acting);
-    let found = survey_entries(&table[HEADER..end], parameters, scene);
+    let end = place_of(n as usize);
+    let scene = scene_of(n, c, clock, acting);
+    let found = survey_entries(&table[HEADER..end], &table[LIMITS..HEADER], scene);
     if found.faulty != 0 {
         return fault();
     }
@@ -103,7 +99,8 @@ fn put_action(table: &mut [u64], slot: usize, action: u64, transition: Transitio
     requires { ⌜ slot < 96 ⌝ }
     ensures { λ _. ⌜ now (table .exit) ≡ actionPut (now (table .entry)) slot action transition time ⌝ }
 {
-    put_clock(table, time, transition.word);
+    table[CLOCK] = time;
+    table[WORD] = transition.word;
     if action != WAIT {
         let to = transition.to;
         put_entry(table, slot, to);
@@ -115,15 +112,14 @@ pub(crate) fn act(table: &mut [u64], found: Survey, action: u64, process: u64, t
     requires { ⌜ length (now table) ≡ tableLength ⌝ }
     ensures { λ r. ⌜ lentGave r (now (table .exit)) ≡ actedIn (now (table .entry)) found action process time ⌝ }
 {
-    let parameters = parameters_in(table);
     let slot = slot_of(process);
     let own = location_in(table, slot);
-    let transition = transition_of(action, process, time, word_in(table));
+    let transition = transition_of(action, process, time, table[WORD]);
     let answer = judge(
         found,
-        scene_of(parameters, clock_in(table), process),
+        scene_of(table[N], table[C], table[CLOCK], process),
         stage_of(own),
-        check_from(own, parameters.b),
+        check_from(own, table[B]),
         transition,
         action,
         time,

@@ -1,33 +1,36 @@
-// A table in lent numbers: n, a, b, c, clock, word, and then of each entry its stage and its arrival.
+// A table in lent numbers: n, b, c, clock, word, the values of a, and then of each entry its stage and its arrival.
 use model::Location;
 use model::Parameters;
 use model::State;
 use rules::stages::location_at;
 use rules::stages::since_of;
 use rules::stages::stage_of;
+use values::least;
 ghost use mathlib.Core.Path.{_≡_};
 ghost use Prim.Native.Nat.{_+_, _<_, _≤_};
-ghost use lib.ListN.{length};
-ghost use Rattle.layout.specs.Encodings.{stride, tableLength, tableParameters, clockIn, wordIn, stagePlace, stateNumbers};
-ghost use Rattle.layout.specs.Places.{numbersAt, locationIn, parametersPut, clocked, placedAt};
+ghost use lib.ListN.{length, take};
+ghost use Rattle.model.specs.Readings.{over};
+ghost use Rattle.layout.specs.Encodings.{stride, tableLength, stagePlace, stateNumbers};
+ghost use Rattle.layout.specs.Places.{numbersAt, locationIn, headerPut, placedAt};
 
-// [9.10] where n, a, b and c stand
+// [9.10] where n, b and c stand
 pub const N: usize = 0;
 
-pub const A: usize = 1;
+pub const B: usize = 1;
 
-pub const B: usize = 2;
-
-pub const C: usize = 3;
+pub const C: usize = 2;
 
 // [9.10] where the clock stands
-pub const CLOCK: usize = 4;
+pub const CLOCK: usize = 3;
 
 // [9.10] where the word stands
-pub const WORD: usize = 5;
+pub const WORD: usize = 4;
+
+// [9.10] where the values of a start
+pub const LIMITS: usize = 5;
 
 // [9.10] the numbers before the entries
-pub const HEADER: usize = 6;
+pub const HEADER: usize = LIMITS + 96;
 
 // [9.10] the numbers of an entry
 pub const STRIDE: usize = 2;
@@ -36,35 +39,6 @@ pub const STRIDE: usize = 2;
 pub const TABLE: usize = HEADER + STRIDE * 96;
 
 // Reading
-
-// [9.10] n, a, b and c.
-pub(crate) fn parameters_in(table: &[u64]) -> Parameters
-    requires { ⌜ length (now table) ≡ tableLength ⌝ }
-    ensures { λ r. ⌜ r ≡ tableParameters (now (table .entry)) ⌝ }
-{
-    Parameters {
-        n: table[N],
-        a: table[A],
-        b: table[B],
-        c: table[C],
-    }
-}
-
-// [9.10]
-pub(crate) fn clock_in(table: &[u64]) -> u64
-    requires { ⌜ length (now table) ≡ tableLength ⌝ }
-    ensures { λ r. ⌜ r ≡ clockIn (now (table .entry)) ⌝ }
-{
-    table[CLOCK]
-}
-
-// [9.10]
-pub(crate) fn word_in(table: &[u64]) -> u64
-    requires { ⌜ length (now table) ≡ tableLength ⌝ }
-    ensures { λ r. ⌜ r ≡ wordIn (now (table .entry)) ⌝ }
-{
-    table[WORD]
-}
 
 // [9.10] Where the numbers of an entry start, or where those of all entries end.
 pub(crate) fn place_of(i: usize) -> usize
@@ -102,15 +76,6 @@ pub(crate) fn location_in(table: &[u64], i: usize) -> Location
 
 // Writing
 
-// [9.10] The clock and the word.
-pub(crate) fn put_clock(table: &mut [u64], time: u64, word: u64)
-    requires { ⌜ length (now table) ≡ tableLength ⌝ }
-    ensures { λ _. ⌜ now (table .exit) ≡ clocked (now (table .entry)) time word ⌝ }
-{
-    table[CLOCK] = time;
-    table[WORD] = word;
-}
-
 // [9.10] The entry of a process that has come to a location.
 pub(crate) fn put_entry(table: &mut [u64], i: usize, location: Location)
     requires { ⌜ length (now table) ≡ tableLength ⌝ }
@@ -122,15 +87,30 @@ pub(crate) fn put_entry(table: &mut [u64], i: usize, location: Location)
     table[at + 1] = since_of(location);
 }
 
-// [9.10] n, a, b and c.
-fn put_parameters(table: &mut [u64], parameters: Parameters)
-    requires { ⌜ length (now table) ≡ tableLength ⌝ }
-    ensures { λ _. ⌜ now (table .exit) ≡ parametersPut (now (table .entry)) parameters ⌝ }
+// The numbers of a list over those of another, from the first on, as many as both have.
+pub fn copy(to: &mut [u64], from: &[u64])
+    ensures { λ _. ⌜ now (to .exit) ≡ over (take (length (now (to .entry))) (now (from .entry))) (now (to .entry)) ⌝ }
 {
-    table[N] = parameters.n;
-    table[A] = parameters.a;
-    table[B] = parameters.b;
-    table[C] = parameters.c;
+    let end = least(to.len(), from.len());
+    let mut i: usize = 0;
+    while i < end {
+        to[i] = from[i];
+        i += 1;
+    }
+}
+
+// [9.10] [12.110] What stands before the entries, in a table and in a deadline table alike. A list that has no room for it stays.
+pub fn put_header(table: &mut [u64], parameters: Parameters, clock: u64, word: u64)
+    ensures { λ _. ⌜ now (table .exit) ≡ headerPut (now (table .entry)) parameters clock word ⌝ }
+{
+    if HEADER <= table.len() {
+        table[N] = parameters.n;
+        table[B] = parameters.b;
+        table[C] = parameters.c;
+        table[CLOCK] = clock;
+        table[WORD] = word;
+        copy(&mut table[LIMITS..HEADER], &parameters.a);
+    }
 }
 
 // [9.10] A whole table.
@@ -139,8 +119,7 @@ pub(crate) fn put_table(table: &mut [u64], state: State)
     ensures { λ _. ⌜ now (table .exit) ≡ stateNumbers state ⌝ }
 {
     let parameters = state.parameters;
-    put_parameters(table, parameters);
-    put_clock(table, state.clock, state.word);
+    put_header(table, parameters, state.clock, state.word);
     let mut i: usize = 0;
     while i < 96 {
         let entry = state.processes[i];

@@ -90,17 +90,18 @@ fn print_processes(n: u64, processes: [Process; 96]) {
     }
 }
 
-// n, a, b, c, the clock, the word, and place and arrival of processes 1 to the n that was asked for.
+// n, b, c, the clock, the word; and of processes 1 to the n that was asked for the values of a, and then place and arrival.
 fn print_state(n: u64, state: State) {
     let parameters = state.parameters;
+    let a = parameters.a;
     let processes = state.processes;
     io::write_all(STDOUT_FILENO, b"table");
     print_number(parameters.n);
-    print_number(parameters.a);
     print_number(parameters.b);
     print_number(parameters.c);
     print_number(state.clock);
     print_number(state.word);
+    print_numbers(&a, n);
     print_processes(n, processes);
     io::write_all(STDOUT_FILENO, b"\n");
 }

@@ -12,18 +12,20 @@ pub(crate) struct Head {
     pub size: usize,
 }
 
-// n, a, b, c are the first line.
+// n, b, c and the values of a are the first line.
 pub(crate) fn read_head(text: &[u8]) -> Head
     ensures { λ r. ⌜ r .size ≤ length (now (text .entry)) ⌝ }
 {
-    let mut values = [0; 4];
-    let size = read_fields(text, 0, &mut values);
+    let mut values = [0; 3];
+    let mut a = [0; 96];
+    read_fields(text, 0, &mut values);
+    let size = read_fields(text, 3, &mut a);
     Head {
         parameters: Parameters {
             n: values[0],
-            a: values[1],
-            b: values[2],
-            c: values[3],
+            b: values[1],
+            c: values[2],
+            a: a,
         },
         size: size,
     }

@@ -27,12 +27,25 @@ sizeIn case = cond (eqb (case % 10) 1) 2 (cond (eqb (case % 10) 2) 24 96)
 
 -- The state that a case starts from
 
+-- helper: the a of a process, by the place of its entry: in kind 15 each has one of its own, a million less the process; past the processes it is 0
+unfoldable pub limitFor : ℕ → ℕ → ℕ
+limitFor case place =
+    cond (leb (sizeIn case) place) 0
+    (cond (ltb (case / 10) 11) 5
+    (cond (eqb (case / 10) 15) (999_999 - place)
+    1_000_000))
+
+-- helper: 96 values of a, of which the first are those of a case, and the others 0
+unfoldable pub limitsFor : ℕ → ℕ → List ℕ
+limitsFor case zero = replicate 96 0
+limitsFor case (suc k) = set (limitsFor case k) k (limitFor case k)
+
 -- helper: its parameters, whose n in one case is not sound
 unfoldable pub parametersIn : ℕ → Parameters
 parametersIn case =
-    cond (eqb case 94) (parametersOf 97 5 8 12)
-    (cond (ltb (case / 10) 11) (parametersOf (sizeIn case) 5 8 12)
-    (parametersOf (sizeIn case) 1_000_000 1_000_001 2_000_000))
+    cond (eqb case 94) (parametersOf 97 8 12 (limitsFor case 96))
+    (cond (ltb (case / 10) 11) (parametersOf (sizeIn case) 8 12 (limitsFor case 96))
+    (parametersOf (sizeIn case) 1_000_001 2_000_000 (limitsFor case 96)))
 
 -- helper: its word, which is held in kinds 4 to 7, and from 11 on
 abbrev pub wordIn : ℕ → ℕ

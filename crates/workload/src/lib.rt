@@ -14,7 +14,8 @@ use rules::stages::location_at;
 use std::num::wrapping_add_u64;
 ghost use mathlib.Core.Path.{_≡_};
 ghost use Prim.Native.Nat.{_<_, _≤_};
-ghost use Rattle.workload.specs.Work.{digitOf, sizeIn, parametersIn, wordIn, onlyIn, mixedIn, placedIn, sellingIn, movingIn};
+ghost use Rattle.workload.specs.Work.{digitOf, sizeIn, limitFor, limitsFor, parametersIn, wordIn};
+ghost use Rattle.workload.specs.Work.{onlyIn, mixedIn, placedIn, sellingIn, movingIn};
 ghost use Rattle.workload.specs.Work.{locationIn, startIn, turnIn, lapIn, actWith, roundAct, movingAct, actIn};
 
 // The cases. NONE makes no step: what it costs is taken off the others. Each other one is 10 times its kind and a digit for its
@@ -44,12 +45,14 @@ const OUT_OF_PLACE: u64 = 8;
 const UNSOUND_FIRST: u64 = 9;
 
 // With wide limits, where each act moves the clock: a test of process 1 as in BUSY; a wait as in MIXED; a test of process 2 as in BUSY,
-// while process 1 is critical. 10 is a kind of `bench/cases.rs` alone.
+// while process 1 is critical; a test as in MOVING, where no two processes have the same a. 10 and 14 are kinds of `bench/cases.rs` alone.
 const MOVING: u64 = 11;
 
 const MIXED_MOVING: u64 = 12;
 
 const SELLING: u64 = 13;
+
+const UNEQUAL: u64 = 15;
 
 // The case whose n is 97.
 const UNSOUND_COUNT: u64 = 94;
@@ -98,31 +101,61 @@ fn size_of(case: u64) -> u64
     }
 }
 
-// In the wide limits nobody is late in a million acts.
+// The a of a process, by the place of its entry. In the wide limits nobody is late in 999,000 acts.
+fn limit_of(case: u64, place: u64) -> u64
+    requires { ⌜ place < 96 ⌝ }
+    ensures { λ r. ⌜ r ≡ limitFor case place ⌝ }
+{
+    if size_of(case) <= place {
+        return 0;
+    }
+    let kind = case / 10;
+    if kind < MOVING {
+        return 5;
+    }
+    if kind == UNEQUAL {
+        return 999999 - place;
+    }
+    1000000
+}
+
+fn limits_of(case: u64) -> [u64; 96]
+    ensures { λ r. ⌜ r ≡ limitsFor case 96 ⌝ }
+{
+    let mut a: [u64; 96] = [0; 96];
+    let mut i: usize = 0;
+    while i < 96 {
+        a[i] = limit_of(case, i as u64);
+        i += 1;
+    }
+    a
+}
+
 fn parameters_of(case: u64) -> Parameters
     ensures { λ r. ⌜ r ≡ parametersIn case ⌝ }
 {
+    let a = limits_of(case);
     if case == UNSOUND_COUNT {
         return Parameters {
             n: 97,
-            a: 5,
             b: 8,
             c: 12,
+            a: a,
         };
     }
     if case / 10 < MOVING {
         return Parameters {
             n: size_of(case),
-            a: 5,
             b: 8,
             c: 12,
+            a: a,
         };
     }
     Parameters {
         n: size_of(case),
-        a: 1000000,
         b: 1000001,
         c: 2000000,
+        a: a,
     }
 }
 

@@ -20,14 +20,14 @@ use Rattle.conversions.proofs.to_arrivals.Tie as tie
 
 -- an entry that is there, whatever stands for one past the end
 entry-arrived : (d : DeadlineState) (i : ℕ) (q : DeadlineProcess) → i < length (d .processes)
-    → entry (arrivedAt (d .parameters) (getD (d .processes) i q .location)) ≡ getD (arrivedFrom (d .parameters) (d .processes)) i idle
+    → entry (arrivedAt (d .parameters .b) (getD (d .processes) i q .location)) ≡ getD (arrivedFrom (d .parameters) (d .processes)) i idle
 entry-arrived d i q h = rw (row-at (d .processes) i q idleWith h, arrived-at (d .parameters) (d .processes) i)
 
 abbrev Inv-loop : tie.InvT-loop
-Inv-loop state parameters processes₀ i₀ processes i = Filled (arrivedFrom (state .parameters) (state .processes)) processes i
+Inv-loop state b processes₀ i₀ processes i = Filled (arrivedFrom (state .parameters) (state .processes)) processes i
 
 abbrev μ-loop : tie.MeasureT-loop
-μ-loop state parameters processes₀ i₀ processes i = 96 - i
+μ-loop state b processes₀ i₀ processes i = 96 - i
 
 -- the wait tells whether the state is sound
 unsound : (c : tie.Then1 Inv-loop μ-loop) → soundWith (c .before .before .before .before .args .t1) ≡ false
@@ -56,7 +56,7 @@ returns c =
 
 loop-holds : tie.Need-loop-holds Inv-loop μ-loop
 loop-holds c =
-    let d = c .before .before .before .before .before .args .t1 in
+    let d = c .before .before .before .before .args .t1 in
     filled-none _ _ (length-arrived (d .parameters) (d .processes) ∙ search (needs, length-mapped)) refl
 
 mul-entry : tie.Need-mul-entry Inv-loop μ-loop
@@ -87,7 +87,7 @@ loop-again : tie.Need-loop-again Inv-loop μ-loop
 loop-again c =
     let f = c .before .before .before in
     let v = f .before .loop in
-    let d = f .before .before .before .before .before .before .before .args .t1 in
+    let d = f .before .before .before .before .before .before .args .t1 in
     let inside : v .i < length (d .processes) = omega (arith, length-arrived (d .parameters) (d .processes)) in
     filled-next _ (v .processes) (v .i) _ idle (v .inv) (f .loop-test .taken)
     (c .entry-at .ensures ∙ rw (c .before .arrived .ensures) (entry-arrived d (v .i) _ inside))
@@ -98,8 +98,8 @@ answer-with-requires-2 c κs = search needs
 returns-2 : tie.Need-returns-2 Inv-loop μ-loop
 unfolding toArrivals
 returns-2 c =
-    let v = c .before .before .loop in
-    rw (c .answer-with2 .ensures, filled-whole _ _ (v .i) (v .inv) (c .before .loop-test .left), sound (c .before .before .before .before))
+    let v = c .before .before .before .loop in
+    rw (c .answer-with2 .ensures, filled-whole _ _ (v .i) (v .inv) (c .before .before .loop-test .left), sound (c .before .before .before .before))
 
 pub to-arrivals-spec : {M : Type 1} → statement M
 to-arrivals-spec =

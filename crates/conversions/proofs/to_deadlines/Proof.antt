@@ -7,7 +7,7 @@ use lib.ListN.{length, getD}
 use borrow.Author.Needs.{needs}
 use Rattle.model.specs.declared.Process.{Process}
 use Rattle.model.specs.declared.State.{State}
-use Rattle.model.specs.States.{idle, soundOf}
+use Rattle.model.specs.States.{idle, limitIn, soundOf}
 use Rattle.deadlines.specs.Deadlines.{entryWith, idleWith, freshWith}
 use Rattle.deadlines.specs.Matching.{datedFrom, matched, toDeadlines}
 use Rattle.deadlines.specs.Looks.{datedWith}
@@ -24,7 +24,7 @@ use Rattle.conversions.proofs.to_deadlines.Tie as tie
 
 -- in a sound state no time of an entry wraps
 entry-dated : (s : State) (i : ℕ) (q : Process) → soundOf s ≡ true → i < length (s .processes)
-    → entryWith (datedWith (s .parameters) (i + 1) (getD (s .processes) i q .location))
+    → entryWith (datedWith (s .parameters .b) (s .parameters .c) (limitIn (s .parameters) (i + 1)) (getD (s .processes) i q .location))
     ≡ getD (datedFrom (s .parameters) 1 (s .processes)) i idleWith
 entry-dated s i q e h =
     let few = small (matched s) (and-true-iff _ _ .0 (sym (sound-parts-with (matched s)) ∙ sound-same s ∙ e) .0) in
@@ -34,10 +34,10 @@ entry-dated s i q e h =
     (ap entryWith (dated-fits (s .parameters) (1 + i) l (omega (arith, sound-past s e i, few)) (few .opens) (few .closes) (few .limit (1 + i))))
 
 abbrev Inv-loop : tie.InvT-loop
-Inv-loop state parameters processes₀ i₀ processes i = Filled (datedFrom (state .parameters) 1 (state .processes)) processes i
+Inv-loop state b c processes₀ i₀ processes i = Filled (datedFrom (state .parameters) 1 (state .processes)) processes i
 
 abbrev μ-loop : tie.MeasureT-loop
-μ-loop state parameters processes₀ i₀ processes i = 96 - i
+μ-loop state b c processes₀ i₀ processes i = 96 - i
 
 -- the wait tells whether the state is sound
 unsound : (c : tie.Then1 Inv-loop μ-loop) → soundOf (c .before .before .before .before .args .t1) ≡ false
@@ -66,7 +66,7 @@ returns c =
 
 loop-holds : tie.Need-loop-holds Inv-loop μ-loop
 loop-holds c =
-    let s = c .before .before .before .before .before .args .t1 in
+    let s = c .before .before .before .before .args .t1 in
     filled-none _ _ (length-dated (s .parameters) 1 (s .processes) ∙ search (needs, length-mapped)) refl
 
 mul-entry : tie.Need-mul-entry Inv-loop μ-loop
@@ -75,8 +75,11 @@ mul-entry c = search needs
 element-copy-out-entry : tie.Need-element-copy-out-entry Inv-loop μ-loop
 element-copy-out-entry c = search needs
 
-add-dated : tie.Need-add-dated Inv-loop μ-loop
-add-dated c = search needs
+add-limit-of : tie.Need-add-limit-of Inv-loop μ-loop
+add-limit-of c = search needs
+
+limit-of-requires : tie.Need-limit-of-requires Inv-loop μ-loop
+limit-of-requires c κs = search needs
 
 dated-requires : tie.Need-dated-requires Inv-loop μ-loop
 dated-requires c κs = search needs
@@ -98,12 +101,12 @@ loop-less c = search needs
 
 loop-again : tie.Need-loop-again Inv-loop μ-loop
 loop-again c =
-    let f = c .before .before .before in
+    let f = c .before .before .before .before .before .before .before in
     let v = f .before .loop in
-    let s = f .before .before .before .before .before .before .before .args .t1 in
+    let s = f .before .before .before .before .before .before .args .t1 in
     let inside : v .i < length (s .processes) = omega (arith, length-dated (s .parameters) 1 (s .processes)) in
     filled-next _ (v .processes) (v .i) _ idleWith (v .inv) (f .loop-test .taken)
-    (c .entry-with .ensures ∙ rw (c .before .dated .ensures) (entry-dated s (v .i) _ (sound (f .before .before .before)) inside))
+    (c .entry-with .ensures ∙ rw (c .before .dated .ensures, c .before .before .limit-of .ensures) (entry-dated s (v .i) _ (sound (f .before .before)) inside))
 
 answer-with-requires-2 : tie.Need-answer-with-requires-2 Inv-loop μ-loop
 answer-with-requires-2 c κs = search needs
@@ -111,8 +114,8 @@ answer-with-requires-2 c κs = search needs
 returns-2 : tie.Need-returns-2 Inv-loop μ-loop
 unfolding toDeadlines
 returns-2 c =
-    let v = c .before .before .loop in
-    rw (c .answer-with2 .ensures, filled-whole _ _ (v .i) (v .inv) (c .before .loop-test .left), sound (c .before .before .before .before))
+    let v = c .before .before .before .loop in
+    rw (c .answer-with2 .ensures, filled-whole _ _ (v .i) (v .inv) (c .before .before .loop-test .left), sound (c .before .before .before .before))
 
 pub to-deadlines-spec : {M : Type 1} → statement M
 to-deadlines-spec =
@@ -128,7 +131,8 @@ to-deadlines-spec =
     loop-holds
     mul-entry
     element-copy-out-entry
-    add-dated
+    add-limit-of
+    limit-of-requires
     dated-requires
     entry-with-requires
     mul-processes

@@ -18,20 +18,21 @@ returns : tie.Need-returns
 unfolding freshWith
 returns c = c .refused .ensures ∙ simp (sym (c .before .before .count-stands .ensures) ∙ not-true _ (c .before .if1 .taken))
 
-limits-stand-requires : tie.Need-limits-stand-requires
-limits-stand-requires c κs = search needs
+parameters-stand-requires : tie.Need-parameters-stand-requires
+parameters-stand-requires c κs = search needs
 
 refused-requires-2 : tie.Need-refused-requires-2
 refused-requires-2 c κs = search needs
 
-counted : (c : tie.Else1) → countStands (c .before .before .args .parameters) ≡ true
+counted : (c : tie.Else1) → countStands (c .before .before .args .t1 .n) ≡ true
 counted c = sym (c .before .count-stands .ensures) ∙ not-false _ (c .if1 .left)
 
 returns-2 : tie.Need-returns-2
 unfolding freshWith
 returns-2 c =
+    let counts = counted (c .before .before .before .before .before .before) in
     c .refused2 .ensures
-    ∙ simp (counted (c .before .before .before), sym (c .before .before .limits-stand .ensures) ∙ not-true _ (c .before .if2 .taken))
+    ∙ simp (counts, rw counts at (sym (c .before .before .parameters-stand .ensures) ∙ not-true _ (c .before .if2 .taken)))
 
 answer-with-requires : tie.Need-answer-with-requires
 answer-with-requires c κs = search needs
@@ -42,11 +43,9 @@ initial-with-requires c κs = search needs
 returns-3 : tie.Need-returns-3
 unfolding freshWith
 returns-3 c =
+    let counts = counted (c .before .before .before .before .before .before .before) in
     rw (c .before .answer-with .ensures, c .initial-with .ensures .0)
-    (simp (
-      counted (c .before .before .before .before),
-      sym (c .before .before .before .limits-stand .ensures) ∙ not-false _ (c .before .before .if2 .left),
-    ))
+    (simp (counts, rw counts at (sym (c .before .before .before .parameters-stand .ensures) ∙ not-false _ (c .before .before .if2 .left))))
 
 pub fresh-spec : {M : Type 1} → statement M
 fresh-spec =
@@ -55,7 +54,7 @@ fresh-spec =
     count-stands-requires
     refused-requires
     returns
-    limits-stand-requires
+    parameters-stand-requires
     refused-requires-2
     returns-2
     answer-with-requires

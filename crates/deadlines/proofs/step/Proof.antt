@@ -23,10 +23,10 @@ use Rattle.deadlines.proofs.step.Statement.{statement}
 use Rattle.deadlines.proofs.step.Tie as tie
 
 abbrev Inv-loop : tie.InvT-loop
-Inv-loop action process time state parameters scene found₀ at₀ found at = PassedWith state process at found
+Inv-loop action process time state n b c clock scene found₀ at₀ found at = PassedWith state process at found
 
 abbrev μ-loop : tie.MeasureT-loop
-μ-loop action process time state parameters scene found₀ at₀ found at = 96 - at
+μ-loop action process time state n b c clock scene found₀ at₀ found at = 96 - at
 
 numbers-stand-requires : tie.Need-numbers-stand-requires Inv-loop μ-loop
 numbers-stand-requires c κs = search needs
@@ -36,7 +36,7 @@ answer-with-requires c κs = search needs
 
 returns : tie.Need-returns Inv-loop μ-loop
 returns c =
-    let a = c .before .before .before .before .args in
+    let a = c .before .before .before .before .before .before .args in
     rw (c .answer-with .ensures)
     (exit-unsound-with (a .t1) (a .action) (a .process) (a .time)
     (numbers-fault-with (a .t1) (sym (c .before .before .numbers-stand .ensures) ∙ not-true _ (c .before .if1 .taken))))
@@ -49,7 +49,7 @@ empty-requires c κs = search needs
 
 loop-holds : tie.Need-loop-holds Inv-loop μ-loop
 loop-holds c =
-    let a = c .before .before .before .before .before .args in
+    let a = c .before .before .before .before .before .before .before .args in
     rw (c .empty .ensures)
     (nothing-passed-with (a .t1) (a .process)
     (sym (c .before .before .before .numbers-stand .ensures) ∙ not-false _ (c .before .before .if1 .left)) (search (needs, length-mapped)))
@@ -112,7 +112,7 @@ loop-again : tie.Need-loop-again Inv-loop μ-loop
 loop-again c =
     let first = c .before .before .before .before .before .before .before .before .before in
     let v = first .before .before .before .before .loop in
-    let a = first .before .before .before .before .before .before .before .before .before .before .args in
+    let a = first .before .before .before .before .before .before .before .before .before .before .before .before .args in
     let zero = simp tests at (sym (c .before .are-zero .ensures) ∙ c .if4 .taken) in
     let last : v .at ≤ 92 = c .before .before .before .before .before .before .before .before .if3 .taken in
     let one = idle-passed-with (a .t1) (a .process) (v .at) (v .found) (v .inv) (omega arith) idleWith
@@ -135,7 +135,7 @@ loop-less-2 c = search needs
 
 loop-again-2 : tie.Need-loop-again-2 Inv-loop μ-loop
 loop-again-2 c =
-    let a = c .before .before .before .before .before .before .before .before .before .before .before .args in
+    let a = c .before .before .before .before .before .before .before .before .before .before .before .before .before .args in
     let v = c .before .before .before .before .before .loop in
     idle-passed-with (a .t1) (a .process) (v .at) (v .found) (v .inv) (omega arith) idleWith
     (sym (c .before .before .stage-with .ensures) ∙ c .before .if2 .taken)
@@ -157,16 +157,13 @@ loop-less-3 c = search needs
 
 loop-again-3 : tie.Need-loop-again-3 Inv-loop μ-loop
 loop-again-3 c =
-    let start = c .before .before .before .before .before .before .before .before .before .before .before in
-    let a = start .before .before .before .before .args in
-    let v = c .before .before .before .before .before .before .before .before .before .loop in
-    settled-passed-with (a .t1) (a .process) (v .at) (v .found) (v .inv) (omega arith) idleWith
-    (rw (start .scene-of .ensures) at (c .before .before .before .if5 .taken))
+    let turn = c .before .before .before .before .before .before .before .before .before .before in
+    let a = turn .before .before .before .before .before .before .before .before .before .args in
+    let v = turn .before .loop in
+    settled-passed-with (a .t1) (a .process) (v .at) (v .found) (v .inv) (omega (arith, turn .loop-test .taken)) idleWith
+    (c .before .before .if5 .taken)
     (c .before .is-settled-at .ensures .1 (c .if6 .taken))
-    (rw (c .before .before .limit-of .ensures, start .scene-of .ensures) at (sym (c .before .is-settled-at .ensures .0) ∙ c .if6 .taken))
-
-limit-of-requires-2 : tie.Need-limit-of-requires-2 Inv-loop μ-loop
-limit-of-requires-2 c κs = search needs
+    (rw (c .before .before .before .limit-of .ensures) at (sym (c .before .is-settled-at .ensures .0) ∙ c .if6 .taken))
 
 note-requires : tie.Need-note-requires Inv-loop μ-loop
 note-requires c κs = search needs
@@ -179,11 +176,12 @@ loop-less-4 c = search needs
 
 loop-again-4 : tie.Need-loop-again-4 Inv-loop μ-loop
 loop-again-4 c =
-    let a = c .before .before .before .before .before .before .before .before .before .before .before .before .before .before .before .before .args in
-    let v = c .before .before .before .before .before .before .before .before .before .before .loop in
-    let scene = c .before .before .before .before .before .before .before .before .before .before .before .before .scene-of .ensures in
-    turn-passed-with (a .t1) (a .process) (v .at) (v .at + 1) (v .found) (v .inv) (omega arith) refl idleWith (c .before .before .note .result)
-    (rw (scene, c .before .before .before .limit-of2 .ensures) at (c .before .before .note .ensures)) (c .if7 .left)
+    let turn = c .before .before .before .before .before .before .before .before .before .before .before in
+    let a = turn .before .before .before .before .before .before .before .before .before .args in
+    let v = turn .before .loop in
+    let scene = turn .before .before .before .scene-of .ensures in
+    turn-passed-with (a .t1) (a .process) (v .at) (v .at + 1) (v .found) (v .inv) (omega (arith, turn .loop-test .taken)) refl idleWith (c .before .before .note .result)
+    (rw (scene, c .before .before .before .before .limit-of .ensures) at (c .before .before .note .ensures)) (c .if7 .left)
 
 transition-of-requires : tie.Need-transition-of-requires Inv-loop μ-loop
 transition-of-requires c κs = search needs
@@ -212,38 +210,38 @@ judge-requires c κs = search needs
 
 -- what the pass told, where its ways out meet
 surveyed : (c : tie.Left-loop Inv-loop μ-loop)
-    → (let a = c .before .before .before .before .before .before .before .args in SurveyedWith (a .t1) (a .process) (c .loop-test .found))
+    → (let a = c .before .before .before .before .before .before .before .before .before .args in SurveyedWith (a .t1) (a .process) (c .loop-test .found))
 surveyed c =
-    let a = c .before .before .before .before .before .before .before .args in
+    let a = c .before .before .before .before .before .before .before .before .before .args in
     let v = c .before .loop in
     ⊎-elim
     (λ w. rw (w .1) (passed-whole-with (a .t1) (a .process) (v .at) (v .found) (v .inv) (omega (arith, w .0 .left))))
-    (λ w. rw (w .10)
-    (faulty (turn-fault-with (a .t1) (a .process) (v .at) (v .at + 1) (v .found) (v .inv) (omega (arith, w .0 .taken)) refl idleWith (w .7 .result)
-    (rw (c .before .before .before .scene-of .ensures, w .6 .ensures) at (w .7 .ensures)) (w .9 .taken)) (w .9 .taken)))
+    (λ w. rw (w .12)
+    (faulty (turn-fault-with (a .t1) (a .process) (v .at) (v .at + 1) (v .found) (v .inv) (omega (arith, w .0 .taken)) refl idleWith (w .9 .result)
+    (rw (c .before .before .before .scene-of .ensures, w .7 .ensures) at (w .9 .ensures)) (w .11 .taken)) (w .11 .taken)))
     (c .loop-test .came)
 
 -- the acting process's location
 own : tie.After-slot-of Inv-loop μ-loop → DeadlineLocation
 own c =
-    let a = c .before .before .before .before .before .before .before .before .before .args in
+    let a = c .before .before .before .before .before .before .before .before .before .before .before .args in
     getD (a .t1 .processes) (c .slot-of .result) idleWith .location
 
 -- the transition of a known act is its row
 is-row : (c : tie.After-transition-of Inv-loop μ-loop)
-    → (let a = c .before .before .before .before .before .before .before .before .args in
+    → (let a = c .before .before .before .before .before .before .before .before .before .before .args in
     a .action ≢ waitAct → a .action ≤ lastAct → c .transition-of .result ≡ transitionOf (a .t1 .word) (a .action) (a .process) (a .time))
 is-row c some known =
-    let a = c .before .before .before .before .before .before .before .before .args in
+    let a = c .before .before .before .before .before .before .before .before .before .before .args in
     c .transition-of .ensures ∙ row-is (a .t1 .word) (a .action) (a .process) (a .time) some known
 
 -- the step of the definitions goes with the answer
 answered : (c : tie.After-judge Inv-loop μ-loop)
-    → (let a = c .before .before .before .before .before .before .before .before .before .before .before .before .before .args in
+    → (let a = c .before .before .before .before .before .before .before .before .before .before .before .before .before .before .before .args in
     GoesWith (a .t1) (a .action) (a .process) (a .time) (stepWith (a .t1) (a .action) (a .process) (a .time)) (c .judge .result))
 unfolding own entryIn
 answered c =
-    let a = c .before .before .before .before .before .before .before .before .before .before .before .before .before .args in
+    let a = c .before .before .before .before .before .before .before .before .before .before .before .before .before .before .before .args in
     let slot = c .before .before .before .before in
     let met = c .before .before .before .before .before in
     let start = met .before .before .before .before in
@@ -252,44 +250,49 @@ answered c =
     (surveyed (met .before)) (let v = met .before .before .loop in size-with (a .t1) (a .process) (v .at) (v .found) (v .inv))
     (λ from to. ap (λ (i : ℕ). getD (a .t1 .processes) i idleWith .location) (slot .slot-of .ensures ∙ slot-in (a .process) to)) (is-row met))
 
+limit-of-requires-2 : tie.Need-limit-of-requires-2 Inv-loop μ-loop
+limit-of-requires-2 c κs = search needs
+
 dated-requires : tie.Need-dated-requires Inv-loop μ-loop
 dated-requires c κs = search needs
 
 entry-with-requires : tie.Need-entry-with-requires Inv-loop μ-loop
 entry-with-requires c κs = search needs
 
-mul-t60 : tie.Need-mul-t60 Inv-loop μ-loop
-mul-t60 c = search (needs, own-fits (c .before .before .before .before .before .before .before .before .before))
+mul-t70 : tie.Need-mul-t70 Inv-loop μ-loop
+mul-t70 c = search (needs, own-fits (c .before .before .before .before .before .before .before .before .before .before .before .before .before))
 
 element-set-from-state : tie.Need-element-set-from-state Inv-loop μ-loop
-element-set-from-state c = search (needs, own-fits (c .before .before .before .before .before .before .before .before .before))
+element-set-from-state c = search (needs, own-fits (c .before .before .before .before .before .before .before .before .before .before .before .before .before))
 
 returns-2 : tie.Need-returns-2 Inv-loop μ-loop
 returns-2 c =
-    let slot = c .before .before .before .before .before .before .before .before .before .slot-of in
-    let met = c .before .before .before .before .before .before .before .before .before .before in
+    let slot = c .before .before .before .before .before .before .before .before .before .before .before .before .before .slot-of in
+    let met = c .before .before .before .before .before .before .before .before .before .before .before .before .before .before in
     let stand = met .before .before .before .before .before in
-    let a = stand .before .before .before .args in
-    let judged = c .before .before .before .before .before in
-    rw (c .entry-with .ensures, c .before .dated .ensures)
+    let a = stand .before .before .before .before .before .args in
+    let judged = c .before .before .before .before .before .before .before .before .before in
+    rw (c .entry-with .ensures, c .before .dated .ensures, c .before .before .limit-of2 .ensures)
     (exit-moved-with (a .t1) (a .action) (a .process) (a .time) (slot .result) (met .transition-of .result)
     (stepWith (a .t1) (a .action) (a .process) (a .time)) (judged .judge .result)
     (λ to. slot .ensures ∙ slot-in (a .process) to) (is-row met)
-    (within _ _ _ _ _ _ _ (sym (ap (λ (r : Answer). r .code) (judged .judge .ensures)) ∙ c .before .before .before .if8 .taken))
+    (within _ _ _ _ _ _ _ (sym (ap (λ (r : Answer). r .code) (judged .judge .ensures)) ∙ c .before .before .before .before .before .before .before .if8 .taken))
     (small (a .t1) (sym (stand .before .numbers-stand .ensures) ∙ not-false _ (stand .if1 .left)))
-    (answered judged) (c .before .before .before .if8 .taken) (c .before .before .if9 .taken))
+    (answered judged) (c .before .before .before .before .before .before .before .if8 .taken) (c .before .before .before .before .before .before .if9 .taken))
 
 returns-3 : tie.Need-returns-3 Inv-loop μ-loop
 returns-3 c =
-    let a = c .before .before .before .before .before .before .before .before .before .before .before .before .before .before .before .before .args in
-    exit-waited-with (a .t1) (a .action) (a .process) (a .time) (stepWith (a .t1) (a .action) (a .process) (a .time)) (c .before .before .before .judge .result)
-    (answered (c .before .before .before)) (c .before .if8 .taken) (c .if9 .left)
+    let judged = c .before .before .before in
+    let a = judged .before .before .before .before .before .before .before .before .before .before .before .before .before .before .before .args in
+    exit-waited-with (a .t1) (a .action) (a .process) (a .time) (stepWith (a .t1) (a .action) (a .process) (a .time)) (judged .judge .result)
+    (answered judged) (c .before .if8 .taken) (c .if9 .left)
 
 returns-4 : tie.Need-returns-4 Inv-loop μ-loop
 returns-4 c =
-    let a = c .before .before .before .before .before .before .before .before .before .before .before .before .before .before .before .args in
-    exit-refused-with (a .t1) (a .action) (a .process) (a .time) (stepWith (a .t1) (a .action) (a .process) (a .time)) (c .before .before .judge .result)
-    (answered (c .before .before)) (c .if8 .left)
+    let judged = c .before .before in
+    let a = judged .before .before .before .before .before .before .before .before .before .before .before .before .before .before .before .args in
+    exit-refused-with (a .t1) (a .action) (a .process) (a .time) (stepWith (a .t1) (a .action) (a .process) (a .time)) (judged .judge .result)
+    (answered judged) (c .if8 .left)
 
 pub step-spec : {M : Type 1} → statement M
 step-spec =
@@ -331,7 +334,6 @@ step-spec =
     add-at-3
     loop-less-3
     loop-again-3
-    limit-of-requires-2
     note-requires
     add-at-4
     loop-less-4
@@ -343,9 +345,10 @@ step-spec =
     stage-with-requires-5
     first-of-requires
     judge-requires
+    limit-of-requires-2
     dated-requires
     entry-with-requires
-    mul-t60
+    mul-t70
     element-set-from-state
     returns-2
     returns-3

@@ -3,9 +3,6 @@ use borrow.Author.Needs.{needs}
 use Rattle.deadlines.proofs.locations.dated.Statement.{statement}
 use Rattle.deadlines.proofs.locations.dated.Tie as tie
 
-limit-of-requires : tie.Need-limit-of-requires
-limit-of-requires c κs = search needs
-
 enum-told : tie.Need-enum-told
 enum-told c = search needs
 
@@ -55,31 +52,30 @@ returns : tie.Need-returns
 returns c = rw (c .enum-told .given .1)
 
 returns-2 : tie.Need-returns-2
-returns-2 c = rw (c .before .before .location .given .1, c .wrapping-add-u64 .ensures, c .before .before .before .before .limit-of .ensures)
+returns-2 c = rw (c .before .before .location .given .1, c .wrapping-add-u64 .ensures)
 
 returns-3 : tie.Need-returns-3
-returns-3 c = rw (c .before .before .location2 .given .1, c .wrapping-add-u642 .ensures, c .before .before .before .before .limit-of .ensures)
+returns-3 c = rw (c .before .before .location2 .given .1, c .wrapping-add-u642 .ensures)
 
 returns-4 : tie.Need-returns-4
 returns-4 c = rw (c .before .before .before .location3 .given .1, c .before .wrapping-add-u643 .ensures, c .wrapping-add-u644 .ensures)
 
 returns-5 : tie.Need-returns-5
-returns-5 c = rw (c .before .before .location4 .given .1, c .wrapping-add-u645 .ensures, c .before .before .before .before .limit-of .ensures)
+returns-5 c = rw (c .before .before .location4 .given .1, c .wrapping-add-u645 .ensures)
 
 returns-6 : tie.Need-returns-6
 returns-6 c = rw (c .enum-told2 .given .1)
 
 returns-7 : tie.Need-returns-7
-returns-7 c = rw (c .before .before .location5 .given .1, c .wrapping-add-u646 .ensures, c .before .before .before .before .limit-of .ensures)
+returns-7 c = rw (c .before .before .location5 .given .1, c .wrapping-add-u646 .ensures)
 
 returns-8 : tie.Need-returns-8
-returns-8 c = rw (c .before .before .location6 .given .1, c .wrapping-add-u647 .ensures, c .before .before .before .before .limit-of .ensures)
+returns-8 c = rw (c .before .before .location6 .given .1, c .wrapping-add-u647 .ensures)
 
 pub dated-spec : {M : Type 1} → statement M
 dated-spec =
     tie.close
     (tie.spec
-    limit-of-requires
     enum-told
     enum-known-location
     wrapping-add-u64-requires
