@@ -202,7 +202,7 @@ fn number(field: &[u8], most_digits: usize) -> Option<u64> {
     Some(value)
 }
 
-/// [6.130] to [6.140]: the reader with its four lent lists; that of the values of a takes all 96.
+/// [6.130] to [6.140], [9.90]: the reader with its four lent lists; that of the values of a takes all 96.
 pub fn read_into(
     text: &[u8],
     a: &mut [u64],

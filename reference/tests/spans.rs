@@ -235,4 +235,10 @@ fn each_fault_has_its_line() {
     assert_eq!(steps("2,5,8,12", "0,1,try\n3,1,sell\n"), answer(LINE, 0, 5));
     assert_eq!(fault(&"0".repeat(65_537)), answer(LENGTH, 0, 0));
     assert_eq!(steps("2,5,8,12", ""), bare(SHORT_OUTPUT));
+    let own = |line_2: &str, limits: &str| fault(&format!("windows,b,c\n{line_2}\nwindow,a\n{limits}"));
+    assert_eq!(own("97,8,12", "x"), answer(WINDOW_COUNT, 0, 2));
+    assert_eq!(own("2,8,12", "1,5\n2,8\nx"), answer(LIMITS, 0, 5));
+    assert_eq!(own("2,8,7", "1,5\n1,5\n"), answer(LINE, 0, 5));
+    assert_eq!(own("2,8,12", "1,5\n2,7\n"), answer(NAMES, 0, 6));
+    assert_eq!(own("2,8,12", "1,5\n2,7\ntime,window,act\n"), bare(SHORT_OUTPUT));
 }

@@ -1,11 +1,11 @@
 //! Calls of the library through `funnelfawn::raw`: each is made on lists as they are lent and held to what is expected of it.
 
 use crate::encoding::LAYOUT;
+use crate::handed::Handed;
 use crate::lent::Lent;
 use funnelfawn::raw;
 use reference::answer::{Answer, ACCEPTED};
 use reference::board::Told;
-use reference::machine::Values;
 
 /// Behind every list that is lent.
 const GUARD: u64 = 0xF0F0_F0F0_F0F0_F0F0;
@@ -50,11 +50,11 @@ pub fn same_layout() -> bool {
     same
 }
 
-pub fn fresh(values: Values, table: &[u64], wanted: (Answer, &[u64])) -> Verdict {
-    let mut lent = Lent::new(table, GUARD);
-    let Values { n, a, b, c } = values;
-    let got = raw::fresh(n, a, b, c, lent.list());
-    held(got, wanted.0, [("table", &lent, wanted.1)])
+/// The values of a are only read.
+pub fn fresh(handed: &Handed, table: &[u64], wanted: (Answer, &[u64])) -> Verdict {
+    let (mut values, mut lent) = (Lent::new(&handed.a, GUARD), Lent::new(table, GUARD));
+    let got = raw::fresh(handed.n, handed.b, handed.c, values.list(), lent.list());
+    held(got, wanted.0, [("a", &values, &handed.a), ("table", &lent, wanted.1)])
 }
 
 pub fn step(table: &[u64], [act, window, moment]: [u64; 3], wanted: (Answer, &[u64])) -> Verdict {
@@ -117,11 +117,10 @@ pub fn record_and_tell(
     same_answer(got.board, answers.board).map_err(|what| format!("of the board, {what}"))
 }
 
-pub fn fresh_deadlines(values: Values, deadlines: &[u64], wanted: (Answer, &[u64])) -> Verdict {
-    let mut lent = Lent::new(deadlines, GUARD);
-    let Values { n, a, b, c } = values;
-    let got = raw::fresh_deadlines(n, a, b, c, lent.list());
-    held(got, wanted.0, [("deadlines", &lent, wanted.1)])
+pub fn fresh_deadlines(handed: &Handed, deadlines: &[u64], wanted: (Answer, &[u64])) -> Verdict {
+    let (mut values, mut lent) = (Lent::new(&handed.a, GUARD), Lent::new(deadlines, GUARD));
+    let got = raw::fresh_deadlines(handed.n, handed.b, handed.c, values.list(), lent.list());
+    held(got, wanted.0, [("a", &values, &handed.a), ("deadlines", &lent, wanted.1)])
 }
 
 pub fn step_deadlines(
@@ -147,25 +146,27 @@ pub fn to_arrivals(deadlines: &[u64], table: &[u64], wanted: (Answer, &[u64])) -
     held(got, wanted.0, [("deadlines", &read, deadlines), ("table", &written, wanted.1)])
 }
 
-/// The three lists are times, windows, acts.
-pub fn read(text: &[u8], lists: &[Vec<u64>; 3], wanted: (Answer, Values, &[Vec<u64>; 3])) -> Verdict {
-    let [mut times, mut windows, mut acts] = lists.each_ref().map(|list| Lent::new(list, GUARD));
-    let got = raw::read(text, times.list(), windows.list(), acts.list());
+/// The four lists are values of a, times, windows, acts; beside the answer n, b and c are wanted.
+pub fn read(text: &[u8], lists: &[Vec<u64>; 4], wanted: (Answer, [u64; 3], &[Vec<u64>; 4])) -> Verdict {
+    let [mut a, mut times, mut windows, mut acts] = lists.each_ref().map(|list| Lent::new(list, GUARD));
+    let got = raw::read(text, a.list(), times.list(), windows.list(), acts.list());
     let (answer, values, after) = wanted;
-    let lists =
-        [("times", &times, &after[0][..]), ("windows", &windows, &after[1]), ("acts", &acts, &after[2])];
-    held(got.answer, answer, lists)?;
-    let got = Values { n: got.n, a: got.a, b: got.b, c: got.c };
+    let named = [("a", &a), ("times", &times), ("windows", &windows), ("acts", &acts)];
+    let mut left = after.iter();
+    held(got.answer, answer, named.map(|(name, lent)| (name, lent, &left.next().expect("four")[..])))?;
+    let got = [got.n, got.b, got.c];
     if got != values {
-        return Err(format!("the values are {got:?}, not {values:?}"));
+        return Err(format!("n, b and c are {got:?}, not {values:?}"));
     }
     Ok(())
 }
 
-pub fn write(values: Values, lists: &[Vec<u64>; 3], out: &[u8], wanted: (Answer, &[u8])) -> Verdict {
-    let mut lent = Lent::new(out, GUARD_BYTE);
-    let Values { n, a, b, c } = values;
-    let got = raw::write([n, a, b, c], &lists[0], &lists[1], &lists[2], lent.list());
+/// The three lists are times, windows, acts.
+pub fn write(handed: &Handed, lists: &[Vec<u64>; 3], out: &[u8], wanted: (Answer, &[u8])) -> Verdict {
+    let (mut values, mut lent) = (Lent::new(&handed.a, GUARD), Lent::new(out, GUARD_BYTE));
+    let Handed { n, b, c, ref a } = *handed;
+    let got = raw::write([n, b, c], values.list(), &lists[0], &lists[1], &lists[2], lent.list());
+    values.difference("a", a).map_or(Ok(()), Err)?;
     held_text(got, &lent, wanted)
 }
 

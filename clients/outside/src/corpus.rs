@@ -1,7 +1,6 @@
 //! The recordings of reference/corpus by the second engine of the library: its answers are the lines that are stored as what `replay` prints.
 
 use funnelfawn::{raw, read, Recording, Step};
-use reference::recording::FIRST_STEP;
 use std::path::{Path, PathBuf};
 
 /// How many recordings there the library reads; and each of these that differs, with why.
@@ -13,7 +12,7 @@ pub fn run(directory: &Path) -> (usize, Vec<String>) {
         let Ok(recording) = read(&text) else { continue };
         recordings += 1;
         let stored = std::fs::read_to_string(path.with_extension("out")).unwrap_or_default();
-        match by_deadlines(&recording) {
+        match by_deadlines(&text, &recording) {
             Ok(report) if report == stored => {}
             Ok(report) => differ.push(format!("{}: {}", path.display(), first_difference(&report, &stored))),
             Err(what) => differ.push(format!("{}: {what}", path.display())),
@@ -31,13 +30,15 @@ fn recordings_in(directory: &Path) -> Vec<PathBuf> {
 }
 
 /// The lines, if the first engine comes to the table that the second one's table matches at the end.
-fn by_deadlines(recording: &Recording) -> Result<String, String> {
-    let &Recording { n, a, b, c, ref steps } = recording;
+fn by_deadlines(text: &[u8], recording: &Recording) -> Result<String, String> {
+    let Recording { limits, steps } = recording;
     let (mut table, mut deadlines) = ([0; raw::TABLE], [0; raw::DEADLINES]);
-    raw::fresh(n, a, b, c, &mut table);
-    raw::fresh_deadlines(n, a, b, c, &mut deadlines);
+    raw::fresh(limits.windows(), limits.b, limits.c, &limits.a, &mut table);
+    raw::fresh_deadlines(limits.windows(), limits.b, limits.c, &limits.a, &mut deadlines);
     let mut report = String::from("line,answer,window,moment\n");
-    for (line, &Step { moment, window, act }) in (FIRST_STEP..).zip(steps) {
+    // in either shape the lines of the steps are the last ones
+    let lines = text.iter().filter(|&&byte| byte == b'\n').count();
+    for (line, &Step { moment, window, act }) in (lines - steps.len() + 1..).zip(steps) {
         let answer = raw::step_deadlines(&mut deadlines, act, window, moment);
         report += &format!("{line},{},{},{}\n", answer.number, answer.window, answer.moment);
         raw::step(&mut table, act, window, moment);

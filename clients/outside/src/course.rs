@@ -91,6 +91,8 @@ impl Course {
         self.sights.look(Sight::Withdraw, is_accepted && call[0] == WITHDRAW);
         self.sights.look(Sight::Crowded, is_accepted && is_crowded(&self.table));
         self.sights.look(Sight::Level, answer.number == LATE && is_shared(&self.table, answer.moment));
+        self.sights.look(Sight::UnequalAccepted, is_accepted && is_unequal(&self.table));
+        self.sights.look(Sight::LateByOwn, answer.number == LATE && came_later(&self.table, answer.window));
         self.table = table_in(after).expect("a table stays one");
         let Some(promises) = &mut self.promises else { return Ok(()) };
         self.sights.look(Sight::Promised, true);
@@ -133,6 +135,23 @@ impl Course {
 fn is_crowded(table: &Table) -> bool {
     let n = table.values.n;
     n > 1 && (1..=n).all(|window| table.place(window) != Place::Remainder)
+}
+
+/// Whether two windows have another a.
+fn is_unequal(table: &Table) -> bool {
+    let values = &table.values;
+    (2..=values.n).any(|window| values.a_of(window) != values.a_of(1))
+}
+
+/// Whether a window, which is late before all others, came after another one, and neither of them is checking: with one a for both, the other
+/// would be late first.
+fn came_later(table: &Table, late: u64) -> bool {
+    let arrival = |window| match table.place(window) {
+        Place::Checking(_) => None,
+        place => place.arrival(),
+    };
+    let came = arrival(late);
+    came.is_some() && (1..=table.values.n).any(|window| arrival(window).is_some() && arrival(window) < came)
 }
 
 /// Whether a latest moment is that of several windows.

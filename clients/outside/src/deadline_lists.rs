@@ -3,7 +3,9 @@
 
 use crate::acts::any_number;
 use crate::encoding::deadline_numbers;
-use crate::lists::{change, cut, edge, lengthen, off_by_one, Made};
+use crate::lists::{
+    a_above, a_at_an_edge, change, cut, edge, lengthen, lower, off_by_one, part_of_header, Made,
+};
 use funnelfawn::raw::{DEADLINES, DEADLINES_STRIDE, HEADER};
 use reference::deadline::DeadlineTable;
 use reference::generator::random::Random;
@@ -25,16 +27,25 @@ pub fn lent_deadlines(random: &mut Random, deadlines: &DeadlineTable, percent: u
 }
 
 fn damage(random: &mut Random, deadlines: &DeadlineTable, numbers: &mut Vec<u64>) {
-    let within = random.between(1, deadlines.values.n);
-    match random.below(12) {
-        0 => change(random, &mut numbers[..HEADER]),
+    let values = &deadlines.values;
+    let within = random.between(1, values.n);
+    match random.below(14) {
+        0 => {
+            let part = part_of_header(random, values, numbers);
+            change(random, part)
+        }
         1 => change(random, &mut numbers[..DEADLINES]),
-        2 => edge(random, deadlines.values, &mut numbers[..HEADER]),
-        3 => off_by_one(random, &mut numbers[..HEADER]),
+        2 => edge(random, values, numbers),
+        3 => {
+            let part = part_of_header(random, values, numbers);
+            off_by_one(random, part)
+        }
         4 => entry(numbers, within)[0] = random.pick(&[0, 3, 5, 8, 9, 255, 256, 261, 1 << 32, u64::MAX]),
         5 => off_by_one(random, &mut entry(numbers, within)[1..]),
-        6..=9 => entry(numbers, within).copy_from_slice(&at_an_edge(random, deadlines)),
+        6..=9 => entry(numbers, within).copy_from_slice(&at_an_edge(random, deadlines, within)),
         10 => above(random, deadlines, numbers),
+        11 => a_at_an_edge(random, values, numbers),
+        12 => a_above(random, values, numbers),
         _ => cut(random, numbers),
     }
 }
@@ -46,10 +57,10 @@ fn entry(numbers: &mut [u64], window: u64) -> &mut [u64] {
 
 /// A timed place with the moments of an arrival that is just sound, or just not, or would have been before moment 0: there it is near 2^64, and
 /// moments may be small again. Now and then one of the two is off by one.
-fn at_an_edge(random: &mut Random, deadlines: &DeadlineTable) -> [u64; DEADLINES_STRIDE] {
-    let (Values { a, b, c, .. }, clock) = (deadlines.values, deadlines.clock);
+fn at_an_edge(random: &mut Random, deadlines: &DeadlineTable, window: u64) -> [u64; DEADLINES_STRIDE] {
+    let (&Values { b, c, .. }, clock) = (&deadlines.values, deadlines.clock);
     let place = random.pick(&TIMED);
-    let limits @ [least, most] = if place == CHECKING { [b, c] } else { [0, a] };
+    let limits @ [least, most] = if place == CHECKING { [b, c] } else { [0, deadlines.values.a_of(window)] };
     let soonest = clock.wrapping_sub(most);
     let arrivals = [
         clock,
@@ -73,16 +84,15 @@ fn off(random: &mut Random) -> u64 {
 /// An entry above n that would be sound at n, or a place or a moment alone. Of 96 windows the last one becomes one too many.
 fn above(random: &mut Random, deadlines: &DeadlineTable, numbers: &mut [u64]) {
     let n = deadlines.values.n.min(95);
-    numbers[0] = n;
-    numbers[5] = numbers[5].min(n);
-    let sound = [1, deadlines.clock, deadlines.clock + deadlines.values.a];
+    lower(n, numbers);
+    let sound = [1, deadlines.clock, deadlines.clock + deadlines.values.a_of(n)];
     let entries = [sound, [5, 0, 0], [8, 0, 0], [0, 1, 0], [0, 0, 1], [0, 0, u64::MAX]];
     let any = random.between(n + 1, 96);
     let window = random.pick(&[n + 1, 96, any]);
     entry(numbers, window).copy_from_slice(&random.pick(&entries));
 }
 
-/// As many numbers as a deadline table has, any at all, of which the first six may be those of a sound one.
+/// As many numbers as a deadline table has, any at all, of which those before the entries may be those of a sound one.
 pub fn any_numbers(random: &mut Random, deadlines: &DeadlineTable) -> Vec<u64> {
     let mut numbers: Vec<u64> = (0..DEADLINES).map(|_| any_number(random, 0)).collect();
     if random.chance(70) {

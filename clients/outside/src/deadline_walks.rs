@@ -7,6 +7,7 @@ use crate::deadline_lists::{any_numbers, lent_deadlines, output};
 use crate::encoding::{deadlines_in, table_in};
 use crate::engines::{self, Pair};
 use crate::expected;
+use crate::handed::{handed, Handed};
 use crate::lists::lent_table;
 use crate::sights::{Sight, Sights};
 use crate::tables::start;
@@ -16,7 +17,7 @@ use reference::answer::{Answer, ACCEPTED, NO_TABLE, SHORT_OUTPUT};
 use reference::deadline::{to_deadlines, DeadlinePlace, DeadlineTable};
 use reference::generator::deadlines::{damaged_pair, sound_pair, Damage};
 use reference::generator::random::Random;
-use reference::machine::{fresh, Table, Values, CLOCK_END};
+use reference::machine::{fresh, Table, CLOCK_END};
 
 /// From here on a sum with a limit comes around.
 const NEAR_2_64: u64 = u64::MAX - 20_000_000;
@@ -39,7 +40,7 @@ impl DeadlineWalk {
     /// An act of both engines counts as one call, with the calls that hold the two tables to each other.
     pub fn call(&mut self) -> Outcome {
         of_deadlines(match self.random.below(50) {
-            0 => engines::fresh(self.values()),
+            0 => engines::fresh(&self.handed()),
             1 | 2 => self.fresh(),
             3..=9 => self.step(),
             10..=14 => self.turn_to_deadlines(),
@@ -59,25 +60,19 @@ impl DeadlineWalk {
         deadlines_in(&self.own.deadlines).expect("a deadline table stays one")
     }
 
-    /// Those of the walk, of which mostly one is another.
-    fn values(&mut self) -> Values {
-        let Values { n, a, b, c } = self.table().values;
-        let mut values = [n, a, b, c];
-        if self.random.chance(70) {
-            let place = self.random.index(values.len());
-            values[place] = acts::any_number(&mut self.random, values[place]);
-        }
-        let [n, a, b, c] = values;
-        Values { n, a, b, c }
+    fn handed(&mut self) -> Handed {
+        let values = self.table().values;
+        handed(&mut self.random, &values)
     }
 
     fn fresh(&mut self) -> (Answer, Verdict) {
-        let (values, deadlines) = (self.values(), self.deadlines());
+        let (handed, deadlines) = (self.handed(), self.deadlines());
         let lent = lent_deadlines(&mut self.random, &deadlines, 50).numbers;
         let mut after = lent.clone();
-        let answer = expected::fresh_deadlines(values, &mut after);
-        let verdict = calls::fresh_deadlines(values, &lent, (answer, &after));
-        (answer, verdict.map_err(|what| format!("fresh deadlines {values:?}: {what}")))
+        let answer = expected::fresh_deadlines(handed.values(), &mut after);
+        handed.look(answer, &mut self.sights);
+        let verdict = calls::fresh_deadlines(&handed, &lent, (answer, &after));
+        (answer, verdict.map_err(|what| format!("fresh deadlines {handed:?}: {what}")))
     }
 
     /// Of the second engine alone, on a copy that is damaged mostly.

@@ -9,16 +9,28 @@ use reference::machine::{Place, Table, Values, WINDOWS};
 use reference::summary::Summary;
 
 /// The layout that is written out here, as one number [9.15].
-pub const LAYOUT: u64 = 2;
+pub const LAYOUT: u64 = 3;
 
 /// The table that a list starts with, if it is long enough and its numbers tell one, sound or not.
 pub fn table_in(numbers: &[u64]) -> Option<Table> {
-    let &[n, a, b, c, clock, word, ref entries @ ..] = numbers.get(..TABLE)? else { return None };
+    let (header, entries) = numbers.get(..TABLE)?.split_at(HEADER);
+    let (values, clock, word) = header_in(header)?;
     let mut places = [Place::Remainder; WINDOWS];
     for (place, entry) in places.iter_mut().zip(entries.chunks(STRIDE)) {
         *place = place_in(entry[0], entry[1])?;
     }
-    Some(Table { values: Values { n, a, b, c }, clock, word, places })
+    Some(Table { values, clock, word, places })
+}
+
+/// What both kinds of table begin with: the values, among which the 96 of a come last, the clock and the word.
+fn header_in(header: &[u64]) -> Option<(Values, u64, u64)> {
+    let &[n, b, c, clock, word, ref a @ ..] = header else { return None };
+    Some((Values { n, b, c, a: a.try_into().ok()? }, clock, word))
+}
+
+fn store_header(values: &Values, clock: u64, word: u64, header: &mut [u64]) {
+    let &Values { n, b, c, ref a } = values;
+    header.copy_from_slice(&[&[n, b, c, clock, word], &a[..]].concat());
 }
 
 /// Beside remainder and selling, which have no arrival, 0 has to stand [9.20].
@@ -29,8 +41,7 @@ fn place_in(number: u64, arrival: u64) -> Option<Place> {
 
 /// Over the start of a list that is long enough.
 pub fn store_table(table: &Table, numbers: &mut [u64]) {
-    let Values { n, a, b, c } = table.values;
-    numbers[..HEADER].copy_from_slice(&[n, a, b, c, table.clock, table.word]);
+    store_header(&table.values, table.clock, table.word, &mut numbers[..HEADER]);
     for (entry, &place) in numbers[HEADER..TABLE].chunks_mut(STRIDE).zip(&table.places) {
         entry.copy_from_slice(&[number_of(place), place.arrival().unwrap_or(0)]);
     }
@@ -51,12 +62,13 @@ pub fn deadlines_in(numbers: &[u64]) -> Option<DeadlineTable> {
 }
 
 fn deadlines_told(numbers: &[u64]) -> Option<DeadlineTable> {
-    let &[n, a, b, c, clock, word, ref entries @ ..] = numbers.get(..DEADLINES)? else { return None };
+    let (header, entries) = numbers.get(..DEADLINES)?.split_at(HEADER);
+    let (values, clock, word) = header_in(header)?;
     let mut places = [DeadlinePlace::Remainder; WINDOWS];
     for (place, entry) in places.iter_mut().zip(entries.chunks(DEADLINES_STRIDE)) {
         *place = deadline_place_in(entry[0], Moments { first: entry[1], last: entry[2] })?;
     }
-    Some(DeadlineTable { values: Values { n, a, b, c }, clock, word, places })
+    Some(DeadlineTable { values, clock, word, places })
 }
 
 /// Beside remainder and selling, which have neither moment, 0 has to stand for both [12.115].
@@ -67,8 +79,7 @@ fn deadline_place_in(number: u64, moments: Moments) -> Option<DeadlinePlace> {
 
 /// Over the start of a list that is long enough; they are also the reference's numbers.
 pub fn store_deadlines(deadlines: &DeadlineTable, numbers: &mut [u64]) {
-    let Values { n, a, b, c } = deadlines.values;
-    numbers[..HEADER].copy_from_slice(&[n, a, b, c, deadlines.clock, deadlines.word]);
+    store_header(&deadlines.values, deadlines.clock, deadlines.word, &mut numbers[..HEADER]);
     for (entry, place) in numbers[HEADER..DEADLINES].chunks_mut(DEADLINES_STRIDE).zip(&deadlines.places) {
         let Moments { first, last } = place.moments().unwrap_or_default();
         entry.copy_from_slice(&[place.number(), first, last]);

@@ -4,10 +4,11 @@
 use crate::calls::{self, Verdict};
 use crate::encoding::{deadline_numbers, table_numbers};
 use crate::expected;
+use crate::handed::Handed;
 use funnelfawn::raw::{DEADLINES, TABLE};
 use reference::answer::{bare, Answer, ACCEPTED, NO_TABLE};
 use reference::deadline::DeadlineTable;
-use reference::machine::{Table, Values};
+use reference::machine::Table;
 
 /// What fills a list before another table comes into it.
 const FILLED: u64 = 7777;
@@ -52,18 +53,18 @@ fn alike(first: Answer, second: Answer) -> Verdict {
 }
 
 /// Fresh tables of both engines [12.82].
-pub fn fresh(values: Values) -> (Answer, Verdict) {
+pub fn fresh(handed: &Handed) -> (Answer, Verdict) {
     let filled = Pair { table: vec![FILLED; TABLE], deadlines: vec![FILLED; DEADLINES] };
     let mut made = Pair { table: filled.table.clone(), deadlines: filled.deadlines.clone() };
-    let answer = expected::fresh(values, &mut made.table);
-    let second = expected::fresh_deadlines(values, &mut made.deadlines);
+    let answer = expected::fresh(handed.values(), &mut made.table);
+    let second = expected::fresh_deadlines(handed.values(), &mut made.deadlines);
     let mut verdict = alike(answer, second)
-        .and_then(|()| calls::fresh(values, &filled.table, (answer, &made.table)))
-        .and_then(|()| calls::fresh_deadlines(values, &filled.deadlines, (answer, &made.deadlines)));
+        .and_then(|()| calls::fresh(handed, &filled.table, (answer, &made.table)))
+        .and_then(|()| calls::fresh_deadlines(handed, &filled.deadlines, (answer, &made.deadlines)));
     if answer.number == ACCEPTED {
         verdict = verdict.and_then(|()| made.matches());
     }
-    (answer, verdict.map_err(|what| format!("both fresh, {values:?}: {what}")))
+    (answer, verdict.map_err(|what| format!("both fresh, {handed:?}: {what}")))
 }
 
 /// A deadline table that is not sound, and the table that it matches, if there is one: 1 from either engine and on the way from either, and

@@ -11,6 +11,7 @@ pub mod deadline_walks;
 pub mod encoding;
 pub mod engines;
 pub mod expected;
+pub mod handed;
 pub mod lent;
 pub mod lists;
 pub mod sights;

@@ -2,16 +2,11 @@
 
 use crate::acts::any_number;
 use crate::encoding::{summary_numbers, table_numbers};
-use funnelfawn::raw::{HEADER, STRIDE, TABLE};
+use funnelfawn::raw::{AT_A, AT_B, AT_C, AT_CLOCK, AT_N, AT_WORD, HEADER, STRIDE, TABLE};
 use reference::generator::lists::{foreign, unsound_or_full};
 use reference::generator::random::Random;
-use reference::machine::{Table, Values, CLOCK_END, LIMIT_END};
+use reference::machine::{Table, Values, CLOCK_END, LIMIT_END, WINDOWS};
 use reference::summary::Summary;
-
-/// Where n, the clock and the word stand in a table.
-const N: usize = 0;
-const CLOCK: usize = 4;
-const WORD: usize = 5;
 
 /// A list of numbers to be lent, and whether they start with those that they were made from.
 pub struct Made {
@@ -32,18 +27,62 @@ pub fn lent_table(random: &mut Random, table: &Table, percent: u64) -> Made {
 
 fn damage_table(random: &mut Random, table: &Table, numbers: &mut Vec<u64>) {
     let within = random.between(1, table.values.n);
-    match random.below(10) {
-        0 => change(random, &mut numbers[..HEADER]),
+    match random.below(12) {
+        0 => {
+            let part = part_of_header(random, &table.values, numbers);
+            change(random, part)
+        }
         1 => change(random, &mut numbers[..TABLE]),
-        2 => edge(random, table.values, &mut numbers[..HEADER]),
+        2 => edge(random, &table.values, numbers),
         3 => entry(numbers, within)[0] = random.pick(&[8, 9, 255, 256, 261, 1 << 32, u64::MAX]),
         4 => entry(numbers, within).copy_from_slice(&untimed(random, table)),
-        5 => entry(numbers, within).copy_from_slice(&overdue(random, table)),
+        5 => entry(numbers, within).copy_from_slice(&overdue(random, table, within)),
         6 => above(random, table, numbers),
-        7 => off_by_one(random, &mut numbers[..HEADER]),
-        8 => numbers[CLOCK] = clock_edge(random, table),
+        7 => {
+            let part = part_of_header(random, &table.values, numbers);
+            off_by_one(random, part)
+        }
+        8 => numbers[AT_CLOCK] = clock_edge(random, table),
+        9 => a_at_an_edge(random, &table.values, numbers),
+        10 => a_above(random, &table.values, numbers),
         _ => cut(random, numbers),
     }
+}
+
+/// Of what both kinds of table begin with: all but the values of a, those of windows up to n, or those of all.
+pub fn part_of_header<'a>(random: &mut Random, values: &Values, numbers: &'a mut [u64]) -> &'a mut [u64] {
+    match random.below(4) {
+        0 | 1 => &mut numbers[..AT_A],
+        2 => &mut numbers[AT_A..AT_A + values.n as usize],
+        _ => &mut numbers[AT_A..HEADER],
+    }
+}
+
+/// The a of a window up to n at the ends of its rule, or just outside.
+pub fn a_at_an_edge(random: &mut Random, values: &Values, numbers: &mut [u64]) {
+    let window = random.index(values.n as usize);
+    numbers[AT_A + window] = random.pick(&[0, 1, values.b - 1, values.b, u64::MAX]);
+}
+
+/// The a of a window above n, which is in remainder, is not 0: one that would stand up to n, or one that would not. Of 96 windows the last one
+/// becomes one too many, and gives up its place.
+pub fn a_above(random: &mut Random, values: &Values, numbers: &mut [u64]) {
+    let n = values.n.min(95);
+    if values.n > n {
+        lower(n, numbers);
+        let stride = (numbers.len() - HEADER) / WINDOWS;
+        numbers[HEADER + stride * n as usize..].fill(0);
+    }
+    let any = random.between(n + 1, 96);
+    let window = random.pick(&[n + 1, 96, any]) as usize;
+    numbers[AT_A + window - 1] = random.pick(&[1, values.b - 1, values.b, 1 << 32, u64::MAX]);
+}
+
+/// Makes it a table of n windows, of which those above n have no a, and the word is none of theirs.
+pub fn lower(n: u64, numbers: &mut [u64]) {
+    numbers[AT_N] = n;
+    numbers[AT_WORD] = numbers[AT_WORD].min(n);
+    numbers[AT_A + n as usize..HEADER].fill(0);
 }
 
 fn entry(numbers: &mut [u64], window: u64) -> &mut [u64] {
@@ -57,20 +96,20 @@ pub fn change(random: &mut Random, numbers: &mut [u64]) {
     numbers[place] = any_number(random, numbers[place]);
 }
 
-/// One number of the first six, of a table of either kind, just outside its rule.
-pub fn edge(random: &mut Random, values: Values, numbers: &mut [u64]) {
-    let Values { n, a, b, c } = values;
+/// One number of those before the values of a, of a table of either kind, just outside its rule.
+pub fn edge(random: &mut Random, values: &Values, numbers: &mut [u64]) {
+    let &Values { n, b, c, .. } = values;
     let edges = [
-        (0, 0),
-        (0, 97),
-        (1, 0),
-        (1, b),
-        (2, a),
-        (2, c + 1),
-        (3, b - 1),
-        (3, LIMIT_END + 1),
-        (4, CLOCK_END + 1),
-        (5, n + 1),
+        (AT_N, 0),
+        (AT_N, 97),
+        (AT_N, n - 1),
+        (AT_N, n + 1),
+        (AT_B, values.largest_a()),
+        (AT_B, c + 1),
+        (AT_C, b - 1),
+        (AT_C, LIMIT_END + 1),
+        (AT_CLOCK, CLOCK_END + 1),
+        (AT_WORD, n + 1),
     ];
     let (place, number) = random.pick(&edges);
     numbers[place] = number;
@@ -96,9 +135,9 @@ fn untimed(random: &mut Random, table: &Table) -> [u64; STRIDE] {
 
 /// A timed place whose arrival is to come, also where the latest moment would be 2^64 or more and starts from 0 again; or whose latest
 /// moment has passed.
-fn overdue(random: &mut Random, table: &Table) -> [u64; STRIDE] {
+fn overdue(random: &mut Random, table: &Table, window: u64) -> [u64; STRIDE] {
     let place = random.pick(&[1, 2, 3, 4, 6, 7]);
-    let limit = if place == 3 { table.values.c } else { table.values.a };
+    let limit = if place == 3 { table.values.c } else { table.values.a_of(window) };
     let to_come = table.clock + 1;
     let passed = table.clock.checked_sub(limit + 1).unwrap_or(to_come);
     let again_0 = limit.wrapping_neg();
@@ -109,8 +148,7 @@ fn overdue(random: &mut Random, table: &Table) -> [u64; STRIDE] {
 /// An entry above n that would be sound at n, or that has a place alone or an arrival alone. Of 96 windows the last one becomes one too many.
 fn above(random: &mut Random, table: &Table, numbers: &mut [u64]) {
     let n = table.values.n.min(95);
-    numbers[N] = n;
-    numbers[WORD] = numbers[WORD].min(n);
+    lower(n, numbers);
     let place = random.between(1, 7);
     let sound = [place, if place == 5 { 0 } else { table.clock }];
     let place_alone = [random.pick(&[place, 8, u64::MAX]), 0];
@@ -124,7 +162,8 @@ fn above(random: &mut Random, table: &Table, numbers: &mut [u64]) {
 pub fn cut(random: &mut Random, numbers: &mut Vec<u64>) {
     let length = numbers.len();
     let shorter = random.index(length);
-    numbers.truncate(random.pick(&[0, 5, 6, 7, length - 2, length - 1, shorter]));
+    let lengths = [0, AT_A, HEADER, HEADER + 1, 198, length - 2, length - 1, shorter];
+    numbers.truncate(random.pick(&lengths).min(length - 1));
 }
 
 /// A few numbers more, behind those that a list needs or in the stead of those that were cut.

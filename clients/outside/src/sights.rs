@@ -15,6 +15,22 @@ pub enum Sight {
     Level,
     Crowded,
     Promised,
+    // an a for each window
+    Unequal,
+    FewerThanAll,
+    MoreThanAll,
+    FewerThanN,
+    ValueAboveN,
+    UnequalAccepted,
+    LateByOwn,
+    // recordings
+    ReadNew,
+    ReadFormer,
+    NoRoomForValues,
+    FormerWritten,
+    FormerTooLong,
+    LimitsAtTheirLast,
+    LimitsAtLine2,
     // recorded steps, of which waits.rs says more
     Unused,
     NoAdvance,
@@ -59,7 +75,7 @@ pub enum Sight {
 use Sight::*;
 
 /// Each with how it is told.
-const SIGHTS: [(Sight, &str); 44] = [
+const SIGHTS: [(Sight, &str); 58] = [
     (EntryTaken, "accepted crits whose entries a board took"),
     (EntryRefused, "accepted crits whose entries a board refused"),
     (ListedCall, "calls of lists on one board"),
@@ -69,6 +85,20 @@ const SIGHTS: [(Sight, &str); 44] = [
     (Level, "acts that are late by the latest moment of several windows"),
     (Crowded, "accepted acts with nobody in remainder"),
     (Promised, "calls from a fresh table on, with the promises of lists"),
+    (Unequal, "fresh tables and writings of windows with unequal values of a"),
+    (FewerThanAll, "of these and of others, lists of fewer than 96 values"),
+    (MoreThanAll, "and of more"),
+    (FewerThanN, "calls that are refused for fewer values than windows alone"),
+    (ValueAboveN, "calls that are refused for values above n alone"),
+    (UnequalAccepted, "accepted acts of windows with unequal values of a"),
+    (LateByOwn, "acts that are late by a window which came after another"),
+    (ReadNew, "recordings that are read of the shape that is written"),
+    (ReadFormer, "recordings that are read of the former shape"),
+    (NoRoomForValues, "recordings that are not read for want of room for values of a alone"),
+    (FormerWritten, "recordings of the former shape that are written"),
+    (FormerTooLong, "recordings of the former shape that are read and too long to be written"),
+    (LimitsAtTheirLast, "limits that are refused at the last line of a"),
+    (LimitsAtLine2, "limits that are refused at line 2, in the former shape"),
     (Unused, "counted acts in unused time that somebody waits"),
     (NoAdvance, "counted acts without an advance while somebody waits"),
     (OneSold, "counted acts with an advance while one sells and somebody tries"),

@@ -3,7 +3,7 @@
 
 use crate::calls::{self, Verdict};
 use crate::sights::{Sight, Sights};
-use reference::answer::{Answer, ACCEPTED, SHORT_OUTPUT};
+use reference::answer::{Answer, ACCEPTED, LIMITS, SHORT_OUTPUT};
 use reference::generator::random::Random;
 use reference::spans::{spans, spans_text};
 
@@ -56,8 +56,15 @@ impl Asked<'_> {
         match self.answer.number {
             ACCEPTED => self.look_at_spans(sights),
             SHORT_OUTPUT => sights.look(Sight::OneShort, self.room + 1 == self.text.len()),
-            _ => sights.look(Sight::FaultWithoutRoom, self.room < self.text.len()),
+            _ => self.look_at_fault(sights),
         }
+    }
+
+    fn look_at_fault(&self, sights: &mut Sights) {
+        let Answer { number, moment: line, .. } = self.answer;
+        sights.look(Sight::FaultWithoutRoom, self.room < self.text.len());
+        sights.look(Sight::LimitsAtTheirLast, number == LIMITS && line > 2);
+        sights.look(Sight::LimitsAtLine2, number == LIMITS && line == 2);
     }
 
     fn look_at_spans(&self, sights: &mut Sights) {

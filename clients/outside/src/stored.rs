@@ -1,52 +1,61 @@
-//! The stored calls of reference/vectors, one a line, made and held to what stands beside them. The files leave out what is the same in
-//! all of them: windows 9 to 96 are in remainder and have waited 0. What a board's numbers are after a call is worked out.
+//! The stored calls of reference/vectors, one a line, made and held to what stands beside them. What a line leaves out at the end of a table's
+//! values of a, of its entries and of a summary is 0. What a board's numbers are after a call is worked out.
 
 use crate::boards;
 use crate::calls::{self, Verdict};
-use funnelfawn::raw::{BOARD, DEADLINES, SUMMARY, TABLE};
+use crate::handed::Handed;
+use funnelfawn::raw::{AT_A, BOARD, DEADLINES, HEADER, SUMMARY, TABLE};
 use reference::answer::{answer, bare, Answer, ACCEPTED, NO_TABLE, SHORT_OUTPUT};
 use reference::board::Entry;
 use reference::board_list::BoardCall;
-use reference::machine::Values;
 
 /// What fills the lists of a reading, and the elements that are lent past a table, a summary and the steps of a writing.
 const FILLED: u64 = 7777;
 const PAST: [u64; 3] = [FILLED; 3];
 
+/// `n b c | a .. | answer | table after`, of both engines, whose fresh tables have the same numbers before their entries; nothing stands behind a
+/// refusal. Into lists that are longer, just as long as the table, and short by one number.
+pub fn fresh(line: &str) -> Verdict {
+    let [values, a, answer, after] = fields(line)?;
+    let (handed, answer) = (handed(values, a)?, answer_in(answer)?);
+    each_room(answer, (after, TABLE), |room, wanted| calls::fresh(&handed, room, wanted))?;
+    each_room(answer, (after, DEADLINES), |room, wanted| calls::fresh_deadlines(&handed, room, wanted))
+}
+
 /// `table | act window moment | answer | table after`
 pub fn step(line: &str) -> Verdict {
     let [table, call, answer, after] = fields(line)?;
-    calls::step(&padded(table, TABLE)?, fixed(call)?, (answer_in(answer)?, &padded(after, TABLE)?))
+    calls::step(&tabled(table, TABLE)?, fixed(call)?, (answer_in(answer)?, &tabled(after, TABLE)?))
 }
 
 /// `table | summary | act window moment | answer | table after | summary after`
 pub fn recorded(line: &str) -> Verdict {
     let [table, summary, call, answer, table_after, summary_after] = fields(line)?;
-    let wanted = (answer_in(answer)?, &padded(table_after, TABLE)?[..], &padded(summary_after, SUMMARY)?[..]);
-    calls::record(&padded(table, TABLE)?, &padded(summary, SUMMARY)?, fixed(call)?, wanted)
+    let wanted = (answer_in(answer)?, &tabled(table_after, TABLE)?[..], &padded(summary_after, SUMMARY)?[..]);
+    calls::record(&tabled(table, TABLE)?, &padded(summary, SUMMARY)?, fixed(call)?, wanted)
 }
 
-/// `text in hex | lengths of times, windows, acts | answer | n a b c | the three lists after`
+/// `text in hex | lengths of a, times, windows, acts | answer | n b c | the four lists after`
 pub fn reader(line: &str) -> Verdict {
     let [text, lengths, answer, values, after] = fields(line)?;
-    let lengths: [u64; 3] = fixed(lengths)?;
+    let lengths: [u64; 4] = fixed(lengths)?;
     let lists = lengths.map(|length| vec![FILLED; length as usize]);
     let mut left = numbers(&after.replace(['[', ']', ','], " "))?.into_iter();
     let after = lengths.map(|length| left.by_ref().take(length as usize).collect::<Vec<u64>>());
     if left.next().is_some() {
         return Err("more numbers than the lists have places".into());
     }
-    calls::read(&bytes(text)?, &lists, (answer_in(answer)?, values_in(values)?, &after))
+    calls::read(&bytes(text)?, &lists, (answer_in(answer)?, fixed(values)?, &after))
 }
 
-/// `n a b c | time window act ... | length of the output | answer | output after`
+/// `n b c | a .. | time window act .. | length of the output | answer | output after`
 pub fn writer(line: &str) -> Verdict {
-    let [values, steps, length, answer, after] = fields(line)?;
+    let [values, a, steps, length, answer, after] = fields(line)?;
     let steps = numbers(steps)?;
     let column = |number: usize| steps.iter().skip(number).step_by(3).copied().collect::<Vec<u64>>();
     // the shortest of the three lists sets the number of steps
     let lists = [column(0), [column(1), vec![FILLED]].concat(), [column(2), PAST.to_vec()].concat()];
-    calls::write(values_in(values)?, &lists, &output(length)?, (answer_in(answer)?, &quoted(after)))
+    calls::write(&handed(values, a)?, &lists, &output(length)?, (answer_in(answer)?, &quoted(after)))
 }
 
 /// `text in hex | length of the output | answer | output after`
@@ -59,7 +68,7 @@ pub fn spans(line: &str) -> Verdict {
 /// one with a number too few, which tells none
 pub fn deadline(line: &str) -> Verdict {
     let [deadlines, call, answer, after] = fields(line)?;
-    let (deadlines, after) = (padded(deadlines, DEADLINES)?, padded(after, DEADLINES)?);
+    let (deadlines, after) = (tabled(deadlines, DEADLINES)?, tabled(after, DEADLINES)?);
     let (call, answer) = (fixed(call)?, answer_in(answer)?);
     calls::step_deadlines(&deadlines, call, (answer, &after))?;
     calls::step_deadlines(&deadlines[..DEADLINES], call, (answer, &after[..DEADLINES]))?;
@@ -87,18 +96,28 @@ fn turned(
     answer: Answer,
     (after, needed): (&str, usize),
 ) -> Verdict {
-    let given = padded(given, length)?;
-    let filled = vec![FILLED; needed + PAST.len()];
-    // refused, a list stays as it was
-    let is_told = answer.number == ACCEPTED;
-    let left = if is_told { padded(after, needed)? } else { filled.clone() };
+    let given = tabled(given, length)?;
     for given in [&given[..], &given[..length]] {
-        call(given, &filled, (answer, &left))?;
-        call(given, &filled[..needed], (answer, &left[..needed]))?;
-        let short = &filled[..needed - 1];
-        call(given, short, (if is_told { bare(SHORT_OUTPUT) } else { answer }, short))?;
+        each_room(answer, (after, needed), |room, wanted| call(given, room, wanted))?;
     }
+    let filled = vec![FILLED; needed];
     call(&given[..length - 1], &filled, (bare(NO_TABLE), &filled))
+}
+
+/// A call that puts a table, which has so many numbers, into a list: into one that is longer, one that is just as long, and one with a number too
+/// few. Refused, each stays as it was.
+fn each_room(
+    answer: Answer,
+    (after, needed): (&str, usize),
+    call: impl Fn(&[u64], (Answer, &[u64])) -> Verdict,
+) -> Verdict {
+    let filled = vec![FILLED; needed + PAST.len()];
+    let is_told = answer.number == ACCEPTED;
+    let left = if is_told { tabled(after, needed)? } else { filled.clone() };
+    call(&filled, (answer, &left))?;
+    call(&filled[..needed], (answer, &left[..needed]))?;
+    let short = &filled[..needed - 1];
+    call(short, (if is_told { bare(SHORT_OUTPUT) } else { answer }, short))
 }
 
 /// The calls of board.txt, all on one lent list: each gets what the one before left.
@@ -186,11 +205,26 @@ fn fixed<const COUNT: usize>(field: &str) -> Result<[u64; COUNT], String> {
     numbers(field)?.try_into().map_err(|_| format!("not {COUNT} numbers: {field}"))
 }
 
-/// The numbers of a whole table or summary, and a few past it.
+/// The numbers of a whole list, of which those left out are 0, and a few past it.
 fn padded(field: &str, length: usize) -> Result<Vec<u64>, String> {
     let mut all = numbers(field)?;
     all.resize(length, 0);
     all.extend(PAST);
+    Ok(all)
+}
+
+/// Those of a table of either kind: `n b c clock word ; a .. ; entries ..`
+fn tabled(field: &str, length: usize) -> Result<Vec<u64>, String> {
+    let parts: Vec<&str> = field.split(';').collect();
+    let &[first, a, entries] = &parts[..] else { return Err(format!("no table: {field}")) };
+    let mut all = numbers(first)?;
+    let mut values = numbers(a)?;
+    if all.len() != AT_A || values.len() > HEADER - AT_A {
+        return Err(format!("too many or too few numbers before the entries: {field}"));
+    }
+    values.resize(HEADER - AT_A, 0);
+    all.extend(values);
+    all.extend(padded(entries, length - HEADER)?);
     Ok(all)
 }
 
@@ -199,9 +233,10 @@ fn answer_in(field: &str) -> Result<Answer, String> {
     Ok(answer(number, window, moment))
 }
 
-fn values_in(field: &str) -> Result<Values, String> {
-    let [n, a, b, c] = fixed(field)?;
-    Ok(Values { n, a, b, c })
+/// `n b c`, and the list of values of a as it is lent.
+fn handed(values: &str, a: &str) -> Result<Handed, String> {
+    let [n, b, c] = fixed(values)?;
+    Ok(Handed { n, b, c, a: numbers(a)? })
 }
 
 /// An output of so many bytes, as it is before the call.

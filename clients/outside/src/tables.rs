@@ -1,6 +1,7 @@
 //! Sound tables for a walk to start from, those that no walk reaches too.
 
 use reference::generator::random::Random;
+use reference::generator::walk::any_values;
 use reference::machine::*;
 
 /// A fresh table, or one with any places, no seller or one or two or more, at any clock, its end too; or with nobody in remainder, and with
@@ -14,18 +15,20 @@ pub fn start(random: &mut Random) -> Table {
     }
 }
 
+/// Windows that all have the same a, or each its own.
 fn values(random: &mut Random) -> Values {
     let n = random.pick(&[1, 2, 3, 8, 24, 95, 96]);
     let limits = [
-        (1, 2, 2),
-        (5, 6, 6),
-        (5, 8, 12),
-        (2, 6, 30),
-        (1, 9_999_999, LIMIT_END),
-        (9_999_999, LIMIT_END, LIMIT_END),
+        [1, 2, 2],
+        [5, 6, 6],
+        [5, 8, 12],
+        [2, 6, 30],
+        [9, 40, 60],
+        [1, 9_999_999, LIMIT_END],
+        [9_999_999, LIMIT_END, LIMIT_END],
     ];
-    let (a, b, c) = random.pick(&limits);
-    Values { n, a, b, c }
+    let picked = random.pick(&limits);
+    any_values(random, n, picked)
 }
 
 fn busy(random: &mut Random, mut table: Table) -> Table {
@@ -37,9 +40,9 @@ fn busy(random: &mut Random, mut table: Table) -> Table {
     };
     table.word = random.between(0, table.values.n);
     let percent = random.pick(&[20, 60, 100]);
-    for window in 0..table.values.n as usize {
+    for window in 1..=table.values.n {
         if random.chance(percent) {
-            table.places[window] = place(random, &table);
+            table.places[window as usize - 1] = place(random, &table, window);
         }
     }
     seat_sellers(random, &mut table);
@@ -64,17 +67,19 @@ fn seat_sellers(random: &mut Random, table: &mut Table) {
 fn level(random: &mut Random, mut table: Table) -> Table {
     table.clock = random.pick(&[LIMIT_END, CLOCK_END / 2, CLOCK_END - LIMIT_END, CLOCK_END - 1, CLOCK_END]);
     table.word = random.between(0, table.values.n);
-    let Values { n, a, c, .. } = table.values;
-    let first = random.between(table.clock, table.clock + a - 1);
-    for window in 0..n as usize {
+    let Values { n, c, a, .. } = table.values;
+    // no later than any window may have come
+    let smallest = a[..n as usize].iter().min().expect("at least one window");
+    let first = random.between(table.clock, table.clock + smallest - 1);
+    for (place, own) in table.places.iter_mut().zip(&a[..n as usize]) {
         let latest = first + u64::from(random.chance(20));
-        table.places[window] = timed_place(random, latest - a, latest - c);
+        *place = timed_place(random, latest - own, latest - c);
     }
     table
 }
 
 /// A place with an arrival that is sound, at an edge now and then.
-fn place(random: &mut Random, table: &Table) -> Place {
+fn place(random: &mut Random, table: &Table, window: u64) -> Place {
     let mut arrival = |limit| {
         let first = table.clock.saturating_sub(limit);
         match random.below(40) {
@@ -83,7 +88,7 @@ fn place(random: &mut Random, table: &Table) -> Place {
             _ => random.between(first, table.clock),
         }
     };
-    let (timed, checked) = (arrival(table.values.a), arrival(table.values.c));
+    let (timed, checked) = (arrival(table.values.a_of(window)), arrival(table.values.c));
     if random.below(7) == 0 {
         return Place::Selling;
     }

@@ -3,6 +3,7 @@
 
 use crate::calls::{self, Verdict};
 use crate::course::Course;
+use crate::handed::handed;
 use crate::lists::{lent_summary, lent_table, Made};
 use crate::sights::Sight;
 use crate::tally::{of_board, of_other, Outcome};
@@ -11,7 +12,6 @@ use reference::answer::{bare, Answer, ACCEPTED};
 use reference::board::Told;
 use reference::board_list::BoardCall;
 use reference::generator::random::Random;
-use reference::machine::Values;
 
 pub struct Walk {
     pub random: Random,
@@ -41,19 +41,13 @@ impl Walk {
     }
 
     fn fresh(&mut self) -> (Answer, Verdict) {
-        let Values { n, a, b, c } = self.own.table.values;
-        let mut values = [n, a, b, c];
-        if self.random.chance(70) {
-            let place = self.random.index(values.len());
-            values[place] = acts::any_number(&mut self.random, values[place]);
-        }
-        let [n, a, b, c] = values;
-        let values = Values { n, a, b, c };
+        let handed = handed(&mut self.random, &self.own.table.values);
         let lent = lent_table(&mut self.random, &self.own.table, 50).numbers;
         let mut after = lent.clone();
-        let answer = expected::fresh(values, &mut after);
-        let verdict = calls::fresh(values, &lent, (answer, &after));
-        (answer, verdict.map_err(|what| format!("fresh {values:?}: {what}")))
+        let answer = expected::fresh(handed.values(), &mut after);
+        handed.look(answer, &mut self.own.sights);
+        let verdict = calls::fresh(&handed, &lent, (answer, &after));
+        (answer, verdict.map_err(|what| format!("fresh {handed:?}: {what}")))
     }
 
     fn new_summary(&mut self) -> (Answer, Verdict) {

@@ -173,7 +173,9 @@ pub fn record_and_tell(
 
 /// As [`fresh`]: refused, the list is as it was.
 pub fn fresh_deadlines(n: u64, b: u64, c: u64, a: &[u64], deadlines: &mut [u64]) -> Answer {
-    unsafe { funnelfawn_fresh_deadlines(n, b, c, a.as_ptr(), a.len(), deadlines.as_mut_ptr(), deadlines.len()) }
+    unsafe {
+        funnelfawn_fresh_deadlines(n, b, c, a.as_ptr(), a.len(), deadlines.as_mut_ptr(), deadlines.len())
+    }
 }
 
 pub fn step_deadlines(deadlines: &mut [u64], act: u64, window: u64, moment: u64) -> Answer {

@@ -1,7 +1,7 @@
 //! The foyer board: what counts, its ring, and the acts that tell it.
 
 use funnelfawn::Act::*;
-use funnelfawn::{raw, Accepted, Act, Board, Figures, Place, Refusal, Summary, Table};
+use funnelfawn::{raw, Accepted, Act, Board, Figures, Limits, Place, Refusal, Summary, Table};
 
 const PLACES: u64 = raw::PLACES as u64;
 
@@ -72,7 +72,7 @@ struct Sale {
 impl Sale {
     /// Of two windows, on a board of the last w.
     fn new(w: u64) -> Sale {
-        let table = Table::fresh(2, 5, 8, 12).unwrap();
+        let table = Table::fresh(&Limits::equal(2, 5, 8, 12)).unwrap();
         Sale { table, summary: Summary::new(), board: Board::set_up(w).unwrap() }
     }
 

@@ -1,14 +1,16 @@
 //! The second engine, on first and last moments: the whole case through both, what is refused, and the way from one kind of table to the
 //! other and back.
 
-use funnelfawn::raw::{self, Answer, DEADLINES, DEADLINES_STRIDE, HEADER, TABLE};
+use funnelfawn::raw::{self, Answer, AT_A, AT_B, AT_C, AT_CLOCK, AT_N, AT_WORD};
+use funnelfawn::raw::{DEADLINES, DEADLINES_STRIDE, HEADER, STRIDE, TABLE};
 use funnelfawn::Act::*;
-use funnelfawn::{read, replay, Accepted, Act, DeadlineTable, Moments, Place, Refusal, Step, Table};
+use funnelfawn::{read, replay, Accepted, Act, DeadlineTable, Limits, Moments, Place, Refusal, Step, Table};
 
 const WHOLE_CASE: &[u8] = include_bytes!("../../../examples/two-windows.csv");
 const WITHDRAWS: &[u8] = include_bytes!("../../../examples/withdraw.csv");
 const SALES: &[u8] = include_bytes!("../../../examples/spans.csv");
 const WAITS: &[u8] = include_bytes!("../../c/waits.csv");
+const TILLS: &[u8] = include_bytes!("../../c/tills.csv");
 
 const END: u64 = 1_000_000_000_000;
 const PAST: u64 = 7777;
@@ -41,12 +43,13 @@ fn assert_match(table: &Table, deadlines: &DeadlineTable) {
 /// The lines that `replay` prints, from the answers of both engines.
 fn by_both(text: &[u8]) -> (String, Table, DeadlineTable) {
     let recording = read(text).unwrap();
-    let (n, a, b, c) = (recording.n, recording.a, recording.b, recording.c);
     let (mut table, mut deadlines) =
-        (Table::fresh(n, a, b, c).unwrap(), DeadlineTable::fresh(n, a, b, c).unwrap());
+        (Table::fresh(&recording.limits).unwrap(), DeadlineTable::fresh(&recording.limits).unwrap());
     assert_match(&table, &deadlines);
     let mut report = String::from("line,answer,window,moment\n");
-    for (line, Step { moment, window, act }) in (4..).zip(recording.steps) {
+    // the lines of the steps are the last ones
+    let lines = text.iter().filter(|&&byte| byte == b'\n').count();
+    for (line, Step { moment, window, act }) in (lines - recording.steps.len() + 1..).zip(recording.steps) {
         let mut raw = *deadlines.numbers();
         let answer = raw::step_deadlines(&mut raw, act, window, moment);
         report += &format!("{line},{},{},{}\n", answer.number, answer.window, answer.moment);
@@ -62,7 +65,7 @@ fn by_both(text: &[u8]) -> (String, Table, DeadlineTable) {
 fn the_whole_case() {
     let (report, table, deadlines) = by_both(WHOLE_CASE);
     assert_eq!(report.into_bytes(), replay(WHOLE_CASE));
-    assert_eq!((deadlines.windows(), deadlines.limits()), (2, [5, 8, 12]));
+    assert_eq!((deadlines.windows(), deadlines.limits()), (2, Limits::equal(2, 5, 8, 12)));
     assert_eq!((deadlines.clock(), deadlines.word()), (20, 2));
     let places = [0, 1, 2, 3, u64::MAX].map(|window| deadlines.place(window));
     let testing = (Place::Testing, Some(Moments { first: 20, last: 25 }));
@@ -72,7 +75,7 @@ fn the_whole_case() {
 
 #[test]
 fn other_recordings() {
-    for text in [WITHDRAWS, SALES, WAITS] {
+    for text in [WITHDRAWS, SALES, WAITS, TILLS] {
         let (report, ..) = by_both(text);
         assert_eq!(report.into_bytes(), replay(text));
     }
@@ -81,7 +84,7 @@ fn other_recordings() {
 /// Window 96 goes once round: place, first and last moment after each act, [12.60].
 #[test]
 fn first_and_last_moments() {
-    let mut deadlines = DeadlineTable::fresh(96, 5, 8, 12).unwrap();
+    let mut deadlines = DeadlineTable::fresh(&Limits::equal(96, 5, 8, 12)).unwrap();
     let timed = |place, first, last| (place, Some(Moments { first, last }));
     let round: [(Act, u64, (Place, Option<Moments>)); 11] = [
         (Try, 2, timed(Place::Testing, 2, 7)),
@@ -111,7 +114,7 @@ fn first_and_last_moments() {
 
 /// Window 1 came to checking at 0, and the clock is at 7: it may check from 8 to 12.
 fn checking() -> DeadlineTable {
-    let mut deadlines = DeadlineTable::fresh(2, 5, 8, 12).unwrap();
+    let mut deadlines = DeadlineTable::fresh(&Limits::equal(2, 5, 8, 12)).unwrap();
     for (act, window, moment) in [(Try, 1, 0), (Test, 1, 0), (Set, 1, 0), (Wait, 0, 7)] {
         deadlines.step(act, window, moment).unwrap();
     }
@@ -143,24 +146,24 @@ fn refused_acts() {
 
 #[test]
 fn refused_fresh_ones() {
-    assert_eq!(DeadlineTable::fresh(0, 5, 8, 12), Err(Refusal::WindowCount));
-    assert_eq!(DeadlineTable::fresh(97, 5, 5, 12), Err(Refusal::WindowCount));
-    assert_eq!(DeadlineTable::fresh(96, 5, 5, 6), Err(Refusal::Limits));
-    assert_eq!(DeadlineTable::fresh(96, 5, 6, 10_000_001), Err(Refusal::Limits));
-    assert!(DeadlineTable::fresh(96, 5, 6, 6).is_ok());
+    assert_eq!(DeadlineTable::fresh(&Limits::equal(0, 5, 8, 12)), Err(Refusal::WindowCount));
+    assert_eq!(DeadlineTable::fresh(&Limits::equal(97, 5, 5, 12)), Err(Refusal::WindowCount));
+    assert_eq!(DeadlineTable::fresh(&Limits::equal(96, 5, 5, 6)), Err(Refusal::Limits));
+    assert_eq!(DeadlineTable::fresh(&Limits::equal(96, 5, 6, 10_000_001)), Err(Refusal::Limits));
+    assert!(DeadlineTable::fresh(&Limits::equal(96, 5, 6, 6)).is_ok());
 }
 
 /// At that clock, of two windows with the limits 5, 8 and 12, of which window 1 is there.
 fn at(clock: u64, place: u64, first: u64, last: u64) -> [u64; DEADLINES] {
-    let mut numbers = *DeadlineTable::fresh(2, 5, 8, 12).unwrap().numbers();
-    numbers[4] = clock;
+    let mut numbers = *DeadlineTable::fresh(&Limits::equal(2, 5, 8, 12)).unwrap().numbers();
+    numbers[AT_CLOCK] = clock;
     numbers[HEADER..HEADER + DEADLINES_STRIDE].copy_from_slice(&[place, first, last]);
     numbers
 }
 
 fn is_sound(numbers: [u64; DEADLINES]) -> bool {
     let mut deadlines = DeadlineTable::from_numbers(numbers);
-    let outcome = deadlines.step(Wait, 0, numbers[4]);
+    let outcome = deadlines.step(Wait, 0, numbers[AT_CLOCK]);
     // a wait at the clock changes nothing, nor does a refusal
     assert_eq!(*deadlines.numbers(), numbers);
     let table = deadlines.into_table();
@@ -220,23 +223,28 @@ fn no_place_and_moments_beside_none() {
     }
 }
 
-/// One number past each rule of the first six, and a window above n.
+/// One number past each rule of those before the entries, and a window above n.
 #[test]
 fn no_deadline_table() {
     let sound = at(20, 1, 18, 23);
     assert!(is_sound(sound));
     let above = HEADER + 2 * DEADLINES_STRIDE;
     for (place, number) in [
-        (0, 0),
-        (0, 97),
-        (1, 0),
-        (1, 8),
-        (2, 5),
-        (2, 13),
-        (3, 7),
-        (3, 10_000_001),
-        (4, END + 1),
-        (5, 3),
+        (AT_N, 0),
+        (AT_N, 97),
+        (AT_B, 5),
+        (AT_B, 13),
+        (AT_C, 7),
+        (AT_C, 10_000_001),
+        (AT_CLOCK, END + 1),
+        (AT_WORD, 3),
+        (AT_A, 0),
+        (AT_A, 4),
+        (AT_A, 6),
+        (AT_A + 1, 0),
+        (AT_A + 1, 8),
+        (AT_A + 2, 5),
+        (HEADER - 1, 5),
         (above, 5),
     ] {
         let mut numbers = sound;
@@ -248,8 +256,10 @@ fn no_deadline_table() {
 /// A table that is not sound is refused on its way, too.
 #[test]
 fn no_table() {
-    let mut numbers = *Table::fresh(2, 5, 8, 12).unwrap().numbers();
-    for (place, number) in [(5, 3), (HEADER, 8), (HEADER + 1, 1), (4, END + 1)] {
+    let mut numbers = *Table::fresh(&Limits::equal(2, 5, 8, 12)).unwrap().numbers();
+    for (place, number) in
+        [(AT_WORD, 3), (HEADER, 8), (HEADER + 1, 1), (AT_CLOCK, END + 1), (AT_A, 8), (AT_A + 2, 1)]
+    {
         let sound = std::mem::replace(&mut numbers[place], number);
         assert_eq!(DeadlineTable::from_table(Table::from_numbers(numbers)), Err(Refusal::NoTable));
         numbers[place] = sound;
@@ -268,9 +278,9 @@ fn short_lists() {
         let short = &mut whole[..length];
         assert_eq!(raw::step_deadlines(short, 0, 0, 7), bare(1));
         assert_eq!(raw::to_arrivals(short, &mut arrivals), bare(1));
-        assert_eq!(raw::fresh_deadlines(2, 5, 8, 12, short), bare(16));
-        assert_eq!(raw::fresh_deadlines(97, 5, 5, 12, short), bare(11));
-        assert_eq!(raw::fresh_deadlines(96, 5, 5, 12, short), bare(12));
+        assert_eq!(raw::fresh_deadlines(2, 8, 12, &[5, 7], short), bare(16));
+        assert_eq!(raw::fresh_deadlines(97, 5, 12, &[5; 97], short), bare(11));
+        assert_eq!(raw::fresh_deadlines(96, 5, 12, &[5; 96], short), bare(12));
         assert_eq!(raw::to_deadlines(&table, short), bare(16));
         assert_eq!(raw::to_deadlines(&table[..TABLE - 1], short), bare(1));
         assert_eq!((whole, arrivals), (deadlines, [PAST; TABLE]));
@@ -289,25 +299,25 @@ fn short_lists() {
 #[test]
 fn longer_lists() {
     let mut long = [PAST; DEADLINES + 3];
-    assert_eq!(raw::fresh_deadlines(2, 5, 8, 12, &mut long), bare(0));
+    assert_eq!(raw::fresh_deadlines(2, 8, 12, &[5, 5], &mut long), bare(0));
     assert_eq!(raw::step_deadlines(&mut long, 1, 2, 4), Answer { number: 0, window: 0, moment: 4 });
     assert_eq!(raw::step_deadlines(&mut long, 1, 2, 4), Answer { number: 9, window: 2, moment: 0 });
-    let mut left = DeadlineTable::fresh(2, 5, 8, 12).unwrap().numbers().to_vec();
-    left[4] = 4;
+    let mut left = DeadlineTable::fresh(&Limits::equal(2, 5, 8, 12)).unwrap().numbers().to_vec();
+    left[AT_CLOCK] = 4;
     left[HEADER + DEADLINES_STRIDE..HEADER + 2 * DEADLINES_STRIDE].copy_from_slice(&[1, 4, 9]);
     left.extend([PAST; 3]);
     assert_eq!(long[..], left);
     let mut table = [PAST; TABLE + 3];
     assert_eq!(raw::to_arrivals(&long, &mut table), bare(0));
     assert_eq!(
-        (table[HEADER + 2..HEADER + 4].to_vec(), table[TABLE..].to_vec()),
+        (table[HEADER + STRIDE..HEADER + 2 * STRIDE].to_vec(), table[TABLE..].to_vec()),
         (vec![1, 4], vec![PAST; 3])
     );
     let mut again = [PAST; DEADLINES + 3];
     assert_eq!(raw::to_deadlines(&table, &mut again), bare(0));
     assert_eq!(again, long);
     // refused, all of it stays
-    table[5] = 3;
+    table[AT_WORD] = 3;
     again.fill(PAST);
     assert_eq!(raw::to_deadlines(&table, &mut again), bare(1));
     assert_eq!(again, [PAST; DEADLINES + 3]);

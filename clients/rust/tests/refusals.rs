@@ -1,12 +1,12 @@
 //! Each refusal, 1 to 18, with what it carries, and what it leaves of the table, the summary and the board.
 
-use funnelfawn::{raw, read, Act, Board, Place, Recording, Refusal, Step, Summary, Table};
+use funnelfawn::{raw, read, Act, Board, Limits, Place, Recording, Refusal, Step, Summary, Table};
 
 const END: u64 = 1_000_000_000_000;
 
 /// Window 1 came to checking at 0, and the clock is at 7: its earliest moment is 8 and its latest 12.
 fn checking() -> Table {
-    let mut table = Table::fresh(2, 5, 8, 12).unwrap();
+    let mut table = Table::fresh(&Limits::equal(2, 5, 8, 12)).unwrap();
     for (act, window, moment) in [(Act::Try, 1, 0), (Act::Test, 1, 0), (Act::Set, 1, 0), (Act::Wait, 0, 7)] {
         table.step(act, window, moment).unwrap();
     }
@@ -40,7 +40,7 @@ fn acts() {
 fn no_table() {
     let mut numbers = *checking().numbers();
     // the word is no window of this table [2.50]
-    numbers[5] = 3;
+    numbers[raw::AT_WORD] = 3;
     let (mut table, mut summary) = (Table::from_numbers(numbers), Summary::new());
     assert_eq!(table.step(Act::Wait, 0, 7), Err(Refusal::NoTable));
     assert_eq!(table.record(&mut summary, Act::Wait, 0, 7), Err(Refusal::NoTable));
@@ -66,10 +66,12 @@ fn no_summary_and_summary_full() {
 
 #[test]
 fn fresh_tables() {
-    assert_eq!(Table::fresh(0, 5, 8, 12), Err(Refusal::WindowCount));
-    assert_eq!(Table::fresh(97, 5, 5, 12), Err(Refusal::WindowCount));
-    assert_eq!(Table::fresh(96, 5, 5, 6), Err(Refusal::Limits));
-    assert!(Table::fresh(96, 5, 6, 6).is_ok());
+    assert_eq!(Table::fresh(&Limits::equal(0, 5, 8, 12)), Err(Refusal::WindowCount));
+    assert_eq!(Table::fresh(&Limits::equal(97, 5, 5, 12)), Err(Refusal::WindowCount));
+    assert_eq!(Table::fresh(&Limits::equal(96, 5, 5, 6)), Err(Refusal::Limits));
+    assert!(Table::fresh(&Limits::equal(96, 5, 6, 6)).is_ok());
+    // more than can be counted out
+    assert_eq!(Table::fresh(&Limits::equal(u64::MAX, 5, 8, 12)), Err(Refusal::WindowCount));
 }
 
 #[test]
@@ -80,27 +82,41 @@ fn recordings() {
     assert_eq!(read(b"windows,a,b,c\n2,5,8,12\n"), Err(Refusal::Names { line: 3 }));
     let five = b"windows,a,b,c\n2,5,8,12\ntime,window,act\n0,1,try\n00,1,test\n";
     assert_eq!(read(five), Err(Refusal::Line { line: 5 }));
+    assert_eq!(read(b"windows,b,c\n97,8,12\n"), Err(Refusal::WindowCount));
+    assert_eq!(read(b"windows,b,c\n2,8,7\ntime,window,act\n"), Err(Refusal::Names { line: 3 }));
+    assert_eq!(read(b"windows,b,c\n2,8,7\nwindow,a\n2,5\n"), Err(Refusal::Line { line: 4 }));
+    assert_eq!(read(b"windows,b,c\n2,8,7\nwindow,a\n1,5\n"), Err(Refusal::Line { line: 5 }));
+    assert_eq!(read(b"windows,b,c\n2,8,7\nwindow,a\n1,5\n2,5\n"), Err(Refusal::Limits));
+    assert_eq!(read(b"windows,b,c\n2,8,12\nwindow,a\n1,5\n2,5\n"), Err(Refusal::Names { line: 6 }));
+    let eight = b"windows,b,c\n2,8,12\nwindow,a\n1,5\n2,5\ntime,window,act\n0,1,try\n00,1,test\n";
+    assert_eq!(read(eight), Err(Refusal::Line { line: 8 }));
     assert_eq!(read(&[b'#'; 65_537]), Err(Refusal::Length));
 }
 
 #[test]
 fn writings() {
     let step = Step { moment: 9_999_999_999_999, window: 99_999_999, act: 9 };
-    let good = Recording { n: 2, a: 5, b: 8, c: 12, steps: vec![step; 3] };
+    let good = Recording { limits: Limits::equal(2, 5, 8, 12), steps: vec![step; 3] };
     assert!(good.write().is_ok());
-    assert_eq!(Recording { n: 0, ..good.clone() }.write(), Err(Refusal::WindowCount));
-    assert_eq!(Recording { a: 8, ..good.clone() }.write(), Err(Refusal::Limits));
+    let with_limits = |limits| Recording { limits, ..good.clone() }.write();
+    for n in [0, 97, u64::MAX] {
+        assert_eq!(with_limits(Limits::equal(n, 5, 8, 12)), Err(Refusal::WindowCount));
+    }
+    for a in [vec![8, 5], vec![5, 8], vec![5, 0], vec![5, u64::MAX]] {
+        assert_eq!(with_limits(Limits { a, b: 8, c: 12 }), Err(Refusal::Limits));
+    }
     let with = |odd| Recording { steps: vec![step, odd, odd], ..good.clone() }.write();
-    let fifth = Err(Refusal::Line { line: 5 });
-    assert_eq!(with(Step { moment: 10_000_000_000_000, ..step }), fifth);
-    assert_eq!(with(Step { window: 100_000_000, ..step }), fifth);
-    assert_eq!(with(Step { act: 10, ..step }), fifth);
+    // the first step is on line 5 + n
+    let eighth = Err(Refusal::Line { line: 8 });
+    assert_eq!(with(Step { moment: 10_000_000_000_000, ..step }), eighth);
+    assert_eq!(with(Step { window: 100_000_000, ..step }), eighth);
+    assert_eq!(with(Step { act: 10, ..step }), eighth);
     assert_eq!(Recording { steps: vec![step; 8_187], ..good }.write(), Err(Refusal::Length));
 }
 
 #[test]
 fn short_output() {
-    let short = raw::fresh(2, 5, 8, 12, &mut [0; raw::TABLE - 1]);
+    let short = raw::fresh(2, 8, 12, &[5, 7], &mut [0; raw::TABLE - 1]);
     assert_eq!(short.result(), Err(Refusal::ShortOutput));
 }
 

@@ -8,8 +8,11 @@ use funnelfawn::{read, replay, spans, spans_text, Fault, Refusal, Span};
 const WHOLE_CASE: &[u8] = include_bytes!("../../../examples/two-windows.csv");
 const WAITS: &[u8] = include_bytes!("../../c/waits.csv");
 const REFUSED_BETWEEN: &[u8] = include_bytes!("../../../examples/spans.csv");
+/// Two tills of different age.
+const TILLS: &[u8] = include_bytes!("../../c/tills.csv");
 
-const HEAD: &str = "windows,a,b,c\n2,5,8,12\ntime,window,act\n";
+const HEAD: &str = "windows,b,c\n2,8,12\nwindow,a\n1,5\n2,5\ntime,window,act\n";
+const FORMER_HEAD: &str = "windows,a,b,c\n2,5,8,12\ntime,window,act\n";
 const NAMES: &str = "window,from,to\n";
 
 /// Three sales of one window, of which the second takes no time; nothing that another window does or that is refused ends one.
@@ -42,6 +45,8 @@ fn open_and_closed() {
     assert_spans(WAITS, &[closed(1, 150, 900), open(2, 1000)], "1,150,900\n2,1000,-\n");
     let three = [closed(1, 8, 15), closed(1, 25, 25), closed(1, 34, 40)];
     assert_spans(&recording(THREE), &three, "1,8,15\n1,25,25\n1,34,40\n");
+    assert_spans([FORMER_HEAD, THREE].concat().as_bytes(), &three, "1,8,15\n1,25,25\n1,34,40\n");
+    assert_spans(TILLS, &[closed(1, 55, 80), open(2, 190)], "1,55,80\n2,190,-\n");
 }
 
 /// The lines that the README's table under "Sales for the accounts" shows of the report, and that of the other exit which it tells of.
@@ -56,6 +61,7 @@ fn the_report_in_the_readme() {
 #[test]
 fn no_span() {
     assert_spans(HEAD.as_bytes(), &[], "");
+    assert_spans(FORMER_HEAD.as_bytes(), &[], "");
     // nobody comes so far
     assert_spans(&recording("0,1,try\n0,1,crit\n0,1,exit\n"), &[], "");
 }
@@ -91,7 +97,7 @@ fn the_last_moment() {
 /// Each fault with the line that a report of the same text names; with 15, which is of no line, the report has 0.
 #[test]
 fn faults() {
-    let due: [(&str, Refusal, Option<u64>); 10] = [
+    let due: [(&str, Refusal, Option<u64>); 20] = [
         ("", Refusal::Names { line: 1 }, Some(1)),
         (NAMES, Refusal::Names { line: 1 }, Some(1)),
         ("windows,a,b,c\n", Refusal::Line { line: 2 }, Some(2)),
@@ -100,7 +106,17 @@ fn faults() {
         ("windows,a,b,c\n97,5,5,12\ntime", Refusal::WindowCount, Some(2)),
         ("windows,a,b,c\n2,5,5,12\n", Refusal::Limits, Some(2)),
         ("windows,a,b,c\n2,5,8,12\n", Refusal::Names { line: 3 }, Some(3)),
-        (&[HEAD, "0,1,try\n00,1,test\n"].concat(), Refusal::Line { line: 5 }, Some(5)),
+        (&[FORMER_HEAD, "0,1,try\n00,1,test\n"].concat(), Refusal::Line { line: 5 }, Some(5)),
+        ("windows,b,c\n", Refusal::Line { line: 2 }, Some(2)),
+        ("windows,b,c\n97,8,7\ntime", Refusal::WindowCount, Some(2)),
+        ("windows,b,c\n2,8,7\n", Refusal::Names { line: 3 }, Some(3)),
+        ("windows,b,c\n2,8,7\nwindow,a\n1,5\n", Refusal::Line { line: 5 }, Some(5)),
+        ("windows,b,c\n2,8,7\nwindow,a\n1,5\n3,5\n", Refusal::Line { line: 5 }, Some(5)),
+        ("windows,b,c\n2,8,7\nwindow,a\n1,5\n2,5\ntime", Refusal::Limits, Some(5)),
+        ("windows,b,c\n1,8,12\nwindow,a\n1,8\n", Refusal::Limits, Some(4)),
+        ("windows,b,c\n2,8,12\nwindow,a\n1,5\n2,0\n", Refusal::Limits, Some(5)),
+        ("windows,b,c\n2,8,12\nwindow,a\n1,5\n2,7\n", Refusal::Names { line: 6 }, Some(6)),
+        (&[HEAD, "0,1,try\n00,1,test\n"].concat(), Refusal::Line { line: 8 }, Some(8)),
         (&"#".repeat(raw::MOST_TEXT + 1), Refusal::Length, None),
     ];
     for (text, refusal, line) in due {
@@ -119,7 +135,9 @@ fn words_of_a_fault() {
     assert_eq!(words(b""), "line 1 is not the names line that it should be");
     assert_eq!(words(b"windows,a,b,c\n"), "line 2 differs from its form");
     assert_eq!(words(b"windows,a,b,c\n97,5,8,12\n"), "line 2: the number of windows is outside 1 to 96");
-    assert_eq!(words(b"windows,a,b,c\n2,8,8,12\n"), "line 2: a, b, c break 1 ≤ a < b ≤ c ≤ 10,000,000");
+    let limits = "the limits break 1 ≤ each a < b ≤ c ≤ 10,000,000";
+    assert_eq!(words(b"windows,a,b,c\n2,8,8,12\n"), format!("line 2: {limits}"));
+    assert_eq!(words(b"windows,b,c\n2,8,12\nwindow,a\n1,5\n2,8\n"), format!("line 5: {limits}"));
     assert_eq!(words(&[b'#'; raw::MOST_TEXT + 1]), "the text is longer than 65,536 bytes");
 }
 
@@ -161,6 +179,8 @@ fn a_fault_and_no_room() {
         let mut out = vec![b'~'; room];
         let answer = raw::spans(b"windows,a,b,c\n2,5,5,12\n", &mut out);
         assert_eq!(answer, Answer { number: 12, window: 0, moment: 2 });
+        let answer = raw::spans(b"windows,b,c\n2,5,12\nwindow,a\n1,4\n2,5\n", &mut out);
+        assert_eq!(answer, Answer { number: 12, window: 0, moment: 5 });
         assert_eq!(out, vec![b'~'; room]);
     }
 }

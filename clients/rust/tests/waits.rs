@@ -1,7 +1,7 @@
 //! Waits: what is unused time and whose, which numbers a summary may hold of it, and what they say beside the bound 2c + 5a.
 
 use funnelfawn::Act::*;
-use funnelfawn::{raw, read, Act, Board, Refusal, Step, Summary, Table};
+use funnelfawn::{raw, read, Act, Board, Limits, Refusal, Step, Summary, Table};
 
 const INPUT: &[u8] = include_bytes!("../../c/waits.csv");
 
@@ -14,7 +14,7 @@ struct Sale {
 
 impl Sale {
     fn new(a: u64, b: u64, c: u64) -> Sale {
-        let table = Table::fresh(2, a, b, c).unwrap();
+        let table = Table::fresh(&Limits::equal(2, a, b, c)).unwrap();
         Sale { table, summary: Summary::new(), board: Board::set_up(1_000_000_000).unwrap() }
     }
 
@@ -40,7 +40,7 @@ impl Sale {
 /// The second one, of 9, leaves the longest.
 #[test]
 fn a_wait_grows_until_the_entry() {
-    let mut table = Table::fresh(1, 5, 8, 12).unwrap();
+    let mut table = Table::fresh(&Limits::equal(1, 5, 8, 12)).unwrap();
     let mut summary = Summary::new();
     let first = [(7, Try, 0), (8, Test, 1), (9, Set, 2), (17, Check, 10), (18, Crit, 0), (19, Exit, 0)];
     let second = [
@@ -63,7 +63,7 @@ fn a_wait_grows_until_the_entry() {
 #[test]
 fn the_readme_s_wait() {
     let recording = read(INPUT).unwrap();
-    assert_eq!([recording.n, recording.a, recording.b, recording.c], [2, 80, 90, 100]);
+    assert_eq!(recording.limits, Limits::equal(2, 80, 90, 100));
     let mut sale = Sale::new(80, 90, 100);
     let mut entries = Vec::new();
     for Step { moment, window, act } in recording.steps {
@@ -103,7 +103,7 @@ fn a_wait_past_the_bound() {
 /// Of windows that are not trying, or past n, a number stays as it was lent; a try, a crit and a withdraw leave that of their own window 0.
 #[test]
 fn whose_it_is() {
-    let mut table = Table::fresh(3, 5, 8, 12).unwrap();
+    let mut table = Table::fresh(&Limits::equal(3, 5, 8, 12)).unwrap();
     for (act, window) in [(Wait, 0), (Try, 1), (Test, 1), (Set, 1), (Try, 2)] {
         table.step(act, window, 30).unwrap();
     }
@@ -130,7 +130,7 @@ fn whose_it_is() {
 #[test]
 fn at_most_the_clock() {
     for window in 1..=raw::WINDOWS {
-        let mut table = Table::fresh(1, 5, 8, 12).unwrap();
+        let mut table = Table::fresh(&Limits::equal(1, 5, 8, 12)).unwrap();
         table.step(Try, 1, 30).unwrap();
         let mut numbers = *Summary::new().numbers();
         numbers[raw::WAITED + window - 1] = 31;

@@ -1,7 +1,8 @@
-//! The whole case of the specification [7.60], answer by answer: by steps, by counted steps, and as a recording.
+//! The whole case of the specification [7.60], answer by answer: by steps, by counted steps, and as a recording, of the former shape as it
+//! is and of the one that is written now [7.65].
 
 use funnelfawn::Act::*;
-use funnelfawn::{read, replay, Accepted, Act, Place, Refusal, Step, Summary, Table};
+use funnelfawn::{read, replay, Accepted, Act, Limits, Place, Refusal, Step, Summary, Table};
 
 const INPUT: &[u8] = include_bytes!("../../../examples/two-windows.csv");
 
@@ -48,7 +49,7 @@ fn case() -> [(u64, u64, Act, Outcome); 13] {
 
 /// The table that the case leaves: the check of window 1 found the word of window 2.
 fn assert_left(table: &Table) {
-    assert_eq!((table.windows(), table.limits()), (2, [5, 8, 12]));
+    assert_eq!((table.windows(), table.limits()), (2, Limits::equal(2, 5, 8, 12)));
     assert_eq!((table.clock(), table.word()), (20, 2));
     assert_eq!(table.place(0), None);
     assert_eq!(table.place(1), Some((Place::Testing, Some(20))));
@@ -58,7 +59,7 @@ fn assert_left(table: &Table) {
 
 #[test]
 fn by_steps() {
-    let mut table = Table::fresh(2, 5, 8, 12).unwrap();
+    let mut table = Table::fresh(&Limits::equal(2, 5, 8, 12)).unwrap();
     for (moment, window, act, outcome) in case() {
         let before = *table.numbers();
         assert_eq!(table.step(act, window, moment), outcome);
@@ -69,7 +70,7 @@ fn by_steps() {
 
 #[test]
 fn by_counted_steps() {
-    let mut table = Table::fresh(2, 5, 8, 12).unwrap();
+    let mut table = Table::fresh(&Limits::equal(2, 5, 8, 12)).unwrap();
     let mut summary = Summary::new();
     for (moment, window, act, outcome) in case() {
         assert_eq!(table.record(&mut summary, act, window, moment), outcome);
@@ -87,8 +88,24 @@ fn by_counted_steps() {
 fn as_a_recording() {
     assert_eq!(String::from_utf8(replay(INPUT)).unwrap(), OUTPUT);
     let recording = read(INPUT).unwrap();
-    assert_eq!([recording.n, recording.a, recording.b, recording.c], [2, 5, 8, 12]);
+    assert_eq!(recording.limits, Limits::equal(2, 5, 8, 12));
     let steps = case().map(|(moment, window, act, _)| Step { moment, window, act: act.into() });
     assert_eq!(recording.steps, steps);
-    assert_eq!(recording.write().unwrap(), INPUT);
+}
+
+/// What is written has three lines more, so each answer stands three lines farther down; and it is written again as it is.
+#[test]
+fn as_it_is_written() {
+    let recording = read(INPUT).unwrap();
+    let written = recording.write().unwrap();
+    let steps = INPUT.strip_prefix(b"windows,a,b,c\n2,5,8,12\n").unwrap();
+    assert_eq!(written, [b"windows,b,c\n2,8,12\nwindow,a\n1,5\n2,5\n", steps].concat());
+    assert_eq!(read(&written).as_ref(), Ok(&recording));
+    assert_eq!(read(&written).unwrap().write(), Ok(written.clone()));
+    let moved = |line: &str| {
+        let (number, answer) = line.split_once(',').unwrap();
+        number.parse().map_or(format!("{line}\n"), |number: u64| format!("{},{answer}\n", number + 3))
+    };
+    let report: String = OUTPUT.lines().map(moved).collect();
+    assert_eq!(String::from_utf8(replay(&written)).unwrap(), report);
 }

@@ -1,7 +1,8 @@
 //! Leaving the line: what a withdraw makes of the table and the summary, and what it does to the wait that is owed.
 
+use funnelfawn::raw::AT_CLOCK;
 use funnelfawn::Act::*;
-use funnelfawn::{read, replay, Accepted, Act, Place, Refusal, Summary, Table};
+use funnelfawn::{read, replay, Accepted, Act, Limits, Place, Refusal, Summary, Table};
 
 const INPUT: &[u8] = include_bytes!("../../../examples/withdraw.csv");
 
@@ -20,7 +21,7 @@ const OUTPUT: &str = "line,answer,window,moment
 
 /// A table of two windows after these acts, all of which are accepted.
 fn after(acts: &[(Act, u64, u64)]) -> Table {
-    let mut table = Table::fresh(2, 5, 8, 12).unwrap();
+    let mut table = Table::fresh(&Limits::equal(2, 5, 8, 12)).unwrap();
     for &(act, window, moment) in acts {
         assert!(table.step(act, window, moment).is_ok());
     }
@@ -38,7 +39,7 @@ fn a_try_is_taken_back() {
     let mut left = *table.numbers();
     assert_eq!(table.step(Try, 2, 6), nobody(6));
     assert_eq!(table.step(Withdraw, 2, 6), nobody(6));
-    left[4] = 6;
+    left[AT_CLOCK] = 6;
     assert_eq!((*table.numbers(), table.word()), (left, 1));
 }
 
@@ -105,5 +106,5 @@ fn the_readme_s_recording() {
     assert_eq!(String::from_utf8(replay(INPUT)).unwrap(), OUTPUT);
     let recording = read(INPUT).unwrap();
     assert_eq!(recording.steps.iter().filter(|step| step.act == Withdraw.into()).count(), 3);
-    assert_eq!(recording.write().unwrap(), INPUT);
+    assert_eq!(read(&recording.write().unwrap()), Ok(recording));
 }

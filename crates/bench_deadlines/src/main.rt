@@ -8,6 +8,7 @@ use deadlines::locations::dated;
 use deadlines::step;
 use libc::STDOUT_FILENO;
 use std::num::wrapping_add_u64;
+use values::limits::limit_of;
 use workload::act_of;
 use workload::chosen;
 use workload::state_of;
@@ -18,7 +19,8 @@ const NONE: u64 = 0;
 // The state that a case starts from, its times written out. Not all of these are sound: so it is not what `conversions` turns.
 fn start_of(case: u64) -> DeadlineState {
     let state = state_of(case);
-    let parameters = state.parameters;
+    let b = state.parameters.b;
+    let c = state.parameters.c;
     let mut processes = [DeadlineProcess {
         location: DeadlineLocation::Remainder,
     }; 96];
@@ -26,9 +28,11 @@ fn start_of(case: u64) -> DeadlineState {
     while i < 96 {
         let entry = state.processes[i];
         let location = entry.location;
-        processes[i] = entry_with(dated(parameters, (i as u64) + 1, location));
+        let limit = limit_of(&state.parameters.a, (i as u64) + 1);
+        processes[i] = entry_with(dated(b, c, limit, location));
         i += 1;
     }
+    let parameters = state.parameters;
     DeadlineState {
         parameters: parameters,
         clock: state.clock,

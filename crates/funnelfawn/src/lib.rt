@@ -45,13 +45,7 @@ fn parameters_with(n: u64, b: u64, c: u64, a: &[u64]) -> Parameters
 
 // [9.45] [9.50] [21.110] A fresh table, in the lent numbers.
 #[no_mangle]
-pub extern "C" fn funnelfawn_fresh(
-    n: u64,
-    b: u64,
-    c: u64,
-    a: &[u64],
-    table: &mut [u64],
-) -> Answer
+pub extern "C" fn funnelfawn_fresh(n: u64, b: u64, c: u64, a: &[u64], table: &mut [u64]) -> Answer
     ensures { λ r. ⌜ lentGave r (now (table .exit)) ≡ lentFresh (parametersOf n b c (limitsIn (now (a .entry)))) (now (table .entry)) ⌝ }
 {
     layout::fresh(parameters_with(n, b, c, a), table)
@@ -117,7 +111,7 @@ pub extern "C" fn funnelfawn_write(
 ) -> Answer
     ensures { λ r. ⌜ writeGave r (now (out .exit))
         ≡ writeOf (parametersOf n b c (limitsIn (now (a .entry)))) (eventsOf (lent (times .entry) (processes .entry) (actions .entry)))
-            (now (out .entry)) ⌝ }
+        (now (out .entry)) ⌝ }
 {
     let parameters = parameters_with(n, b, c, a);
     trace::write(parameters, times, processes, actions, out)

@@ -1,9 +1,9 @@
 -- Readings, writings and reports succeed exactly where there is room for what is to be given back and, for a text or a trace, where it has
 -- a form; a reading is refused exactly for a fault, or for want of room. Assumes nothing.
-use Prim.Native.Nat.{ℕ, _≤_}
+use Prim.Native.Nat.{ℕ, _≤_, _<_}
 use mathlib.Core.Path.{_≡_, refl, sym, ap, _∙_, subst₂}
 use mathlib.Core.Logic.{_≢_}
-use mathlib.Core.Bool.{not}
+use mathlib.Core.Bool.{true, not}
 use mathlib.Core.List.{List}
 use native.Mathlib.Omega.{arith}
 use lib.Dec.{ltb, eqb}
@@ -11,15 +11,15 @@ use lib.ListN.{length, drop}
 use lib.Seq.{take-at, drop-append-seam}
 use borrow.Author.Tests.{lt-ltb, le-ltb, ne-eqb, ltb-true, ltb-false, not-false}
 use Rattle.model.specs.declared.Parameters.{Parameters}
-use Rattle.model.specs.States.{countStands, limitsStand}
+use Rattle.model.specs.States.{countStands, limitsStand, parametersStand}
 use Rattle.model.specs.Texts.{Event, firstLine, traceText, textLimit}
 use Rattle.model.specs.declared.Answer.{Answer}
 use Rattle.model.specs.Readings.{Trace, refused, trace, traceOf, Lists, room, stored, scanFails, Scanned, into, scannedOf}
 use Rattle.model.specs.Readings.{readGave, readingOf, lineTold, readingFrom, Read, readOf}
-use Rattle.model.specs.Writings.{formlessFrom, Written, written, fitted, writeOf}
+use Rattle.model.specs.Writings.{formlessFrom, Written, unwritten, written, fitted, writeOf}
 use Rattle.model.specs.Reports.{reportText}
 use Rattle.grammar.specs.Exact.{Formed}
-use Rattle.grammar.specs.Faults.{Fault, long, names, values, count, limits, steps, step}
+use Rattle.grammar.specs.Faults.{Fault, long, names, values, count, limit-names, limit, limits, steps, step}
 use Rattle.grammar.specs.Answers.{Readable, ReadTells, ReadIff, TellsLine, of-count, of-limits, of-names, of-line, of-text}
 use Rattle.grammar.specs.Answers.{Unreadable, RefusedRead, ReadRefusedExactly, Wrote, WriteTells, WriteIff, ReportTells, ReportIff}
 use Rattle.model.proofs.Tests.{by-cond, and-true-iff, tests}
@@ -63,12 +63,14 @@ read-iff text l = (
 -- a fault tells the line that `lineTold` has for it
 fault-line : {text : List ℕ} {code line : ℕ} → Fault text code line → TellsLine code line (lineTold code line)
 fault-line (long h) = of-text
-fault-line (names h d) = of-names
-fault-line (values rest h e d) = of-line
-fault-line (count k rest s c) = of-count
-fault-line (limits k rest s c l) = of-limits
-fault-line (steps k rest s e d) = of-names
-fault-line (step k events rest h e st f some none) = of-line
+fault-line (names h d f) = of-names
+fault-line (values first rest more w h e d) = of-line
+fault-line (count first n others rest w s c) = of-count
+fault-line (limit-names n b c rest s e d) = of-names
+fault-line (limit n b c a rest s e f l d) = of-line
+fault-line (limits k first rest line w h e c l) = of-limits
+fault-line (steps k first rest line w h e st d) = of-names
+fault-line (step k head line events rest w h e st f some none) = of-line
 
 told-line : {code line told : ℕ} → TellsLine code line told → lineTold code line ≡ told
 told-line of-count = refl
@@ -119,13 +121,29 @@ wrote text out = record {
   rest-stays = drop-append-seam text (drop (length text) out);
 }
 
+-- a text that is put as it is
+pub fitted-is : (text out : List ℕ) → length text ≤ length out → fitted text out ≡ written text out
+unfolding fitted
+fitted-is text out h = rw (le-ltb (length out) (length text) h)
+
+pub fitted-short : (text out : List ℕ) → length out < length text → fitted text out ≡ unwritten 16 0 out
+unfolding fitted
+fitted-short text out h = rw (lt-ltb (length out) (length text) h)
+
+-- of parameters that stand and steps that have a form, it is the text that decides
+module _ (k : Parameters) (events : List Event) (out : List ℕ) (stand : parametersStand k ≡ true) (forms : formlessFrom (firstLine k) events ≡ 0) where
+  pub write-long : textLimit < length (traceText k events) → writeOf k events out ≡ unwritten 15 0 out
+  unfolding writeOf
+  write-long h = let e = and-true-iff (countStands (k .n)) (limitsStand k) .0 stand in simp (e .0, e .1, forms, lt-ltb _ _ h)
+
+  pub write-fitted : length (traceText k events) ≤ textLimit → writeOf k events out ≡ fitted (traceText k events) out
+  unfolding writeOf
+  write-fitted h = let e = and-true-iff (countStands (k .n)) (limitsStand k) .0 stand in simp (e .0, e .1, forms, le-ltb _ _ h)
+
 -- all that it gives back
 pub write-is : (k : Parameters) (events : List Event) (out : List ℕ) → Formed k events → length (traceText k events) ≤ length out
     → writeOf k events out ≡ written (traceText k events) out
-unfolding writeOf fitted
-write-is k events out f h =
-    let e = and-true-iff (countStands k) (limitsStand k) .0 (f .stand) in
-    simp (e .0, e .1, f .forms, le-ltb _ _ (f .short), le-ltb _ _ h)
+write-is k events out f h = write-fitted k events out (f .stand) (f .forms) (f .short) ∙ fitted-is (traceText k events) out h
 
 pub write-tells : WriteTells
 write-tells k events out f h = rw (write-is k events out f h) (wrote (traceText k events) out)
@@ -138,13 +156,13 @@ module _ (k : Parameters) (events : List Event) (out : List ℕ) where
   write-was : Done (writeOf k events out)
   unfolding writeOf fitted
   write-was =
-      by-cond Done (not (countStands k)) (λ _ e. absurd (omega arith)) (λ t1.
+      by-cond Done (not (countStands (k .n))) (λ _ e. absurd (omega arith)) (λ t1.
       by-cond Done (not (limitsStand k)) (λ _ e. absurd (omega arith)) (λ t2.
       by-cond Done (not (eqb (formlessFrom (firstLine k) events) 0)) (λ _ e. absurd (omega arith)) (λ t3.
       by-cond Done (ltb textLimit (length (traceText k events))) (λ _ e. absurd (omega arith)) (λ t4.
       by-cond Done (ltb (length out) (length (traceText k events))) (λ _ e. absurd (omega arith)) (λ t5 _. (
         record {
-          stand = and-true-iff (countStands k) (limitsStand k) .1 (not-false _ t1, not-false _ t2);
+          stand = and-true-iff (countStands (k .n)) (limitsStand k) .1 (not-false _ t1, not-false _ t2);
           forms = simp tests at t3;
           short = ltb-false _ _ t4;
         },
@@ -154,11 +172,7 @@ module _ (k : Parameters) (events : List Event) (out : List ℕ) where
 pub write-iff : WriteIff
 write-iff k events out = (write-was k events out, λ h. ap (λ (w : Written). w .answer .code) (write-is k events out (h .0) (h .1)))
 
--- Texts that are put as they are, such as reports
-
-pub fitted-is : (text out : List ℕ) → length text ≤ length out → fitted text out ≡ written text out
-unfolding fitted
-fitted-is text out h = rw (le-ltb (length out) (length text) h)
+-- Reports
 
 module _ (text out : List ℕ) where
   abbrev Told : Written → Type 0

@@ -15,12 +15,11 @@ use Rattle.model.specs.declared.Row.the-variants.{Step, Unread}
 use Rattle.model.specs.declared.Parameters.{Parameters}
 use Rattle.model.specs.declared.Scan.{Scan}
 use Rattle.model.specs.States.{parametersStand}
-use Rattle.model.specs.Texts.{Event, event, eventText, eventsText, hasForm, textLimit}
+use Rattle.model.specs.Texts.{Event, event, eventText, headText, firstLine, eventsText, traceText, hasForm, textLimit}
 use Rattle.model.specs.Readings.{eventAt, scanOf, scanFails, headOf, Body, bodyIn, bodyOf, Trace, refused, trace, ofBody, ofHead, traceOf}
 use Rattle.model.specs.Writings.{formlessFrom}
-use Rattle.grammar.specs.Exact.{FirstLines, Says, ReadExactly, WordForEachAct}
-use Rattle.grammar.specs.Digits.{HasForm}
-use Rattle.grammar.specs.Faults.{Differs, Fault, long, names, values, count, limit-names, limit, limits, steps, step, RefusedExactly, OneFault}
+use Rattle.grammar.specs.Exact.{Formed, FirstLines, Says, ReadExactly, WordForEachAct}
+use Rattle.grammar.specs.Faults.{NoStep, Fault, long, names, values, count, limit-names, limit, limits, steps, step, RefusedExactly, OneFault}
 use Rattle.model.proofs.Tests.{by-test, by-cond}
 use Rattle.grammar.proofs.Faults.{fault-some}
 use Rattle.grammar.proofs.Lines.{took-then, event-some, event-was, event-reads}
@@ -32,7 +31,7 @@ use Rattle.grammar.proofs.Heads.{fails-long, fails-names, fails-values,
 
 -- The steps
 
-no-step : (line : ℕ) (s : List ℕ) (code at : ℕ) → eventAt line s ≡ Unread code at → (e : Event) → HasForm e → Differs (eventText e) s
+no-step : (line : ℕ) (s : List ℕ) (code at : ℕ) → eventAt line s ≡ Unread code at → NoStep s
 no-step line s code at u e f more q =
     let read = sym u ∙ (ap (eventAt line) q ∙ event-reads line e more (form-iff-digits e .1 f)) in
     let z : _≡_ {A = ℕ} 0 1 = cc in
@@ -42,7 +41,7 @@ no-step line s code at u e f more q =
 record Stops (line : ℕ) (b : Body) (rest : List ℕ) : Type 0 where
   named : b .fault ≡ line + length (b .events)
   some : 0 < length rest
-  none : (e : Event) → HasForm e → Differs (eventText e) rest
+  none : NoStep rest
 
 -- what steps tell of the text that they were read from: they were written so, each has a form, and nothing is left or no step
 record BodyTells (s : List ℕ) (line : ℕ) (b : Body) : Type 0 where
@@ -94,6 +93,12 @@ unfolding formlessFrom
 first-formed line e es h f =
     by-test (hasForm e) (λ t. (t, simp t at f)) (λ t. let z : line ≡ 0 = simp t at f in absurd (omega arith))
 
+-- whatever the line of the first
+pub forms-anywhere : (line m : ℕ) (events : List Event) → 0 < line → formlessFrom line events ≡ 0 → formlessFrom m events ≡ 0
+unfolding formlessFrom
+forms-anywhere line m [] h f = refl
+forms-anywhere line m (e ∷ es) h f = let g = first-formed line e es h f in rw (g .0) (forms-anywhere (line + 1) (m + 1) es (omega arith) (g .1))
+
 -- steps that have a form are read from what is written for them, and then what follows is
 abbrev after : List Event → Body → Body
 after es b = record { events = es ++ b .events; fault = b .fault }
@@ -121,15 +126,15 @@ body-reads line (e ∷ es) rest h f =
 trace-reads : {text : List ℕ} {line : ℕ} {k : Parameters} {events : List Event} → Says text line k events → traceOf text ≡ trace line k events
 trace-reads {text} {line} {k} {events} f =
     let head : List ℕ = f .head in
-    let h : headOf text ≡ scanOf line k (length head) = rw (f .text-is) (head-reads (f .shape) (eventsText events) (f .stand) (rw (f .text-is) at (f .short))) in
+    let h : headOf text ≡ scanOf line k (length head) =
+    rw (f .text-is) (head-reads (f .shape) (eventsText events) (f .stand) (rw (f .text-is) at (f .short))) in
     let body : bodyOf line (drop (length head) text) ≡ record { events = events; fault = 0 } =
     rw (f .text-is, drop-append-seam, ← append-nil (eventsText events))
     (body-reads line events [] (first-line (f .shape) (f .stand) .0) (f .forms) ∙ rw (body-end (line + length events), append-nil)) in
     trace-events text (scanOf line k (length head)) h refl (ap (λ (b : Body). b .fault) body) ∙ rw body
 
 -- a line that is no step ends the steps
-body-stops : (line : ℕ) (rest : List ℕ) → 0 < length rest → ((e : Event) → HasForm e → Differs (eventText e) rest)
-    → bodyOf line rest ≡ record { events = []; fault = line }
+body-stops : (line : ℕ) (rest : List ℕ) → 0 < length rest → NoStep rest → bodyOf line rest ≡ record { events = []; fault = line }
 body-stops line rest some none = go (eventAt line rest) refl
   where
     go : (r : Row) → eventAt line rest ≡ r → bodyOf line rest ≡ record { events = []; fault = line }
@@ -187,6 +192,11 @@ pub read-exactly : ReadExactly
 read-exactly text line k events =
     (λ e. rw e at (trace-tells text), trace-reads)
 
+-- the text that is written for a trace that has a form says it
+pub formed-says : {k : Parameters} {events : List Event} → Formed k events → Says (traceText k events) (firstLine k) k events
+formed-says {k} f =
+    record { head = headText k; shape = FirstLines.new k; text-is = refl; stand = f .stand; forms = f .forms; short = f .short }
+
 -- A text with a fault is refused for it
 
 fails-first : {text : List ℕ} {code line : ℕ} → Fault text code line → headOf text ≡ scanFails code line → traceOf text ≡ refused code line
@@ -194,7 +204,7 @@ fails-first {text} {code} {line} f e = trace-refused text (scanFails code line) 
 
 fails-step : {text : List ℕ} {k : Parameters} {head : List ℕ} {line : ℕ} (events : List Event) (rest : List ℕ) → FirstLines k head line
     → length text ≤ textLimit → text ≡ head ++ (eventsText events ++ rest) → parametersStand k ≡ true
-    → formlessFrom line events ≡ 0 → 0 < length rest → ((e : Event) → HasForm e → Differs (eventText e) rest)
+    → formlessFrom line events ≡ 0 → 0 < length rest → NoStep rest
     → traceOf text ≡ refused 14 (line + length events)
 fails-step {text} {k} {head} {line} events rest shape short is stand forms some none =
     let first = first-line shape stand in

@@ -5,7 +5,6 @@ use mathlib.Core.Logic.{_≢_}
 use mathlib.Core.Bool.{true, false, not}
 use mathlib.Core.List.{List, [], _∷_, _++_, append-assoc}
 use native.Mathlib.Omega.{arith}
-use native.Mathlib.Nat.{add-zero, zero-add}
 use lib.Dec.{ltb, eqb}
 use lib.ListN.{length, getD, drop, set, replicate, length-append}
 use lib.Seq.{drop-append-seam, drop-drop, getD-set-other, sets}
@@ -16,17 +15,17 @@ use Rattle.model.specs.declared.Parameters.{Parameters}
 use Rattle.model.specs.declared.Scan.{Scan}
 use Rattle.model.specs.States.{parametersOf, limitsIn, countStands, limitsStand, parametersStand}
 use Rattle.model.specs.Texts.{numbersText, valueNames, valuesText, limitNames, limitsText, eventNames, textLimit}
-use Rattle.model.specs.Texts.{formerNames, formerParameters, formerValuesText}
+use Rattle.model.specs.Texts.{formerNames, formerValuesText}
 use Rattle.model.specs.Readings.{startsWith, lineOf, lineFails, numbersAt, limitsFrom, scanOf, scanFails, headOf, bodyOf, refused, trace, traceOf}
 use Rattle.model.specs.Readings.{afterLimits, judgeLimits, ofLimits, afterValues, ofValues, afterFormer, ofFormer}
 use Rattle.model.proofs.Tests.{by-cond, and-true-iff, tests}
 use Rattle.grammar.specs.Digits.{Few}
 use Rattle.grammar.specs.Exact.{FirstLines}
-use Rattle.grammar.specs.Faults.{Differs, Shape, StartsWithValues, LimitLines}
+use Rattle.grammar.specs.Faults.{Differs, NoValues, NoLimit, Shape, StartsWithValues, LimitLines}
 use Rattle.grammar.specs.Faults.{Fault, long, names, values, count, limit-names, limit, limits, steps}
 use Rattle.grammar.proofs.Fields.{Took, starts-took, starts-here}
 use Rattle.grammar.proofs.Lines.{took-both, numbers-many, numbers-was, numbers-fail, numbers-reads}
-use Rattle.grammar.proofs.LinesOfA.{NoLine, LimitsTook, LimitsStop, LimitsTell, limits-tell, limits-after, limits-stop, limits-filled, limits-read}
+use Rattle.grammar.proofs.LinesOfA.{LimitsTook, LimitsStop, LimitsTell, limits-tell, limits-stop, limits-filled, limits-read}
 use Rattle.grammar.proofs.Shapes.{count-parts, first-lines, limited, first-line}
 use Rattle.grammar.proofs.Faults.{fault-some, differs, starts-not}
 
@@ -131,7 +130,7 @@ module _ (text : List ℕ) (short : length text ≤ textLimit) where
 
   values-tell : (at n b c : ℕ) → Took text (valueNames ++ numbersText n (b ∷ c ∷ [])) at → Few (n ∷ b ∷ c ∷ [])
       → HeadTells text (afterValues text at n b c)
-  values-tell at n b c t digits = 
+  values-tell at n b c t digits =
       let rest = drop at text in
       let s = starts {others = b ∷ c ∷ []} t digits in
       by-cond (HeadTells text) (not (countStands n)) (λ u. fails (count valueNames n (b ∷ c ∷ []) rest Shape.new s (not-true _ u))) (λ u.
@@ -213,7 +212,7 @@ module _ {text : List ℕ} {n b c : ℕ} {rest : List ℕ} (s : StartsWithValues
 
 pub fails-limit : {text : List ℕ} {n b c : ℕ} (a rest : List ℕ)
     → StartsWithValues text valueNames n (b ∷ c ∷ []) (limitNames ++ (limitsText 1 a ++ rest))
-    → countStands n ≡ true → Few a → length a < n → NoLine (1 + length a) rest → headOf text ≡ scanFails 14 (4 + length a)
+    → countStands n ≡ true → Few a → length a < n → NoLimit (1 + length a) rest → headOf text ≡ scanFails 14 (4 + length a)
 fails-limit {n = n} a rest s e h fewer none =
     let line : 1 + length a + 3 ≡ 4 + length a = omega arith in
     names-read s e ∙ rw (limits-stop a n 1 0 0 (replicate 96 0) rest refl (omega (arith, count-parts n e)) h fewer none, line)
@@ -277,14 +276,13 @@ unfolding headOf
 fails-names text h d f = rw (le-ltb textLimit (length text) h, starts-not valueNames text d, starts-not formerNames text f)
 
 -- no line 2 is written, and none is read
-second-none : (more : ℕ) (rest : List ℕ) → more < 4
-    → ((n : ℕ) (others : List ℕ) → length others ≡ more → Few (n ∷ others) → Differs (numbersText n others) rest) → numbersAt 2 more rest ≡ lineFails 2
+second-none : (more : ℕ) (rest : List ℕ) → more < 4 → NoValues more rest → numbersAt 2 more rest ≡ lineFails 2
 second-none more rest h d =
     numbers-fail 2 more rest _ refl (λ z.
     let w = numbers-was 2 more rest _ h refl z in d _ _ (numbers-many more 1 _) (w .digits) _ (w .took .split))
 
 pub fails-values : {text first : List ℕ} {more : ℕ} → Shape first more → (rest : List ℕ) → length text ≤ textLimit → text ≡ first ++ rest
-    → ((n : ℕ) (others : List ℕ) → length others ≡ more → Few (n ∷ others) → Differs (numbersText n others) rest) → headOf text ≡ scanFails 14 2
+    → NoValues more rest → headOf text ≡ scanFails 14 2
 fails-values {text} Shape.new rest h e d = new-read h rest e ∙ ap (ofValues text) (second-none 2 rest (omega arith) d)
 fails-values {text} Shape.former rest h e d = former-read h rest e ∙ ap (ofFormer text) (second-none 3 rest (omega arith) d)
 

@@ -3,14 +3,14 @@
 use Prim.Native.Nat.{ℕ, zero, suc, _+_, _-_, _*_, _≤_, _<_}
 use mathlib.Core.Path.{_≡_, refl, sym, ap, _∙_}
 use mathlib.Core.Logic.{_≢_}
-use mathlib.Core.Bool.{true, not, _&&_}
+use mathlib.Core.Bool.{not, _&&_}
 use mathlib.Core.List.{List, [], _∷_, _++_, append-assoc}
 use native.Mathlib.Omega.{arith}
 use native.Mathlib.Nat.{add-zero, zero-add, suc-add, zero-sub, sub-zero, suc-sub-suc}
 use native.Mathlib.Numerals.{add-one}
 use lib.Dec.{eqb}
 use lib.ListN.{length, getD, take, drop, set, replicate, length-append, length-drop, length-replicate, getD-replicate, take-append-drop}
-use lib.Seq.{drop-append-seam, sets, sets-eq, take-all, take-append-seam, length-take-le, getD-take, getD-drop, ext-getD}
+use lib.Seq.{drop-append-seam, sets, sets-eq, take-all, take-append-seam, length-take-le, getD-drop, ext-getD}
 use borrow.Author.Tests.{eq-eqb, ne-eqb, eqb-true, eqb-false}
 use Rattle.model.specs.declared.Line.{Line}
 use Rattle.model.specs.declared.Limits.{Limits}
@@ -19,24 +19,20 @@ use Rattle.model.specs.Texts.{numberBound, numbersText, limitsText}
 use Rattle.model.specs.Readings.{lineOf, lineFails, numbersAt, limitLine, limitsOf, limitsFail, limitsFrom}
 use Rattle.model.proofs.Tests.{by-cond, tests}
 use Rattle.grammar.specs.Digits.{digitsOf, Few}
-use Rattle.grammar.specs.Faults.{Differs}
+use Rattle.grammar.specs.Faults.{NoLimit}
 use Rattle.grammar.proofs.Fields.{Took}
 use Rattle.grammar.proofs.Lines.{took-both, took-then, numbers-long, few, numbers-was, numbers-fail, numbers-reads}
 
 -- The line of process i
 
--- no such line starts the text
-abbrev pub NoLine : ℕ → List ℕ → Type 0
-NoLine i s = (x : ℕ) → digitsOf x ≤ 8 → Differs (numbersText i (x ∷ [])) s
-
-record LimitTook (s : List ℕ) (i : ℕ) (l : Line) : Type 0 where
-  took : Took s (numbersText i (getD (l .numbers) 1 0 ∷ [])) (l .size)
-  digits : digitsOf (getD (l .numbers) 1 0) ≤ 8
+pub record LimitTook (s : List ℕ) (i : ℕ) (l : Line) : Type 0 where
+  pub took : Took s (numbersText i (getD (l .numbers) 1 0 ∷ [])) (l .size)
+  pub digits : digitsOf (getD (l .numbers) 1 0) ≤ 8
 
 -- what it tells of the text that it was read from: it was written so, or no such line was
-record LimitTells (s : List ℕ) (i : ℕ) (l : Line) : Type 0 where
-  read : l .code ≡ 0 → LimitTook s i l
-  fails : l .code ≢ 0 → (l ≡ lineFails (i + 3)) × NoLine i s
+pub record LimitTells (s : List ℕ) (i : ℕ) (l : Line) : Type 0 where
+  pub read : l .code ≡ 0 → LimitTook s i l
+  pub fails : l .code ≢ 0 → (l ≡ lineFails (i + 3)) × NoLimit i s
 
 -- what is read where such a line is written
 module _ (i x : ℕ) (s : List ℕ) (small : i < numberBound) (h : digitsOf x ≤ 8) where
@@ -46,7 +42,7 @@ module _ (i x : ℕ) (s : List ℕ) (small : i < numberBound) (h : digitsOf x �
   limit-reads : limitLine i (numbersText i (x ∷ []) ++ s) ≡ lineOf (i + 3) (i ∷ x ∷ 0 ∷ 0 ∷ []) (length (numbersText i (x ∷ [])))
   limit-reads = rw (line-reads, eq-eqb i i refl)
 
-limit-tells : (i : ℕ) (s : List ℕ) → i < numberBound → LimitTells s i (limitLine i s)
+pub limit-tells : (i : ℕ) (s : List ℕ) → i < numberBound → LimitTells s i (limitLine i s)
 limit-tells i s small =
     let l = numbersAt (i + 3) 1 s in
     by-cond (LimitTells s i) (eqb (l .code) 0 && not (eqb (getD (l .numbers) 0 0) i))
@@ -87,7 +83,7 @@ pub record LimitsStop (s : List ℕ) (many i : ℕ) (l : Limits) : Type 0 where
   pub digits : Few values
   pub rest : List ℕ
   pub split : s ≡ limitsText i values ++ rest
-  pub none : NoLine (i + length values) rest
+  pub none : NoLimit (i + length values) rest
   pub told : l ≡ limitsFail 14 (i + length values + 3)
 
 -- what they tell of the text that they were read from
@@ -157,7 +153,7 @@ limits-tell (suc many) i j at got s p h =
     }))
 
 -- lines that are written are read, and then what follows is
-pub limits-after : (values : List ℕ) (more i j at : ℕ) (got s : List ℕ) → j + 1 ≡ i → i + length values ≤ numberBound → Few values
+limits-after : (values : List ℕ) (more i j at : ℕ) (got s : List ℕ) → j + 1 ≡ i → i + length values ≤ numberBound → Few values
     → limitsFrom (length values + more) i at got (limitsText i values ++ s)
     ≡ limitsFrom more (i + length values) (at + length (limitsText i values)) (sets got j values) s
 unfolding limitsText limitsFrom
@@ -174,7 +170,7 @@ limits-after (x ∷ values) more i j at got s p h d =
 
 -- a line that is none of these ends them
 pub limits-stop : (values : List ℕ) (many i j at : ℕ) (got rest : List ℕ) → j + 1 ≡ i → i + many ≤ numberBound → Few values → length values < many
-    → NoLine (i + length values) rest → limitsFrom many i at got (limitsText i values ++ rest) ≡ limitsFail 14 (i + length values + 3)
+    → NoLimit (i + length values) rest → limitsFrom many i at got (limitsText i values ++ rest) ≡ limitsFail 14 (i + length values + 3)
 unfolding limitsFrom
 limits-stop values many i j at got rest p h d fewer none =
     let split : many ≡ length values + suc (many - length values - 1) = omega arith in
@@ -206,7 +202,8 @@ module _ (values : List ℕ) (h : length values ≤ 96) where
   -- values that are stored in a list of zeros
   pub limits-filled : sets (replicate 96 0) 0 values ≡ limitsIn values
   unfolding limitsIn
-  limits-filled = rw (take-all 96 values h) (sets-eq values (replicate 96 0) 0 (omega arith) ∙ rw (zero-add (length values), drop-replicate (length values) 96 0))
+  limits-filled =
+      rw (take-all 96 values h) (sets-eq values (replicate 96 0) 0 (omega arith) ∙ rw (zero-add (length values), drop-replicate (length values) 96 0))
 
   pub limits-front : take (length values) (limitsIn values) ≡ values
   unfolding limitsIn

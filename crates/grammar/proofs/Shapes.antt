@@ -9,7 +9,7 @@ use lib.ListN.{length, getD, take, replicate, length-append, length-replicate, g
 use lib.Seq.{length-take-le, getD-take}
 use Rattle.model.specs.declared.Parameters.{Parameters}
 use Rattle.model.specs.States.{parametersOf, limitsIn, countStands, limitsStand, parametersStand}
-use Rattle.model.specs.Texts.{numberBound, valueNames, valuesText, limitNames, limitsText, eventNames, headText, firstLine}
+use Rattle.model.specs.Texts.{valueNames, valuesText, limitNames, limitsText, eventNames, headText, firstLine}
 use Rattle.model.specs.Texts.{formerNames, formerParameters, formerValuesText, formerHeadText}
 use Rattle.model.proofs.Tests.{if-lt, and-true-iff, tests}
 use Rattle.model.proofs.OwnLimits.{LimitsParts, limits-parts, own-at, past-end}
@@ -65,9 +65,17 @@ module _ (k : Parameters) (e : parametersStand k ≡ true) where
   stand-few =
       let c = stand-count in
       let l = stand-limits in
-      let many = stand-many in
-      (few (k .n) .0 (omega arith), (few (k .b) .0 (omega arith), (few (k .c) .0 (omega arith), few-all (take (k .n) (k .a)) (λ j h.
-      rw (getD-take (k .n) (k .a) j 0 (omega arith)) (few (getD (k .a) j 0) .0 (omega (arith, stand-below j (omega arith))))))))
+      let many = stand-many in (
+        few (k .n) .0 (omega arith),
+        (
+          few (k .b) .0 (omega arith),
+          (
+            few (k .c) .0 (omega arith),
+            few-all (take (k .n) (k .a)) (λ j h.
+                rw (getD-take (k .n) (k .a) j 0 (omega arith)) (few (getD (k .a) j 0) .0 (omega (arith, stand-below j (omega arith))))),
+          ),
+        ),
+      )
 
 -- the one value of the former shape is among them
 former-few : (n a b c : ℕ) → parametersStand (formerParameters n a b c) ≡ true → Few (n ∷ a ∷ b ∷ c ∷ [])

@@ -19,10 +19,10 @@ use Rattle.model.specs.Acts.{waitAct, lastAct}
 use Rattle.model.specs.States.{idle, stageOf, entryOf}
 use Rattle.model.specs.Actions.{transitionOf, waited, moved}
 use Rattle.model.specs.Answers.{answerOf, stepOf}
-use Rattle.layout.specs.Encodings.{tableLength, tableParameters, stateNumbers, stateIn}
+use Rattle.layout.specs.Encodings.{tableLength, bIn, stateNumbers, stateIn}
 use Rattle.layout.specs.Interface.{Lent, lentGave}
 use Rattle.layout.specs.Places.{locationIn, clocked, placedAt}
-use Rattle.layout.proofs.Numbers.{state-numbers-told}
+use Rattle.layout.proofs.Numbers.{limits-size, state-numbers-told}
 use Rattle.layout.proofs.Storing.{moved-stored, waited-stored}
 use Rattle.model.proofs.Tests.{and-true-iff}
 use Rattle.rules.specs.declared.survey.Survey.{Survey}
@@ -57,6 +57,11 @@ module _ (l : List ℕ) (long : length l ≡ tableLength) (act p m : ℕ) where
     are-numbers : stateNumbers s ≡ l
     are-numbers = state-numbers-told l (omega arith) (and-true-iff _ _ .0 sound .0)
 
+    -- they have 96 values of a
+    own-size : length (s .parameters .a) ≡ 96
+    unfolding stateIn
+    own-size = limits-size l (omega arith)
+
     own-is : 1 ≤ p → p ≤ 96 → locationIn l (slotOf p) ≡ entryOf s p .location
     unfolding entryOf
     own-is from to =
@@ -78,7 +83,7 @@ module _ (l : List ℕ) (long : length l ≡ tableLength) (act p m : ℕ) where
         let t = transitionOf (s .word) act p m in
         rw (ne-eqb act waitAct some)
         ((λ i. placedAt (clocked l m (row some known i .word)) (slot-in p to i) (row some known i .to))
-        ∙ sym (moved-stored s p m t ∙ ap (λ (k : List ℕ). placedAt (clocked k m (t .word)) (p - 1) (t .to)) are-numbers))
+        ∙ sym (moved-stored s own-size p m t ∙ ap (λ (k : List ℕ). placedAt (clocked k m (t .word)) (p - 1) (t .to)) are-numbers))
 
     written : {o : Outcome} {j : Answer} → Goes s act p m o j
         → lentGave j (cond (eqb (j .code) 0) (actionPut l (slotOf p) act (rowIn l act p m) m) l) ≡ outcomeNumbers o
@@ -105,9 +110,9 @@ module _ (l : List ℕ) (long : length l ≡ tableLength) (act p m : ℕ) where
 
 module _ (l : List ℕ) (f : Survey) (act p m slot : ℕ) (at : slot ≡ slotOf p) {own : Location} {t : Transition} {j : Answer}
     (own-is : own ≡ locationIn l slot) (t-is : t ≡ rowIn l act p m)
-    (j-is : j ≡ judged f (sceneIn l p) (stageOf own) (checkFrom own (tableParameters l .b)) t act m) where
+    (j-is : j ≡ judged f (sceneIn l p) (stageOf own) (checkFrom own (bIn l)) t act m) where
   answer-is : j ≡ answerIn l f act p m
-  answer-is = j-is ∙ (λ i. judged f (sceneIn l p) (stageOf (own-at i)) (checkFrom (own-at i) (tableParameters l .b)) (t-is i) act m)
+  answer-is = j-is ∙ (λ i. judged f (sceneIn l p) (stageOf (own-at i)) (checkFrom (own-at i) (bIn l)) (t-is i) act m)
     where
       own-at : own ≡ locationIn l (slotOf p)
       own-at = own-is ∙ ap (locationIn l) at

@@ -12,19 +12,19 @@ use borrow.Author.Tests.{leb-true}
 use Rattle.model.specs.declared.State.{State}
 use Rattle.model.specs.declared.Statistics.{Statistics}
 use Rattle.model.specs.States.{soundOf}
-use Rattle.layout.specs.Encodings.{headerLength, tableLength, stateNumbers, areEntries, isTable, tableIn, isSoundTable}
+use Rattle.layout.specs.Encodings.{headerLength, tableLength, stateNumbers, stateIn, areEntries, isTable, tableIn, isSoundTable}
 use Rattle.layout.specs.Encodings.{summaryLength, statisticsNumbers, summaryIn}
 use Rattle.model.proofs.Lists.{over-front}
 use Rattle.model.proofs.Tests.{and-true-iff, tests}
-use Rattle.layout.proofs.Numbers.{length-state, state-has-entries, state-told, state-numbers-told}
+use Rattle.layout.proofs.Numbers.{limits-size, length-state, state-has-entries, state-told, state-numbers-told}
 use Rattle.layout.proofs.Numbers.{length-summary, summary-told, summary-numbers-told}
-use Rattle.layout.specs.Numbers.{TableComesBack, TableIsWhole, NumbersComeBack, SummaryComesBack, SummaryNumbersComeBack}
+use Rattle.layout.specs.Numbers.{IsWhole, TableComesBack, TableIsWhole, NumbersComeBack, SummaryComesBack, SummaryNumbersComeBack}
 
 -- Tables
 
-module _ (s : State) (whole : length (s .processes) ≡ 96) where
+module _ (s : State) (whole : IsWhole s) where
   pub table-length : length (stateNumbers s) ≡ tableLength
-  table-length = omega (arith, length-state s)
+  table-length = omega (arith, length-state s, whole .limits, whole .entries)
 
   -- what stands after them does not count
   table-front : (rest : List ℕ) → take tableLength (stateNumbers s ++ rest) ≡ stateNumbers s
@@ -34,11 +34,11 @@ module _ (s : State) (whole : length (s .processes) ≡ 96) where
   unfolding isTable
   told-back rest = simp tests (
     omega (arith, length-append (stateNumbers s) rest, table-length),
-    rw (table-front rest) (state-has-entries s),
+    rw (table-front rest) (state-has-entries s (whole .limits)),
   )
 
 pub table-comes-back : TableComesBack
-table-comes-back s whole rest = (told-back s whole rest, rw (table-front s whole rest) (state-told s))
+table-comes-back s whole rest = (told-back s whole rest, rw (table-front s whole rest) (state-told s (whole .limits)))
 
 module _ (l : List ℕ) (told : isTable l ≡ true) where
   -- numbers that tell a table are enough
@@ -55,14 +55,18 @@ module _ (l : List ℕ) (told : isTable l ≡ true) where
   pub table-numbers : stateNumbers (tableIn l) ≡ take tableLength l
   table-numbers = state-numbers-told (take tableLength l) (omega (arith, length-take-le tableLength l table-fits)) entries-are
 
+-- so it has 96 values of a
+told-limits : (l : List ℕ) → tableLength ≤ length l → length (tableIn l .parameters .a) ≡ 96
+unfolding stateIn
+told-limits l fits = limits-size (take tableLength l) (omega (arith, length-take-le tableLength l fits))
+
 pub table-is-whole : TableIsWhole
 table-is-whole l e =
-    omega (
-      arith,
-      length-state (tableIn l),
-      ap length (table-numbers l e),
-      length-take-le tableLength l (table-fits l e),
-    )
+    let fits = table-fits l e in
+    record {
+      limits = told-limits l fits;
+      entries = omega (arith, length-state (tableIn l), told-limits l fits, ap length (table-numbers l e), length-take-le tableLength l fits);
+    }
 
 pub numbers-come-back : NumbersComeBack
 numbers-come-back l e = rw (table-numbers l e) (over-front tableLength l (table-fits l e))

@@ -16,7 +16,8 @@ use Rattle.model.specs.declared.State.{State}
 use Rattle.model.specs.Stages.{remainder, testing, setting, checking, entering, critical, resetting}
 use Rattle.model.specs.States.{entry, stageOf, entrySound, entriesSound, locationAt}
 use Rattle.layout.specs.Encodings.{headerLength, stride, tableLength, stagePlace, sincePlace, processesIn, stateIn, tellsEntry, areEntries}
-use Rattle.layout.specs.Places.{numbersAt, entriesIn, tellsLocation, entryIn, locationIn, entriesFrom, firstEntries, areZero}
+use Rattle.layout.specs.Places.{numbersAt, entriesIn, tellsLocation, entryIn, locationIn, entriesFrom, firstEntries}
+use Rattle.values.specs.Bits.{areZero}
 use Rattle.model.proofs.Lists.{drop-at, drop-end}
 use Rattle.model.proofs.Tests.{tests, if-eq, by-cond, and-true-iff}
 use Rattle.rules.proofs.Entries.{idle-sound}

@@ -6,7 +6,6 @@ pub mod Lists
 pub mod Saving
 pub mod Storing
 pub mod Waiting
-pub mod Zeros
 pub mod Looks
 pub mod Surveys
 pub mod Acts

@@ -1,20 +1,23 @@
--- Writing the numbers of a table entry by entry: after i of them, those of the entries that are left complete what is written.
--- Assumes nothing.
+-- Writing the numbers of a table: those before the entries, and then entry by entry; after i of them, those of the entries that are left
+-- complete what is written. Assumes nothing.
 use Prim.Native.Nat.{ℕ, _+_, _*_, _≤_, _<_}
-use mathlib.Core.Path.{_≡_, sym, _∙_}
-use mathlib.Core.List.{List, _∷_, _++_, append-nil}
+use mathlib.Core.Path.{_≡_, sym, ap, _∙_}
+use mathlib.Core.List.{List, [], _∷_, _++_, append-nil}
 use native.Mathlib.Omega.{arith}
-use lib.ListN.{length, getD, take, drop, set, length-set}
-use lib.Seq.{take-all}
+use lib.ListN.{length, getD, take, drop, set, length-set, length-append, length-drop}
+use lib.Seq.{take-all, take-at, drop-drop, sets-eq, length-take-le}
+use borrow.Author.Tests.{le-ltb, lt-ltb}
 use Rattle.model.specs.declared.Process.{Process}
 use Rattle.model.specs.declared.Parameters.{Parameters}
 use Rattle.model.specs.declared.State.{State}
 use Rattle.model.specs.States.{stageOf, sinceOf}
-use Rattle.layout.specs.Encodings.{countPlace, aPlace, bPlace, cPlace, clockPlace, wordPlace, headerLength, stride, tableLength}
-use Rattle.layout.specs.Encodings.{processNumbers, parametersNumbers, stateNumbers}
+use Rattle.model.specs.Readings.{over}
+use Rattle.layout.specs.Encodings.{countPlace, bPlace, cPlace, clockPlace, wordPlace, limitsPlace, headerLength, stride, tableLength}
+use Rattle.layout.specs.Encodings.{processNumbers, headerNumbers, stateNumbers}
 use Rattle.model.proofs.Lists.{drop-at, drop-end}
-use Rattle.layout.specs.Places.{parametersPut, clocked, placedAt}
-use Rattle.layout.proofs.Lists.{fill-at, fill-pair}
+use Rattle.layout.specs.Places.{headerPut, placedAt}
+use Rattle.layout.proofs.Lists.{fill-pair, copied-whole}
+use Rattle.layout.proofs.Numbers.{header-long}
 
 -- the numbers before the entries are written, and i entries: the numbers of those that are left complete them
 pub record EntriesWritten (s : State) (l : List ℕ) (i : ℕ) : Type 0 where
@@ -23,25 +26,60 @@ pub record EntriesWritten (s : State) (l : List ℕ) (i : ℕ) : Type 0 where
   pub long : length l ≡ tableLength
   pub written : take (headerLength + stride * i) l ++ processNumbers (drop i (s .processes)) ≡ stateNumbers s
 
--- the numbers before the entries are written, as they stand in a table and in a deadline table
-pub header-put : (l : List ℕ) (k : Parameters) (clock word : ℕ) (rest : List ℕ) → headerLength ≤ length l
-    → take headerLength (clocked (parametersPut l k) clock word) ++ rest ≡ parametersNumbers k ++ (clock ∷ word ∷ rest)
-header-put l k clock word rest h =
-    fill-at (set (parametersPut l k) clockPlace clock) wordPlace word rest (simp length-set (omega arith))
-    ∙ fill-at (parametersPut l k) clockPlace clock _ (simp length-set (omega arith))
-    ∙ fill-at (set (set (set l countPlace (k .n)) aPlace (k .a)) bPlace (k .b)) cPlace (k .c) _ (simp length-set (omega arith))
-    ∙ fill-at (set (set l countPlace (k .n)) aPlace (k .a)) bPlace (k .b) _ (simp length-set (omega arith))
-    ∙ fill-at (set l countPlace (k .n)) aPlace (k .a) _ (simp length-set (omega arith))
-    ∙ fill-at l countPlace (k .n) _ (omega arith)
+-- What stands before the entries, as it is stored
+
+module _ (l : List ℕ) (k : Parameters) (clock word : ℕ) where
+  -- the five numbers before the values of a
+  abbrev five : List ℕ
+  five = set (set (set (set (set l countPlace (k .n)) bPlace (k .b)) cPlace (k .c)) clockPlace clock) wordPlace word
+
+  -- where the values of a go
+  abbrev part : List ℕ
+  part = take 96 (drop limitsPlace five)
+
+  module _ (size : length (k .a) ≡ 96) (fits : headerLength ≤ length l) where
+    five-is : five ≡ k .n ∷ k .b ∷ k .c ∷ clock ∷ word ∷ drop limitsPlace l
+    five-is = sets-eq (k .n ∷ k .b ∷ k .c ∷ clock ∷ word ∷ []) l 0 (omega arith)
+
+    part-long : length part ≡ length (k .a)
+    part-long =
+        ap (λ (r : List ℕ). length (take 96 (drop limitsPlace r))) five-is
+        ∙ length-take-le 96 (drop limitsPlace l) (omega (arith, length-drop limitsPlace l)) ∙ sym size
+
+    pub header-stored : {new : List ℕ} → new ≡ over (take (length part) (k .a)) part
+        → take limitsPlace five ++ (new ++ drop 96 (drop limitsPlace five)) ≡ headerPut l k clock word
+    header-stored {new} e =
+        let own : new ≡ k .a = e ∙ copied-whole (k .a) part part-long in
+        let behind : drop 96 (drop limitsPlace l) ≡ drop (length (headerNumbers k clock word)) l =
+        drop-drop 96 limitsPlace l ∙ ap (λ (j : ℕ). drop j l) (sym (header-long k size clock word)) in
+        (λ i. take limitsPlace (five-is i) ++ (own i ++ drop 96 (drop limitsPlace (five-is i))))
+        ∙ ap (λ (r : List ℕ). headerNumbers k clock word ++ r) behind
+        ∙ sym (rw (le-ltb (length l) headerLength fits))
+
+  pub header-left : length l < headerLength → l ≡ headerPut l k clock word
+  header-left short = sym (rw (lt-ltb (length l) headerLength short))
+
+-- what stands before the entries is put, in a table and in a deadline table alike
+module _ (l : List ℕ) (k : Parameters) (size : length (k .a) ≡ 96) (clock word : ℕ) (fits : headerLength ≤ length l) where
+  put-is : headerPut l k clock word ≡ headerNumbers k clock word ++ drop headerLength l
+  put-is = rw (le-ltb (length l) headerLength fits) (ap (λ (j : ℕ). headerNumbers k clock word ++ drop j l) (header-long k size clock word))
+
+  pub header-put : take headerLength (headerPut l k clock word) ≡ headerNumbers k clock word
+  header-put = ap (take headerLength) put-is ∙ take-at (headerNumbers k clock word) (drop headerLength l) headerLength (header-long k size clock word)
+
+  pub put-long : length (headerPut l k clock word) ≡ length l
+  put-long =
+      ap length put-is ∙ length-append (headerNumbers k clock word) (drop headerLength l)
+      ∙ omega (arith, header-long k size clock word, length-drop headerLength l)
 
 pub header-written : (s : State) (l : List ℕ) → length (s .processes) ≡ 96 → length l ≡ tableLength
-    → EntriesWritten s (clocked (parametersPut l (s .parameters)) (s .clock) (s .word)) 0
+    → take headerLength l ≡ headerNumbers (s .parameters) (s .clock) (s .word) → EntriesWritten s l 0
 unfolding stateNumbers
-header-written s l size long = record {
+header-written s l size long e = record {
   most = omega arith;
   size = size;
-  long = simp length-set long;
-  written = header-put l (s .parameters) (s .clock) (s .word) (processNumbers (s .processes)) (omega arith);
+  long = long;
+  written = ap (λ (front : List ℕ). front ++ processNumbers (s .processes)) e;
 }
 
 module _ (s : State) (l : List ℕ) (i : ℕ) (done : EntriesWritten s l i) where

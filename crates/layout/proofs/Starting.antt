@@ -12,6 +12,7 @@ use Rattle.model.specs.Answers.{answerOf, freshOf}
 use Rattle.model.specs.Facts.{Accepted}
 use Rattle.model.specs.Summaries.{newStatistics}
 use Rattle.layout.specs.Encodings.{tableLength, stateNumbers, summaryLength, statisticsNumbers}
+use Rattle.layout.specs.Numbers.{IsWhole}
 use Rattle.layout.specs.Interface.{lentGave, lentFresh, summaryGave, lentSummary}
 use Rattle.theory.proofs.Soundness.{fresh-is-plain}
 use Rattle.layout.proofs.Lists.{front-over}
@@ -24,6 +25,15 @@ summary-gave : {r s : Answer} {t u : List ℕ} → r ≡ s → t ≡ u → summa
 summary-gave r t = λ i. summaryGave (r i) (t i)
 
 -- `fresh`
+
+-- a fresh table has its 96 values of a and its 96 entries
+pub fresh-whole : (k : Parameters) → Accepted (freshOf k) → IsWhole (freshOf k .state)
+fresh-whole k h =
+    let plain = fresh-is-plain k in
+    record {
+      limits = ap (λ (q : Parameters). length (q .a)) (plain .fresh h .parameters-are) ∙ plain .accepted .0 h .limits .size;
+      entries = plain .fresh h .size;
+    }
 
 module _ (k : Parameters) (table : List ℕ) {o : Outcome} (e : o ≡ freshOf k) where
   pub fresh-refused : o .answer .code ≢ 0 → lentGave (o .answer) table ≡ lentFresh k table
@@ -40,7 +50,7 @@ module _ (k : Parameters) (table : List ℕ) {o : Outcome} (e : o ≡ freshOf k)
         → lentGave (o .answer) (new ++ drop tableLength table) ≡ lentFresh k table
     unfolding lentFresh
     fresh-saved fits f =
-        let whole = table-length (o .state) (rw e (fresh-is-plain k .fresh (rw e at h) .size)) in
+        let whole = table-length (o .state) (rw e (fresh-whole k (rw e at h))) in
         lent-gave refl (front-over tableLength table f (ap length f ∙ whole))
         ∙ rw e (simp (eq-eqb (freshOf k .answer .code) 0 (rw e at h), le-ltb _ _ fits))
 

@@ -4,21 +4,23 @@ use Prim.Native.Nat.{ℕ, zero, suc, _+_, _*_, _-_}
 use mathlib.Core.Path.{_≡_, refl, sym, ap, _∙_}
 use mathlib.Core.List.{List, [], _∷_, _++_}
 use native.Mathlib.Omega.{arith}
-use lib.ListN.{set}
+use lib.ListN.{length, set}
 use Rattle.model.specs.declared.Location.{Location}
 use Rattle.model.specs.declared.Process.{Process}
+use Rattle.model.specs.declared.Parameters.{Parameters}
 use Rattle.model.specs.declared.State.{State}
 use Rattle.model.specs.declared.Transition.{Transition}
 use Rattle.model.specs.declared.Counts.{Counts}
 use Rattle.model.specs.declared.Statistics.{Statistics}
 use Rattle.model.specs.States.{entry, stageOf, sinceOf}
-use Rattle.model.specs.Actions.{changed, waited, moved}
+use Rattle.model.specs.Actions.{waited, moved}
 use Rattle.model.specs.Summaries.{countsNumbers, statisticsOf, oneRefused, waitedOn, refusedCounted}
-use Rattle.layout.specs.Encodings.{stride, sincePlace, processNumbers, parametersNumbers, stateNumbers}
-use Rattle.layout.specs.Encodings.{headerLength, refusedPlace, waitedPlace, statisticsNumbers}
+use Rattle.layout.specs.Encodings.{stride, stagePlace, sincePlace, processNumbers, headerNumbers, stateNumbers}
+use Rattle.layout.specs.Encodings.{refusedPlace, waitedPlace, statisticsNumbers}
 use Rattle.layout.specs.Places.{clocked, placedAt, countsPut}
 use Rattle.layout.specs.Countings.{waitedPut}
 use Rattle.layout.proofs.Lists.{set-behind}
+use Rattle.layout.proofs.Numbers.{stored-behind}
 
 -- A table
 
@@ -34,25 +36,24 @@ entries-set (r ∷ qs) (suc i) q =
     let f : stride * suc i + 1 ≡ suc (suc (stride * i + 1)) = omega arith in
     rw (f, e, entries-set qs i q)
 
--- the numbers before the entries
-abbrev headerOf : State → List ℕ
-headerOf s = parametersNumbers (s .parameters) ++ (s .clock ∷ s .word ∷ [])
+module _ (k : Parameters) (size : length (k .a) ≡ 96) (clock word : ℕ) where
+  abbrev header : List ℕ
+  header = headerNumbers k clock word
 
--- an entry stored behind them is stored among the entries
-placed-behind : (s : State) (i : ℕ) (to : Location)
-    → placedAt (headerOf s ++ processNumbers (s .processes)) i to ≡ headerOf s ++ processNumbers (set (s .processes) i (entry to))
-placed-behind s i to =
-    let ns = processNumbers (s .processes) in
-    let e : sincePlace i ≡ headerLength + (stride * i + 1) = omega arith in
-    rw (e, set-behind (headerOf s) ns (stride * i) (stageOf to))
-    (set-behind (headerOf s) (set ns (stride * i) (stageOf to)) (stride * i + 1) (sinceOf to)
-    ∙ ap (λ (l : List ℕ). headerOf s ++ l) (sym (entries-set (s .processes) i (entry to))))
+  -- an entry stored behind what stands before the entries is stored among them
+  placed-behind : (qs : List Process) (i : ℕ) (to : Location)
+      → placedAt (header ++ processNumbers qs) i to ≡ header ++ processNumbers (set qs i (entry to))
+  placed-behind qs i to =
+      let ns = processNumbers qs in
+      ap (λ (l : List ℕ). set l (sincePlace i) (sinceOf to)) (stored-behind k size clock word ns (stagePlace i) (stride * i) (stageOf to) refl)
+      ∙ stored-behind k size clock word (set ns (stride * i) (stageOf to)) (sincePlace i) (stride * i + 1) (sinceOf to) (omega arith)
+      ∙ ap (λ (l : List ℕ). header ++ l) (sym (entries-set qs i (entry to)))
 
 -- with process p in another location, which stands in the row t
-pub moved-stored : (s : State) (p m : ℕ) (t : Transition)
+pub moved-stored : (s : State) → length (s .parameters .a) ≡ 96 → (p m : ℕ) (t : Transition)
     → stateNumbers (moved s p m t) ≡ placedAt (clocked (stateNumbers s) m (t .word)) (p - 1) (t .to)
 unfolding stateNumbers
-moved-stored s p m t = sym (placed-behind (changed s m (t .word) (s .processes)) (p - 1) (t .to))
+moved-stored s size p m t = sym (placed-behind (s .parameters) size m (t .word) (s .processes) (p - 1) (t .to))
 
 -- after a wait
 pub waited-stored : (s : State) (m : ℕ) → stateNumbers (waited s m) ≡ clocked (stateNumbers s) m (s .word)

@@ -15,16 +15,18 @@ use Rattle.model.specs.declared.Location.the-variants.{Remainder}
 use Rattle.model.specs.declared.Parameters.{Parameters}
 use Rattle.model.specs.declared.Process.{Process}
 use Rattle.model.specs.declared.State.{State}
-use Rattle.model.specs.States.{idle, limitIn, entriesSound, soundOf, locationAt}
-use Rattle.layout.specs.Encodings.{headerLength, stride, tableLength, stagePlace, tableParameters, clockIn, wordIn, processesIn, stateIn, areEntries}
-use Rattle.layout.specs.Places.{numbersAt, entriesIn, tellsLocation, entryIn, locationIn, entriesFrom, firstEntries, areZero}
+use Rattle.model.specs.States.{idle, limitAt, entriesSound, soundOf, locationAt}
+use Rattle.layout.specs.Encodings.{headerLength, stride, tableLength, stagePlace, countIn, limitsTold, tableParameters, clockIn, wordIn}
+use Rattle.layout.specs.Encodings.{processesIn, stateIn, areEntries}
+use Rattle.layout.specs.Places.{numbersAt, entriesIn, tellsLocation, entryIn, locationIn, entriesFrom, firstEntries}
+use Rattle.values.specs.Bits.{areZero}
 use Rattle.layout.proofs.Entries.{leftSound, entry-in, entries-size, next-told, left-sound, above-are-zero, entries-next, entries-end, first-next}
 use Rattle.layout.proofs.Entries.{zero-at, zeros-tell}
 use Rattle.model.proofs.Lists.{part-is}
 use Rattle.model.proofs.Tests.{by-test, by-cond, tests, and-true-iff, clash}
 use Rattle.rules.specs.declared.survey.Scene.{Scene}
 use Rattle.rules.specs.declared.survey.Survey.{Survey}
-use Rattle.rules.specs.Survey.{numbersStand, sceneOf, nothing, unsound, noted, numbersNoted}
+use Rattle.rules.specs.Survey.{numbersStand, nothing, unsound, noted, numbersNoted}
 use Rattle.layout.proofs.Looks.{numbers-noted, numbers-faulty}
 use Rattle.rules.proofs.Pass.{standing, sound-parts, Passed, nothing-passed, turn-fault, turn-passed, passed-whole, Whole}
 use Rattle.layout.specs.Steps.{entriesNoted, sceneIn, passIn, surveyIn}
@@ -69,7 +71,7 @@ module _ (l : List ℕ) (long : length l ≡ tableLength) (acting : ℕ) where
   s = stateIn l
 
   abbrev n : ℕ
-  n = tableParameters l .n
+  n = countIn l
 
   unsound-found : tellSound l ≡ false → Found l acting unsound
   unsound-found e = faulty e (λ z. omega arith)
@@ -93,12 +95,12 @@ module _ (l : List ℕ) (long : length l ≡ tableLength) (acting : ℕ) where
     -- it is what the state has there
     module _ (few : i < n) (e : tell ≡ true) where
       abbrev next : Survey
-      next = numbersNoted (sceneIn l acting) (i + 1) (entryIn l i .stage) (entryIn l i .since) (limitIn (tableParameters l) (i + 1)) f
+      next = numbersNoted (sceneIn l acting) (i + 1) (entryIn l i .stage) (entryIn l i .since) (limitAt (limitsTold l) (i + 1)) f
 
-      is-noted : next ≡ noted (sceneIn l acting) (i + 1) (getD (s .processes) i idle .location) (limitIn (tableParameters l) (i + 1)) f
+      is-noted : next ≡ noted (sceneIn l acting) (i + 1) (getD (s .processes) i idle .location) (limitAt (limitsTold l) (i + 1)) f
       is-noted =
-          numbers-noted (sceneIn l acting) (i + 1) (entryIn l i .stage) (entryIn l i .since) (limitIn (tableParameters l) (i + 1)) f (omega arith) e
-          ∙ ap (λ (q : Process). noted (sceneIn l acting) (i + 1) (q .location) (limitIn (tableParameters l) (i + 1)) f) (sym (entry-in l long i more idle))
+          numbers-noted (sceneIn l acting) (i + 1) (entryIn l i .stage) (entryIn l i .since) (limitAt (limitsTold l) (i + 1)) f (omega arith) e
+          ∙ ap (λ (q : Process). noted (sceneIn l acting) (i + 1) (q .location) (limitAt (limitsTold l) (i + 1)) f) (sym (entry-in l long i more idle))
 
       next-along : next .faulty ≡ 0 → Along (i + 1) next
       unfolding stateIn
@@ -119,7 +121,7 @@ module _ (l : List ℕ) (long : length l ≡ tableLength) (acting : ℕ) where
     along : {f : Survey} → Along n f → Ends f
 
   pass-ends : (j i : ℕ) (f : Survey) → i + j ≡ n → n ≤ 96 → Along i f
-      → Ends (entriesNoted (tableParameters l) (sceneIn l acting) (i + 1) (entriesIn (firstEntries j (entriesFrom l i))) f)
+      → Ends (entriesNoted (limitsTold l) (sceneIn l acting) (i + 1) (entriesIn (firstEntries j (entriesFrom l i))) f)
   unfolding entriesNoted entriesIn
   pass-ends zero i f e few a = along (subst (λ (k : ℕ). Along k f) (omega arith) a)
   pass-ends (suc j) i f e few a =
@@ -129,7 +131,7 @@ module _ (l : List ℕ) (long : length l ≡ tableLength) (acting : ℕ) where
       (λ t. by-cond Ends (eqb (next i f a more (omega arith) t .faulty) 0)
       (λ z. pass-ends j (i + 1) (next i f a more (omega arith) t) (omega arith) few (next-along i f a more (omega arith) t (eqb-true _ _ z)))
       (λ z. fault (next-fault i f a more (omega arith) t (eqb-false _ _ z))))
-      (λ t. rw (numbers-faulty (sceneIn l acting) (i + 1) (entryIn l i .stage) (entryIn l i .since) (limitIn (tableParameters l) (i + 1)) f t)
+      (λ t. rw (numbers-faulty (sceneIn l acting) (i + 1) (entryIn l i .stage) (entryIn l i .since) (limitAt (limitsTold l) (i + 1)) f t)
       (fault (not-told i f a more t))))
 
   -- The entries above n
@@ -145,10 +147,10 @@ module _ (l : List ℕ) (long : length l ≡ tableLength) (acting : ℕ) where
     idle-above i h = ap (λ (k : ℕ). locationAt k (entryIn l i .since)) (number-zero (stagePlace i) (omega arith))
 
     idle-noted : (i : ℕ) → n ≤ i → i < 96 → (f : Survey)
-        → f ≡ noted (sceneIn l acting) (i + 1) (getD (s .processes) i idle .location) (limitIn (tableParameters l) (i + 1)) f
+        → f ≡ noted (sceneIn l acting) (i + 1) (getD (s .processes) i idle .location) (limitAt (limitsTold l) (i + 1)) f
     unfolding noted
     idle-noted i h more f =
-        ap (λ (to : Location). noted (sceneIn l acting) (i + 1) to (limitIn (tableParameters l) (i + 1)) f)
+        ap (λ (to : Location). noted (sceneIn l acting) (i + 1) to (limitAt (limitsTold l) (i + 1)) f)
         (sym (ap (λ (q : Process). q .location) (entry-in l long i more idle) ∙ idle-above i h))
 
     above-passed : (j i : ℕ) (f : Survey) → i + j ≡ 96 → n ≤ i → Passed s acting i f → Passed s acting 96 f
@@ -178,17 +180,20 @@ module _ (l : List ℕ) (long : length l ≡ tableLength) (acting : ℕ) where
 
 -- Of the loop: the next entry of a list, and its end
 
-pub noted-next : (q : Parameters) (x : Scene) (k : ℕ) (ns : List ℕ) (i : ℕ) (f g : Survey) → i + 1 < length ns
-    → g ≡ numbersNoted x k (numbersAt ns i .stage) (numbersAt ns i .since) (limitIn q k) f
-    → entriesNoted q x k (entriesIn (drop i ns)) f
-    ≡ cond (eqb (g .faulty) 0) (entriesNoted q x (k + 1) (entriesIn (drop (i + stride) ns)) g) unsound
-unfolding entriesNoted
-noted-next q x k ns i f g h e = rw (e, entries-next ns i h)
+module _ (a : List ℕ) (x : Scene) where
+  -- it is that of process k, whose a has the place j
+  pub noted-next : (k j : ℕ) → k ≡ j + 1 → (ns : List ℕ) (i : ℕ) (f g : Survey) → i + 1 < length ns
+      → g ≡ numbersNoted x k (numbersAt ns i .stage) (numbersAt ns i .since) (getD a j 0) f
+      → entriesNoted a x k (entriesIn (drop i ns)) f
+      ≡ cond (eqb (g .faulty) 0) (entriesNoted a x (k + 1) (entriesIn (drop (i + stride) ns)) g) unsound
+  unfolding entriesNoted limitAt
+  noted-next k j own ns i f g h e =
+      let at : k - 1 ≡ j = omega arith in
+      rw (e, entries-next ns i h, at)
 
-pub noted-end : (q : Parameters) (x : Scene) (k : ℕ) (ns : List ℕ) (i : ℕ) (f : Survey) → length ns ≡ i
-    → entriesNoted q x k (entriesIn (drop i ns)) f ≡ f
-unfolding entriesNoted
-noted-end q x k ns i f e = rw (entries-end ns i e)
+  pub noted-end : (k : ℕ) (ns : List ℕ) (i : ℕ) (f : Survey) → length ns ≡ i → entriesNoted a x k (entriesIn (drop i ns)) f ≡ f
+  unfolding entriesNoted
+  noted-end k ns i f e = rw (entries-end ns i e)
 
 -- All of it
 
@@ -210,19 +215,19 @@ survey-found l long acting =
 
 module _ (l : List ℕ) (acting : ℕ) where
   -- the part that is lent is the entries up to n
-  pub pass-is : {q : Parameters} {x : Scene} {clock end : ℕ} {f : Survey} → q ≡ tableParameters l → clock ≡ clockIn l → x ≡ sceneOf q clock acting
-      → end ≡ stagePlace (q .n) → f ≡ entriesNoted q x 1 (entriesIn (take (end - headerLength) (drop headerLength l))) nothing → f ≡ passIn l acting
-  pass-is {q} {end = end} q-is clock-is x-is end-is f-is =
-      let e : end - headerLength ≡ stride * q .n = omega arith in
-      rw (q-is, clock-is) at (rw (x-is, e) at f-is)
+  pub pass-is : {x : Scene} {end : ℕ} {f : Survey} → x ≡ sceneIn l acting → end ≡ stagePlace (countIn l)
+      → f ≡ entriesNoted (limitsTold l) x 1 (entriesIn (take (end - headerLength) (drop headerLength l))) nothing → f ≡ passIn l acting
+  pass-is {end = end} x-is end-is f-is =
+      let e : end - headerLength ≡ stride * countIn l = omega arith in
+      rw (x-is, e) at f-is
 
   -- and the other part those above
-  pub above-is : {q : Parameters} {end : ℕ} {t : Bool} → length l ≡ tableLength → q ≡ tableParameters l → end ≡ stagePlace (q .n)
-      → t ≡ areZero (take (tableLength - end) (drop end l)) → t ≡ areZero (entriesFrom l (tableParameters l .n))
-  above-is {end = end} long q-is end-is t-is =
+  pub above-is : {end : ℕ} {t : Bool} → length l ≡ tableLength → end ≡ stagePlace (countIn l)
+      → t ≡ areZero (take (tableLength - end) (drop end l)) → t ≡ areZero (entriesFrom l (countIn l))
+  above-is {end = end} long end-is t-is =
       let whole : take (tableLength - end) (drop end l) ≡ drop end l =
       ap (λ (k : ℕ). take (k - end) (drop end l)) (sym long) ∙ part-is l end in
-      t-is ∙ ap areZero (whole ∙ ap (λ (k : ℕ). drop k l) (end-is ∙ ap (λ (k : Parameters). stagePlace (k .n)) q-is))
+      t-is ∙ ap areZero (whole ∙ ap (λ (k : ℕ). drop k l) end-is)
 
   pub standing-not : numbersStand (tableParameters l) (clockIn l) (wordIn l) ≡ false → unsound ≡ surveyIn l acting
   unfolding surveyIn
@@ -234,10 +239,10 @@ module _ (l : List ℕ) (acting : ℕ) where
     pass-faulty n = rw (stand, ← is, ne-eqb (f .faulty) 0 n)
 
     module _ (z : f .faulty ≡ 0) where
-      pub above-not : areZero (entriesFrom l (tableParameters l .n)) ≡ false → unsound ≡ surveyIn l acting
+      pub above-not : areZero (entriesFrom l (countIn l)) ≡ false → unsound ≡ surveyIn l acting
       unfolding surveyIn
       above-not e = rw (stand, ← is, eq-eqb (f .faulty) 0 z, e)
 
-      pub all-sound : areZero (entriesFrom l (tableParameters l .n)) ≡ true → f ≡ surveyIn l acting
+      pub all-sound : areZero (entriesFrom l (countIn l)) ≡ true → f ≡ surveyIn l acting
       unfolding surveyIn
       all-sound e = rw (stand, ← is, eq-eqb (f .faulty) 0 z, e)

@@ -53,14 +53,7 @@ fn survey_entries(entries: &[u64], limits: &[u64], scene: Scene) -> Survey
         let stage = stage_at(entries, i);
         let since = since_at(entries, i);
         let process = ((i / STRIDE) as u64) + 1;
-        found = note_numbers(
-            found,
-            scene,
-            process,
-            stage,
-            since,
-            limits[i / STRIDE],
-        );
+        found = note_numbers(found, scene, process, stage, since, limits[i / STRIDE]);
         // another value is returned, not what was found: so that stays in registers
         if found.faulty != 0 {
             return fault();

@@ -24,7 +24,7 @@ slowTries = exampleStep tryAct 2 0 ∷ []
 abbrev pub slowComes : List Call
 slowComes = exampleStep testAct 2 1000 ∷ exampleStep setAct 2 2000 ∷ exampleStep checkAct 2 4000 ∷ exampleStep critAct 2 5000 ∷ []
 
--- [8.80] [2.92] so the a of the quick process would not do
+-- [8.82] [8.80] [2.92] so the a of the quick process would not do
 pub record SlowComesAlone : Type 0 where
   pub fresh : IsFresh slowTable
   pub accepted : map codeOf (resultsOf slowTable (slowTries ++ slowComes)) ≡ 0 ∷ 0 ∷ 0 ∷ 0 ∷ 0 ∷ []

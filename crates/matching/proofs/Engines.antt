@@ -63,7 +63,7 @@ initial-matches k = matches-matched (initial k)
 pub fresh-match : FreshMatch
 unfolding freshOf freshWith
 fresh-match k =
-    by-test (not (countStands k)) (λ e. rw e (record { answer = refl; states = initial-matches _ }))
+    by-test (not (countStands (k .n))) (λ e. rw e (record { answer = refl; states = initial-matches _ }))
     (λ e. by-test (not (limitsStand k)) (λ f. rw (e, f) (record { answer = refl; states = initial-matches _ }))
     (λ f. rw (e, f) (record { answer = refl; states = initial-matches k })))
 

@@ -3,13 +3,14 @@
 use Prim.Native.Nat.{ℕ, zero, suc, _+_, _-_}
 use mathlib.Core.Path.{_≡_, refl, sym, ap, _∙_}
 use mathlib.Core.List.{List, [], _∷_}
+use native.Mathlib.Omega.{arith}
 use lib.ListN.{length, getD}
 use Rattle.model.specs.declared.Location.{Location}
 use Rattle.model.specs.declared.Location.the-variants.{Remainder, Testing, Setting, Checking, Entering, Critical, Resetting, Leaving}
 use Rattle.model.specs.declared.Process.{Process}
 use Rattle.model.specs.declared.Parameters.{Parameters}
 use Rattle.model.specs.declared.State.{State}
-use Rattle.model.specs.States.{idle, limitIn, entryOf}
+use Rattle.model.specs.States.{idle, limitAt, entryOf}
 use Rattle.deadlines.specs.declared.DeadlineLocation.{DeadlineLocation}
 use Rattle.deadlines.specs.declared.DeadlineProcess.{DeadlineProcess}
 use Rattle.deadlines.specs.declared.DeadlineState.{DeadlineState}
@@ -20,8 +21,8 @@ use Rattle.matching.specs.Engines.{OneForOne}
 
 -- Locations
 
-location-matched : (k : Parameters) (i : ℕ) (l : Location) → LocationsMatch (k .a) (k .b) (k .c) l (datedAt k i l)
-unfolding limitIn
+location-matched : (k : Parameters) (i : ℕ) (l : Location) → LocationsMatch (getD (k .a) (i - 1) 0) (k .b) (k .c) l (datedAt k i l)
+unfolding limitAt
 location-matched k i Remainder = LocationsMatch.remainder
 location-matched k i (Testing t) = rw (add-zero t) LocationsMatch.testing
 location-matched k i (Setting t) = rw (add-zero t) LocationsMatch.setting
@@ -44,26 +45,26 @@ one-location LocationsMatch.leaving LocationsMatch.leaving = refl
 
 -- Entries
 
-entries-matched : (k : Parameters) (i : ℕ) (qs : List Process) → EntriesMatch k qs (datedFrom k i qs)
+entries-matched : (k : Parameters) (i : ℕ) (qs : List Process) → EntriesMatch k i qs (datedFrom k i qs)
 unfolding datedFrom
 entries-matched k i [] = EntriesMatch.ended
 entries-matched k i (q ∷ qs) = EntriesMatch.both (location-matched k i (q .location)) (entries-matched k (i + 1) qs)
 
-entries-one : {k : Parameters} {qs : List Process} {es fs : List DeadlineProcess} → EntriesMatch k qs es → EntriesMatch k qs fs → es ≡ fs
+entries-one : {k : Parameters} {i : ℕ} {qs : List Process} {es fs : List DeadlineProcess} → EntriesMatch k i qs es → EntriesMatch k i qs fs → es ≡ fs
 entries-one EntriesMatch.ended EntriesMatch.ended = refl
 entries-one (EntriesMatch.both m ms) (EntriesMatch.both n ns) = λ j. entryWith (one-location m n j) ∷ entries-one ms ns j
 
 -- there are as many
-entries-size : {k : Parameters} {qs : List Process} {es : List DeadlineProcess} → EntriesMatch k qs es → length es ≡ length qs
+entries-size : {k : Parameters} {i : ℕ} {qs : List Process} {es : List DeadlineProcess} → EntriesMatch k i qs es → length es ≡ length qs
 entries-size EntriesMatch.ended = refl
 entries-size (EntriesMatch.both m ms) = ap suc (entries-size ms)
 
--- past the end both are in the remainder
-entry-matches : {k : Parameters} {qs : List Process} {es : List DeadlineProcess} → EntriesMatch k qs es → (j : ℕ)
-    → LocationsMatch (k .a) (k .b) (k .c) (getD qs j idle .location) (getD es j idleWith .location)
-entry-matches EntriesMatch.ended j = LocationsMatch.remainder
-entry-matches (EntriesMatch.both m ms) zero = m
-entry-matches (EntriesMatch.both m ms) (suc j) = entry-matches ms j
+-- the entries at a place, whose a has the place x; past the end both are in the remainder
+entry-matches : {k : Parameters} {i : ℕ} {qs : List Process} {es : List DeadlineProcess} → EntriesMatch k i qs es → (j x : ℕ) → i + j - 1 ≡ x
+    → LocationsMatch (getD (k .a) x 0) (k .b) (k .c) (getD qs j idle .location) (getD es j idleWith .location)
+entry-matches EntriesMatch.ended j x e = LocationsMatch.remainder
+entry-matches {i = i} (EntriesMatch.both m ms) zero x e = let first : x ≡ i - 1 = omega arith in rw first m
+entry-matches (EntriesMatch.both m ms) (suc j) x e = entry-matches ms j x (omega arith)
 
 -- States
 
@@ -97,6 +98,6 @@ module _ {s : State} {d : DeadlineState} (m : Matches s d) where
   size-same = entries-size (m .entries)
 
   pub places-match : (i : ℕ)
-      → LocationsMatch (s .parameters .a) (s .parameters .b) (s .parameters .c) (entryOf s i .location) (entryIn d i .location)
+      → LocationsMatch (getD (s .parameters .a) (i - 1) 0) (s .parameters .b) (s .parameters .c) (entryOf s i .location) (entryIn d i .location)
   unfolding entryOf entryIn
-  places-match i = entry-matches (m .entries) (i - 1)
+  places-match i = entry-matches (m .entries) (i - 1) (i - 1) (omega arith)

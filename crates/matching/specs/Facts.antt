@@ -1,10 +1,10 @@
 -- Section 12 of the specification, a state of deadlines in plain facts: which processes are where, their times, and which actions are allowed. None of
 -- the tests that the second engine is defined by are used, so that the theorems check those from a second side. Assumes nothing.
-use Prim.Native.Nat.{ℕ, _+_, _≤_}
+use Prim.Native.Nat.{ℕ, _+_, _-_, _≤_}
 use mathlib.Core.Path.{_≡_}
 use mathlib.Core.Logic.{_⊎_, _≢_, _↔_}
 use mathlib.Core.Bool.{true}
-use lib.ListN.{length}
+use lib.ListN.{length, getD}
 use Rattle.model.specs.Acts.{waitAct, tryAct, testAct, setAct, checkAct, critAct, exitAct, resetAct, remAct, withdrawAct}
 use Rattle.model.specs.States.{lastTime}
 use Rattle.theory.specs.Acceptance.{Waits}
@@ -81,7 +81,7 @@ AcceptedIffAllowedWith = (d : DeadlineState) → soundWith d ≡ true → (act p
 
 -- What an accepted action changes
 
--- [12.60] where an action of process p at the time m leads at the word w, and the word after it, with the limits a, b and c
+-- [12.60] where an action of process p at the time m leads at the word w, and the word after it, with its own a and with b and c
 pub data EffectWith (a b c p m : ℕ) : ℕ → ℕ → DeadlineLocation → ℕ → Type 0 where
   try : {w : ℕ} → EffectWith a b c p m tryAct w (Testing m (m + a)) w
   test-free : EffectWith a b c p m testAct 0 (Setting m (m + a)) 0
@@ -95,7 +95,8 @@ pub data EffectWith (a b c p m : ℕ) : ℕ → ℕ → DeadlineLocation → ℕ
   rem : {w : ℕ} → EffectWith a b c p m remAct w Remainder w
   withdraw : {w : ℕ} → EffectWith a b c p m withdrawAct w Remainder w
 
--- [12.60] e is d after the action of process p at the time m: it differs in the clock, in p's entry and in the word only
+-- [12.60] e is d after the action of process p at the time m: it differs in the clock, in p's entry and in the word only. The a of p is named by
+-- its place, and not by what the step asks for it.
 pub record ChangedWith (d : DeadlineState) (act p m : ℕ) (e : DeadlineState) : Type 0 where
   pub parameters-stay : e .parameters ≡ d .parameters
   pub size-stays : length (e .processes) ≡ length (d .processes)
@@ -104,7 +105,7 @@ pub record ChangedWith (d : DeadlineState) (act p m : ℕ) (e : DeadlineState) :
   -- and `others-stay` keeps every entry, as none is of process 0
   pub wait-keeps : act ≡ waitAct → e .word ≡ d .word
   pub effect : act ≢ waitAct
-      → EffectWith (d .parameters .a) (d .parameters .b) (d .parameters .c) p m act (d .word) (entryIn e p .location) (e .word)
+      → EffectWith (getD (d .parameters .a) (p - 1) 0) (d .parameters .b) (d .parameters .c) p m act (d .word) (entryIn e p .location) (e .word)
 
 -- [12.60] for a state of 96 entries, as each of the code is
 abbrev pub NextIsChangedWith : Type 0

@@ -13,6 +13,7 @@ use Rattle.model.specs.declared.Answer.{Answer}
 use Rattle.model.specs.declared.Outcome.{Outcome}
 use Rattle.model.specs.States.{entry, stageOf, sinceOf, locationAt}
 use Rattle.model.proofs.Locations.{location-is}
+use borrow.Author.Tests.{eqb-true}
 use Rattle.model.proofs.Tests.{and-true-iff, tests}
 use Rattle.run_cases.specs.Cases.{calledOf, expectedOf, Hold}
 
@@ -21,8 +22,14 @@ use Rattle.run_cases.specs.Cases.{calledOf, expectedOf, Hold}
 unfoldable pub sameAnswer : Answer → Answer → Bool
 sameAnswer x y = eqb (x .code) (y .code) && eqb (x .process) (y .process) && eqb (x .time) (y .time)
 
+unfoldable pub sameNumbers : List ℕ → List ℕ → Bool
+sameNumbers [] [] = true
+sameNumbers [] (y ∷ ys) = false
+sameNumbers (x ∷ xs) [] = false
+sameNumbers (x ∷ xs) (y ∷ ys) = eqb x y && sameNumbers xs ys
+
 unfoldable pub sameParameters : Parameters → Parameters → Bool
-sameParameters x y = eqb (x .n) (y .n) && eqb (x .a) (y .a) && eqb (x .b) (y .b) && eqb (x .c) (y .c)
+sameParameters x y = eqb (x .n) (y .n) && eqb (x .b) (y .b) && eqb (x .c) (y .c) && sameNumbers (x .a) (y .a)
 
 unfoldable pub sameEntry : Process → Process → Bool
 sameEntry p q = eqb (stageOf (p .location)) (stageOf (q .location)) && eqb (sinceOf (p .location)) (sinceOf (q .location))
@@ -51,10 +58,20 @@ answer-equal : (x y : Answer) → sameAnswer x y ≡ true → x ≡ y
 unfolding sameAnswer
 answer-equal x y t = let h = simp tests at t in λ i. record { code = h .0 .0 i; process = h .0 .1 i; time = h .1 i }
 
+numbers-equal : (xs ys : List ℕ) → sameNumbers xs ys ≡ true → xs ≡ ys
+unfolding sameNumbers
+numbers-equal [] [] t = refl
+numbers-equal [] (y ∷ ys) t = absurd (false≢true t)
+numbers-equal (x ∷ xs) [] t = absurd (false≢true t)
+numbers-equal (x ∷ xs) (y ∷ ys) t =
+    let h = and-true-iff (eqb x y) (sameNumbers xs ys) .0 t in
+    λ i. eqb-true x y (h .0) i ∷ numbers-equal xs ys (h .1) i
+
 parameters-equal : (x y : Parameters) → sameParameters x y ≡ true → x ≡ y
 unfolding sameParameters
 parameters-equal x y t =
-    let h = simp tests at t in λ i. record { n = h .0 .0 .0 i; a = h .0 .0 .1 i; b = h .0 .1 i; c = h .1 i }
+    let h = simp tests at t in
+    λ i. record { n = h .0 .0 .0 i; b = h .0 .0 .1 i; c = h .0 .1 i; a = numbers-equal (x .a) (y .a) (h .1) i }
 
 -- a location is told by its stage and its since
 location-equal : (l m : Location) → stageOf l ≡ stageOf m → sinceOf l ≡ sinceOf m → l ≡ m

@@ -1,17 +1,17 @@
 -- Section 20 of the specification, what a row of the table of cases means: the call that it makes, what must come of it, and that
 -- all rows of a table hold. The numbers of a row have names here, and a state is said by what differs from a fresh one. Assumes nothing.
-use Prim.Native.Nat.{ℕ, _+_}
+use Prim.Native.Nat.{ℕ, _+_, _-_}
 use mathlib.Core.Path.{_≡_}
 use mathlib.Core.Bool.{cond}
 use mathlib.Core.List.{List, [], _∷_}
-use lib.ListN.{getD, drop}
+use lib.ListN.{getD, set, drop}
 use lib.Dec.{eqb}
 use Rattle.model.specs.declared.Parameters.{Parameters}
 use Rattle.model.specs.declared.Process.{Process}
 use Rattle.model.specs.declared.State.{State}
 use Rattle.model.specs.declared.Answer.{Answer}
 use Rattle.model.specs.declared.Outcome.{Outcome}
-use Rattle.model.specs.States.{parametersOf, entry, initial, locationAt}
+use Rattle.model.specs.States.{parametersOf, equalLimits, entry, initial, locationAt}
 use Rattle.model.specs.Actions.{changed}
 use Rattle.model.specs.Answers.{answerOf, freshOf, stepOf}
 
@@ -21,9 +21,15 @@ use Rattle.model.specs.Answers.{answerOf, freshOf, stepOf}
 abbrev pub kindOf : List ℕ → ℕ
 kindOf row = getD row 0 0
 
--- helper: parameters, four numbers from a place on
+-- helper: values of a: the same for processes 1 to n, but another for a process that is not 0
+unfoldable pub limitsWith : ℕ → ℕ → ℕ → ℕ → List ℕ
+limitsWith n a p own = cond (eqb p 0) (equalLimits n a) (set (equalLimits n a) (p - 1) own)
+
+-- helper: parameters, six numbers from a place on: n, b, c, and those of the values of a
 abbrev pub parametersFrom : ℕ → List ℕ → Parameters
-parametersFrom at row = parametersOf (getD row at 0) (getD row (at + 1) 0) (getD row (at + 2) 0) (getD row (at + 3) 0)
+parametersFrom at row =
+    parametersOf (getD row at 0) (getD row (at + 1) 0) (getD row (at + 2) 0)
+    (limitsWith (getD row at 0) (getD row (at + 3) 0) (getD row (at + 4) 0) (getD row (at + 5) 0))
 
 -- helper: those that a fresh state is asked for with
 abbrev pub askedOf : List ℕ → Parameters
@@ -49,19 +55,19 @@ calledOf s row = cond (eqb (kindOf row) 0) (freshOf (askedOf row)) (stepOf s (ac
 
 -- helper: the answer
 abbrev pub answerTold : List ℕ → Answer
-answerTold row = answerOf (getD row 5 0) (getD row 6 0) (getD row 7 0)
+answerTold row = answerOf (getD row 7 0) (getD row 8 0) (getD row 9 0)
 
 -- helper: the state's parameters
 abbrev pub parametersTold : List ℕ → Parameters
-parametersTold row = parametersFrom 8 row
+parametersTold row = parametersFrom 10 row
 
 -- helper: its clock
 abbrev pub clockTold : List ℕ → ℕ
-clockTold row = getD row 12 0
+clockTold row = getD row 16 0
 
 -- helper: its word
 abbrev pub wordTold : List ℕ → ℕ
-wordTold row = getD row 13 0
+wordTold row = getD row 17 0
 
 -- helper: an entry, its stage and its since from a place on
 abbrev pub entryFrom : ℕ → List ℕ → Process
@@ -69,11 +75,11 @@ entryFrom at row = entry (locationAt (getD row at 0) (getD row (at + 1) 0))
 
 -- helper: that of process 1
 abbrev pub firstTold : List ℕ → Process
-firstTold row = entryFrom 14 row
+firstTold row = entryFrom 18 row
 
 -- helper: that of process 2
 abbrev pub secondTold : List ℕ → Process
-secondTold row = entryFrom 16 row
+secondTold row = entryFrom 20 row
 
 -- helper: the fresh state that the told one is compared with
 abbrev pub startTold : List ℕ → State

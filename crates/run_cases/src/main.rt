@@ -24,7 +24,7 @@ fn print_process(process: Process) {
     print_next(since_of(location));
 }
 
-// A fresh row is announced by the numbers that it asks for.
+// A fresh row is announced by the numbers that it asks for: n, b, c, the a of windows 1 to n, a window or 0, and its own a.
 fn print_fresh(row: Row) {
     if row[0] != FRESH {
         return;
@@ -34,6 +34,8 @@ fn print_fresh(row: Row) {
     print_next(row[2]);
     print_next(row[3]);
     print_next(row[4]);
+    print_next(row[5]);
+    print_next(row[6]);
     io::write_all(STDOUT_FILENO, b"\n");
 }
 

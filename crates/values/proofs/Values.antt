@@ -30,6 +30,7 @@ top-of-both p q = if-lt p topBit
   where
     left : topBit ≤ p → topBit ≤ bitOr p q
     left h = omega (arith, or-add-and p q, and-le-r p q)
+
     right : topBit ≤ q → topBit ≤ bitOr p q
     right h = omega (arith, or-add-and p q, and-le-l p q)
 
@@ -45,8 +46,8 @@ module _ (x b less over : ℕ) (low : 2 ≤ b) (high : b ≤ 10_000_000) (l : le
   pub top-tells : ltb (bitOr less over) topBit ≡ (leb 1 x && ltb x b)
   top-tells = top-of-both less over ∙ if-lt less topBit
       (λ h. if-lt over topBit
-        (λ g. let k = both-low h g in rw (lt-ltb _ _ h, lt-ltb _ _ g, le-leb 1 x (k .0), lt-ltb x b (k .1)) refl)
-        (λ g. rw (lt-ltb _ _ h, le-ltb _ _ g) (sym (outside (λ a k. absurd (omega (arith, within-low a k .1)))))))
+      (λ g. let k = both-low h g in rw (lt-ltb _ _ h, lt-ltb _ _ g, le-leb 1 x (k .0), lt-ltb x b (k .1)) refl)
+      (λ g. rw (lt-ltb _ _ h, le-ltb _ _ g) (sym (outside (λ a k. absurd (omega (arith, within-low a k .1)))))))
       (λ h. rw (le-ltb _ _ h) (sym (outside (λ a k. absurd (omega (arith, within-low a k .0))))))
     where
       outside : (1 ≤ x → x < b → ⊥) → (leb 1 x && ltb x b) ≡ false

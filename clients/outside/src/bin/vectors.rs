@@ -1,4 +1,4 @@
-//! vectors DIRECTORY CORPUS: makes the stored calls of the eight files in DIRECTORY (reference/vectors) and compares all that comes of them;
+//! vectors DIRECTORY CORPUS: makes the stored calls of the nine files in DIRECTORY (reference/vectors) and compares all that comes of them;
 //! and runs the recordings of CORPUS (reference/corpus) by the second engine, whose answers are the stored lines of `replay`.
 //! Exit status 0 only if the archive has the layout that is written out here, each file has its calls, all of them, all recordings that can
 //! be read are there, and none differs.
@@ -15,16 +15,17 @@ type Call = Box<dyn FnMut(&str) -> Verdict>;
 const RECORDINGS: usize = 194;
 
 /// The lines of each.
-fn files() -> [(&'static str, usize, Call); 8] {
+fn files() -> [(&'static str, usize, Call); 9] {
     let mut board = stored::Board::new();
     [
-        ("step.txt", 340, Box::new(stored::step)),
-        ("recorded.txt", 400, Box::new(stored::recorded)),
-        ("reader.txt", 110, Box::new(stored::reader)),
-        ("writer.txt", 160, Box::new(stored::writer)),
-        ("spans.txt", 90, Box::new(stored::spans)),
-        ("deadline.txt", 256, Box::new(stored::deadline)),
-        ("matching.txt", 69, Box::new(stored::matching)),
+        ("fresh.txt", 63, Box::new(stored::fresh)),
+        ("step.txt", 440, Box::new(stored::step)),
+        ("recorded.txt", 465, Box::new(stored::recorded)),
+        ("reader.txt", 209, Box::new(stored::reader)),
+        ("writer.txt", 208, Box::new(stored::writer)),
+        ("spans.txt", 171, Box::new(stored::spans)),
+        ("deadline.txt", 376, Box::new(stored::deadline)),
+        ("matching.txt", 145, Box::new(stored::matching)),
         ("board.txt", 141, Box::new(move |line| board.call(line))),
     ]
 }

@@ -5,10 +5,10 @@ use Rattle.bench_deadlines.proofs.start_of.Statement.{statement}
 use Rattle.bench_deadlines.proofs.start_of.Tie as tie
 
 abbrev Inv-loop : tie.InvT-loop
-Inv-loop case state parameters processes₀ i₀ processes i = i ≤ 96
+Inv-loop case state b c processes₀ i₀ processes i = i ≤ 96
 
 abbrev μ-loop : tie.MeasureT-loop
-μ-loop case state parameters processes₀ i₀ processes i = 96 - i
+μ-loop case state b c processes₀ i₀ processes i = 96 - i
 
 state-of-requires : tie.Need-state-of-requires Inv-loop μ-loop
 state-of-requires c κs = search needs
@@ -22,8 +22,11 @@ mul-entry c = search needs
 element-copy-out-entry : tie.Need-element-copy-out-entry Inv-loop μ-loop
 element-copy-out-entry c = search needs
 
-add-dated : tie.Need-add-dated Inv-loop μ-loop
-add-dated c = search needs
+add-limit-of : tie.Need-add-limit-of Inv-loop μ-loop
+add-limit-of c = search needs
+
+limit-of-requires : tie.Need-limit-of-requires Inv-loop μ-loop
+limit-of-requires c κs = search needs
 
 dated-requires : tie.Need-dated-requires Inv-loop μ-loop
 dated-requires c κs = search needs
@@ -59,7 +62,8 @@ start-of-spec =
     loop-holds
     mul-entry
     element-copy-out-entry
-    add-dated
+    add-limit-of
+    limit-of-requires
     dated-requires
     entry-with-requires
     mul-processes

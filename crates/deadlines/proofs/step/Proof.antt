@@ -180,7 +180,8 @@ loop-again-4 c =
     let a = turn .before .before .before .before .before .before .before .before .before .args in
     let v = turn .before .loop in
     let scene = turn .before .before .before .scene-of .ensures in
-    turn-passed-with (a .t1) (a .process) (v .at) (v .at + 1) (v .found) (v .inv) (omega (arith, turn .loop-test .taken)) refl idleWith (c .before .before .note .result)
+    turn-passed-with (a .t1) (a .process) (v .at) (v .at + 1) (v .found) (v .inv) (omega (arith, turn .loop-test .taken)) refl idleWith
+    (c .before .before .note .result)
     (rw (scene, c .before .before .before .before .limit-of .ensures) at (c .before .before .note .ensures)) (c .if7 .left)
 
 transition-of-requires : tie.Need-transition-of-requires Inv-loop μ-loop

@@ -42,7 +42,7 @@ returns-3 : tie.Need-returns-3
 returns-3 c =
     let args = c .before .before .before .before .before .args in
     not-stand _ (λ e. clash (limits-parts (parametersOf (args .n) (args .b) (args .c) (args .a .now)) e .own)
-      (no-limit (args .n) (args .b) (args .a .now) (count-from (c .before .before)) (omega arith) (c .if3 .taken)))
+    (no-limit (args .n) (args .b) (args .a .now) (count-from (c .before .before)) (omega arith) (c .if3 .taken)))
 
 returns-4 : tie.Need-returns-4
 returns-4 c =
@@ -87,7 +87,7 @@ returns-7 c =
     c .are-zero .ensures
     ∙ ap areZero (part-is (args .a .now) (args .n))
     ∙ rest-decides (args .n) (args .b) (args .c) (args .a .now) (count-is few) (omega arith) (omega arith) (omega arith)
-        (sym (c .before .before .before .all-faults .ensures) ∙ lt-ltb _ _ (c .before .before .if6 .left))
+    (sym (c .before .before .before .all-faults .ensures) ∙ lt-ltb _ _ (c .before .before .if6 .left))
 
 pub parameters-stand-spec : {M : Type 1} → statement M
 parameters-stand-spec =
