@@ -78,7 +78,7 @@ pub struct Values {
 }
 
 impl Values {
-    /// [9.45] The values of a are the first of a list, of which one may have too few: the others are 0.
+    /// [9.45] The values of a are the first 96 of a list; those that it does not have are 0.
     pub fn new(n: u64, b: u64, c: u64, list: &[u64]) -> Values {
         let mut values = Values { n, b, c, a: [0; WINDOWS] };
         for (a, &given) in values.a.iter_mut().zip(list) {

@@ -103,13 +103,14 @@ limitsOf a size = record { code = 0; line = 0; a = a; size = size }
 abbrev pub limitsFail : ℕ → ℕ → Limits
 limitsFail code line = record { code = code; line = line; a = replicate 96 0; size = 0 }
 
+-- [6.34] [6.80] A line that fails ends them; what follows gets its a and how many bytes it took.
+abbrev pub onward : Line → (ℕ → ℕ → Limits) → Limits
+onward l next = cond (eqb (l .code) 0) (next (getD (l .numbers) 1 0) (l .size)) (limitsFail (l .code) (l .line))
+
 -- [6.34] [6.100] `more` lines from that of process i on, after `at` bytes of such lines; `a` has the values before
 unfoldable pub limitsFrom : ℕ → ℕ → ℕ → List ℕ → List ℕ → Limits
 limitsFrom zero i at a s = limitsOf a at
-limitsFrom (suc more) i at a s =
-    cond (eqb (limitLine i s .code) 0)
-    (limitsFrom more (i + 1) (at + limitLine i s .size) (set a (i - 1) (getD (limitLine i s .numbers) 1 0)) (drop (limitLine i s .size) s))
-    (limitsFail (limitLine i s .code) (limitLine i s .line))
+limitsFrom (suc more) i at a s = onward (limitLine i s) (λ x size. limitsFrom more (i + 1) (at + size) (set a (i - 1) x) (drop size s))
 
 -- Whole texts
 
@@ -126,7 +127,7 @@ abbrev pub afterLimits : List ℕ → ℕ → ℕ → Parameters → Scan
 afterLimits text at line k =
     cond (not (startsWith eventNames (drop at text))) (scanFails 13 line) (scanOf (line + 1) k (at + length eventNames))
 
--- [6.36] [6.90] [4.12] [7.35] the limits are judged once all are read, at the line of the last of them
+-- [6.36] [6.45] [6.90] [4.12] [7.35] the limits are judged once all are read, at the line of the last of them
 abbrev pub judgeLimits : List ℕ → ℕ → ℕ → Parameters → Scan
 judgeLimits text at line k = cond (not (limitsStand k)) (scanFails 12 line) (afterLimits text at (line + 1) k)
 

@@ -18,11 +18,11 @@ use Rattle.model.specs.Stages.{remainder, testing, setting, checking, en
 abbrev pub parametersOf : ℕ → ℕ → ℕ → List ℕ → Parameters
 parametersOf n b c a = record { n = n; b = b; c = c; a = a }
 
--- [9.45] 96 values of a, of a list that may have fewer, and then 0 stands for the others, or more
+-- [9.45] the 96 values of a that a list stands for: 0 where it has fewer, and no more than 96 of it
 unfoldable pub limitsIn : List ℕ → List ℕ
 limitsIn l = take 96 l ++ replicate (96 - length l) 0
 
--- [6.45] the same a for each of the processes
+-- [6.45] the same a for each process from 1 to n
 abbrev pub equalLimits : ℕ → ℕ → List ℕ
 equalLimits n a = limitsIn (replicate n a)
 
@@ -43,11 +43,11 @@ unfoldable pub ownStand : ℕ → ℕ → ℕ → List ℕ → Bool
 ownStand n b i [] = true
 ownStand n b i (x ∷ a) = limitStands n b i x && ownStand n b (i + 1) a
 
--- [2.10] [2.30] [2.32] there are 96 values of a, as the type of the code has it
+-- [2.10] [2.30] [2.32] the values of a, of which there are 96, as the type of the code has it; and b and c
 unfoldable pub limitsStand : Parameters → Bool
 limitsStand k = eqb (length (k .a)) 96 && ownStand (k .n) (k .b) 1 (k .a) && leb (k .b) (k .c) && leb (k .c) 10_000_000
 
--- [2.20] [2.30] both
+-- [2.20] [2.30] [2.32] both
 abbrev pub parametersStand : Parameters → Bool
 parametersStand k = countStands (k .n) && limitsStand k
 

@@ -125,7 +125,7 @@ traceText k events = headText k ++ eventsText events
 abbrev pub formerNames : List ℕ
 formerNames = bytes "windows,a,b,c\n"
 
--- [6.45] what n, a, b and c of its second line are
+-- [6.45] the parameters that n, a, b and c on its second line stand for
 abbrev pub formerParameters : ℕ → ℕ → ℕ → ℕ → Parameters
 formerParameters n a b c = parametersOf n b c (equalLimits n a)
 

@@ -82,7 +82,7 @@ pub struct Line {
 }
 
 // [6.34] The lines of a: the values as parameters have them, and how many bytes the lines take; or a refusal's code, which is not 0, and
-// line.
+// line, where there is one.
 pub struct Limits {
     pub code: u64,
     pub line: u64,

@@ -27,7 +27,7 @@ sizeIn case = cond (eqb (case % 10) 1) 2 (cond (eqb (case % 10) 2) 24 96)
 
 -- The state that a case starts from
 
--- helper: the a of a process, by the place of its entry: in kind 15 each has one of its own, a million less the process; past the processes it is 0
+-- helper: the a of a process, by the place of its entry: in kind 15 a million less the number of the process, and 0 past the processes
 unfoldable pub limitFor : ℕ → ℕ → ℕ
 limitFor case place =
     cond (leb (sizeIn case) place) 0

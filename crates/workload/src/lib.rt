@@ -101,7 +101,7 @@ fn size_of(case: u64) -> u64
     }
 }
 
-// The a of a process, by the place of its entry. In the wide limits nobody is late in 999,000 acts.
+// The a of a process, by the place of its entry: 0 past the processes. In the wide limits nobody is late in 999,000 acts.
 fn limit_of(case: u64, place: u64) -> u64
     requires { ⌜ place < 96 ⌝ }
     ensures { λ r. ⌜ r ≡ limitFor case place ⌝ }
