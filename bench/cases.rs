@@ -8,7 +8,8 @@
 // clock. The acts of kind 10 are accepted crits of window 1, which is put back to entering before each. From 11 on the limits are wide, and
 // each act moves the clock: a test of window 1 as in kind 4, a wait as in kind 7, and a test of window 2 as in kind 4 while window 1 sells.
 // Kind 14 waits on an idle table whose clock is past each of the summary's sums and not past their bits together: a recorded step cannot
-// tell from these that the sums are sound, and looks at them one by one.
+// tell from these that the sums are sound, and looks at them one by one. Kind 15 is kind 11 with an a of its own for each window; in all others
+// they have the same.
 const ACCEPTED: u64 = 1;
 const LATE: u64 = 2;
 const UNSOUND: u64 = 3;
@@ -23,16 +24,27 @@ const MOVING: u64 = 11;
 const MIXED_MOVING: u64 = 12;
 const SELLING: u64 = 13;
 const APART: u64 = 14;
+const UNEQUAL: u64 = 15;
 
 /// The only case whose table has a count of windows that is not sound.
 const UNSOUND_COUNT: u64 = 94;
 
-/// The limits of a case's table: a, b, c. In the wide ones nobody is late in a million acts.
-pub fn limits_of(case: u64) -> [u64; 3] {
+/// The limits that all windows of a case share: b, c. In the wide ones nobody is late in a million acts, or nearly so many.
+pub fn limits_of(case: u64) -> [u64; 2] {
     if case / 10 < MOVING {
-        return [5, 8, 12];
+        return [8, 12];
     }
-    [1_000_000, 1_000_001, 2_000_000]
+    [1_000_001, 2_000_000]
+}
+
+/// The a of a window; above n it is 0.
+pub fn a_of(case: u64, window: u64) -> u64 {
+    match case / 10 {
+        _ if count_of(case) < window => 0,
+        ..MOVING => 5,
+        UNEQUAL => 1_000_000 - window,
+        _ => 1_000_000,
+    }
 }
 
 /// How many windows a case has.
@@ -54,7 +66,7 @@ pub fn count_of(case: u64) -> u64 {
 
 pub fn word_of(case: u64) -> u64 {
     match case / 10 {
-        BUSY..=MIXED | MOVING..=SELLING => 1,
+        BUSY..=MIXED | MOVING..=SELLING | UNEQUAL => 1,
         _ => 0,
     }
 }
@@ -86,7 +98,7 @@ pub fn place_of(case: u64, window: u64) -> (u64, u64) {
         UNSOUND_FIRST if window == 1 => (1, 9),
         UNSOUND | BUSY_UNSOUND if window == last => (1, 9),
         SELLING if window == 1 => (5, 0),
-        BUSY | BUSY_LATE | BUSY_UNSOUND | MOVING | SELLING => (1, 0),
+        BUSY | BUSY_LATE | BUSY_UNSOUND | MOVING | SELLING | UNEQUAL => (1, 0),
         MIXED | MIXED_MOVING => (timed_place((window - 1) % 6), 0),
         _ => (0, 0),
     }
@@ -113,7 +125,7 @@ fn act_of(kind: u64, size: u64, i: u64) -> [u64; 3] {
     match kind {
         ACCEPTED => [place + 1, round % size + 1, round * 20 + place + place / 3 * 8 - place / 6 * 8],
         BUSY => [2, i % size + 1, i / size],
-        MOVING => [2, 1, i],
+        MOVING | UNEQUAL => [2, 1, i],
         MIXED_MOVING => [0, 0, i],
         SELLING => [2, 2, i],
         APART => [0, 0, clock_of(10 * kind) + i + 1],

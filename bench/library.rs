@@ -11,11 +11,9 @@ mod ffi;
 mod raw;
 mod tables;
 
-use raw::Answer;
+use raw::{Answer, AT_CLOCK};
 #[cfg(not(deadlines))]
 use tables::table_of;
-
-const CLOCK: usize = 4;
 
 fn numbers(answer: Answer) -> [u64; 3] {
     [answer.number, answer.window, answer.moment]
@@ -26,7 +24,7 @@ fn main() {
     let case = cases::chosen();
     let mut deadlines = tables::deadlines_of(case);
     let sum = cases::run(case, |[act, window, moment]| numbers(raw::step_deadlines(&mut deadlines, act, window, moment)));
-    println!("{} {}", sum, deadlines[CLOCK]);
+    println!("{} {}", sum, deadlines[AT_CLOCK]);
 }
 
 #[cfg(not(any(recorded, told, deadlines)))]
@@ -34,7 +32,7 @@ fn main() {
     let case = cases::chosen();
     let mut table = table_of(case);
     let sum = cases::run(case, |[act, window, moment]| numbers(raw::step(&mut table, act, window, moment)));
-    println!("{} {}", sum, table[CLOCK]);
+    println!("{} {}", sum, table[AT_CLOCK]);
 }
 
 #[cfg(recorded)]
@@ -54,7 +52,7 @@ fn main() {
     let sum = cases::run(case, |[act, window, moment]| {
         numbers(raw::record(&mut table, &mut summary, act, window, moment))
     });
-    println!("{} {} {:?}", sum, table[CLOCK], &summary[..raw::WAITED]);
+    println!("{} {} {:?}", sum, table[AT_CLOCK], &summary[..raw::WAITED]);
 }
 
 /// Accepted crits, a microsecond after one another, of which the board keeps 100.
@@ -66,10 +64,10 @@ fn main() {
     let (mut table, mut summary, mut board) = (table_of(case), [0u64; raw::SUMMARY], [0u64; raw::BOARD]);
     assert_eq!(raw::set_up_board(100, &mut board).number, 0);
     let sum = cases::run(case, |[act, window, moment]| {
-        (table[HEADER], table[HEADER + 1]) = (ENTERING, table[CLOCK]);
+        (table[HEADER], table[HEADER + 1]) = (ENTERING, table[AT_CLOCK]);
         let told = raw::record_and_tell(&mut table, &mut summary, &mut board, act, window, moment);
         let (step, board) = (numbers(told.step), numbers(told.board));
         [step[0] + board[0], step[1] + board[1], step[2] + board[2]]
     });
-    println!("{} {} {:?}", sum, table[CLOCK], &summary[..raw::WAITED]);
+    println!("{} {} {:?}", sum, table[AT_CLOCK], &summary[..raw::WAITED]);
 }

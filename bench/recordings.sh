@@ -1,16 +1,17 @@
-# The three recordings on which bench/run measures `replay` and `spans`, the programs and the calls. Sourced by it.
+# The four recordings on which bench/run measures `replay` and `spans`, the programs and the calls; all but the last have the former shape. Sourced
+# by it.
+recordings='tries sales withdrawals tills'
 
 # the shortest steps there are, 8,187 of them: a try that is accepted, and tries that are out of place
 tries() {
     awk 'BEGIN { printf "windows,a,b,c\n96,5,8,12\ntime,window,act\n"; for (i = 0; i < 8187; i++) print "0,1,try" }'
 }
 
-# one window after the other enters and leaves: every step is accepted
-sales() {
-    awk 'BEGIN {
-        printf "windows,a,b,c\n96,5,8,12\ntime,window,act\n"
+# sales_after: on standard input is a head of 96 windows with b = 8; it comes out with steps behind it, in which one window after the other enters
+# and leaves, and every step is accepted
+sales_after() {
+    awk '{ print; size += length($0) + 1 } END {
         split("try test set check crit exit reset rem", act, " ")
-        size = 40
         for (t = 0; ; t += 8) {
             text = ""
             for (k = 1; k <= 8; k++) text = text (k < 4 ? t : t + 8) "," t / 8 % 96 + 1 "," act[k] "\n"
@@ -21,6 +22,17 @@ sales() {
     }'
 }
 
+sales() { printf 'windows,a,b,c\n96,5,8,12\ntime,window,act\n' | sales_after; }
+
+# the same in a house with tills of two ages, whose head has a line for each window
+tills() {
+    awk 'BEGIN {
+        printf "windows,b,c\n96,8,12\nwindow,a\n"
+        for (w = 1; w <= 96; w++) print w "," (w % 2 ? 5 : 7)
+        print "time,window,act"
+    }' | sales_after
+}
+
 # one window tries and withdraws again and again: every step is accepted, and `withdraw` is the longest word and the last
 withdrawals() {
     awk 'BEGIN {
@@ -29,11 +41,14 @@ withdrawals() {
     }'
 }
 
+# steps_in RECORDING: the lines after the head
+steps_in() { awk 'is_step { steps++ } $0 == "time,window,act" { is_step = 1 } END { print steps + 0 }' "$1"; }
+
 # program_rows PROGRAM: the whole program beside the reference's, on each recording
 program_rows() {
     ours=target/bin/$1 beside=reference/target/release/$1
     echo "$1, the whole program; the reference"
-    for name in tries sales withdrawals; do
+    for name in $recordings; do
         text=target/bench/$name
         $name >"$text"
         "$ours" <"$text" >"$text.proved"
@@ -42,14 +57,14 @@ program_rows() {
         count=$(instructions "$text" "$ours")
         count_beside=$(instructions "$text" "$beside")
         times=$(target/bench/timer "${RUNS:-100}" "$text" "$ours" -- "$beside")
-        row "$1" $name "$name: $(wc -c <"$text") bytes, $(($(wc -l <"$text") - 3)) steps" 1 "$count" "$count_beside" $times
+        row "$1" $name "$name: $(wc -c <"$text") bytes, $(steps_in "$text") steps" 1 "$count" "$count_beside" $times
     done
 }
 
 # spans_beside_replay: the same steps are run, and fewer lines are put; the counts are those of the rows above
 spans_beside_replay() {
     echo 'spans, the whole program; replay, on the same recording'
-    for name in tries sales withdrawals; do
+    for name in $recordings; do
         count=$(awk -v name=$name '$1 == "spans" && $2 == name { print $3 }' "$work/rows")
         count_beside=$(awk -v name=$name '$1 == "replay" && $2 == name { print $3 }' "$work/rows")
         text=target/bench/$name

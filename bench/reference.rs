@@ -10,13 +10,14 @@ use reference::summary::Summary;
 use reference::{answer::Answer, summary::recorded_step};
 
 fn table_of(case: u64) -> Table {
-    let [a, b, c] = cases::limits_of(case);
+    let [b, c] = cases::limits_of(case);
+    let a = std::array::from_fn(|i| cases::a_of(case, i as u64 + 1));
     let places = std::array::from_fn(|i| {
         let (place, arrival) = cases::place_of(case, i as u64 + 1);
         Place::numbered(place, arrival).expect("a place")
     });
     Table {
-        values: Values { n: cases::count_of(case), a, b, c },
+        values: Values { n: cases::count_of(case), b, c, a },
         clock: cases::clock_of(case),
         word: cases::word_of(case),
         places,

@@ -1,7 +1,7 @@
 # The rows of bench/run that are made of steps, or of calls on a board, by the cases of bench/cases.rs and bench/boards.rs. Sourced by it.
 
-# idle tables, busy ones, busy ones whose clock moves with each act, and the single cases
-step_cases='11 12 13 21 22 23 31 32 33 41 42 43 51 52 53 61 62 63 73 111 112 113 131 132 133 123 83 93 94'
+# idle tables, busy ones, busy ones whose clock moves with each act, with equal values of a and at last with unequal ones, and the single cases
+step_cases='11 12 13 21 22 23 31 32 33 41 42 43 51 52 53 61 62 63 73 111 112 113 131 132 133 123 153 83 93 94'
 
 # parts DO: DO NAME PROGRAM PROGRAM_BESIDE TITLE CASE.. for each part of the table
 parts() {
@@ -38,6 +38,7 @@ label_of() {
     12?) echo "all places, clock moves: accepted, n = $n" ;;
     13?) echo "busy, clock moves, one sells, n = $n" ;;
     14?) echo "waits past half the clock: accepted, n = $n" ;;
+    15?) echo "busy, clock moves, unequal a: accepted, n = $n" ;;
     201) echo 'adding, none kept' ;;
     202) echo 'adding, 100 kept, one expires' ;;
     203) echo 'adding, 1,024 kept, one expires' ;;

@@ -1,13 +1,16 @@
 //! The table that a case of cases.rs starts from, and the deadline table that matches it, as the library is lent them.
 
 use crate::cases;
-use crate::raw::{DEADLINES, DEADLINES_STRIDE, HEADER, STRIDE, TABLE};
+use crate::raw::{AT_A, DEADLINES, DEADLINES_STRIDE, HEADER, STRIDE, TABLE};
 
 pub fn table_of(case: u64) -> [u64; TABLE] {
     let mut table = [0; TABLE];
-    let [a, b, c] = cases::limits_of(case);
+    let [b, c] = cases::limits_of(case);
     let (n, clock, word) = (cases::count_of(case), cases::clock_of(case), cases::word_of(case));
-    table[..HEADER].copy_from_slice(&[n, a, b, c, clock, word]);
+    table[..AT_A].copy_from_slice(&[n, b, c, clock, word]);
+    for (window, a) in (1..).zip(&mut table[AT_A..HEADER]) {
+        *a = cases::a_of(case, window);
+    }
     for (window, entry) in (1..).zip(table[HEADER..].chunks_exact_mut(STRIDE)) {
         let (place, arrival) = cases::place_of(case, window);
         entry.copy_from_slice(&[place, arrival]);
@@ -21,13 +24,13 @@ pub fn deadlines_of(case: u64) -> [u64; DEADLINES] {
     const CHECKING: u64 = 3;
     const SELLING: u64 = 5;
     let mut deadlines = [0; DEADLINES];
-    let [a, b, c] = cases::limits_of(case);
+    let [b, c] = cases::limits_of(case);
     deadlines[..HEADER].copy_from_slice(&table_of(case)[..HEADER]);
     for (window, entry) in (1..).zip(deadlines[HEADER..].chunks_exact_mut(DEADLINES_STRIDE)) {
         entry.copy_from_slice(&match cases::place_of(case, window) {
             (place @ (0 | SELLING), _) => [place, 0, 0],
             (CHECKING, arrival) => [CHECKING, arrival + b, arrival + c],
-            (place, arrival) => [place, arrival, arrival + a],
+            (place, arrival) => [place, arrival, arrival + cases::a_of(case, window)],
         });
     }
     deadlines

@@ -24,9 +24,9 @@ pub struct Process {
 #[derive(Clone, Copy)]
 pub struct State {
     n: u64,
-    a: u64,
     b: u64,
     c: u64,
+    a: [u64; 96],
     clock: u64,
     word: u64,
     processes: [Process; 96],
@@ -83,7 +83,7 @@ fn is_sound(s: &State) -> bool {
     if !(1 <= s.n && s.n <= 96) {
         return false;
     }
-    if !(1 <= s.a && s.a < s.b && s.b <= s.c && s.c <= 10_000_000) {
+    if !(s.b <= s.c && s.c <= 10_000_000) {
         return false;
     }
     if !(s.clock <= LAST && s.word <= s.n) {
@@ -92,12 +92,15 @@ fn is_sound(s: &State) -> bool {
     for i in 0..96 {
         let location = s.processes[i].location;
         if (i as u64) < s.n {
-            if let Some((since, limit)) = timing(s.a, s.c, location) {
+            if !(1 <= s.a[i] && s.a[i] < s.b) {
+                return false;
+            }
+            if let Some((since, limit)) = timing(s.a[i], s.c, location) {
                 if s.clock < since || limit < s.clock - since {
                     return false;
                 }
             }
-        } else if location != Remainder {
+        } else if location != Remainder || s.a[i] != 0 {
             return false;
         }
     }
@@ -108,7 +111,7 @@ fn is_sound(s: &State) -> bool {
 fn missed(s: &State, time: u64) -> (u64, u64) {
     let mut best = (0, 0);
     for i in (0..96).rev() {
-        if let Some((since, limit)) = timing(s.a, s.c, s.processes[i].location) {
+        if let Some((since, limit)) = timing(s.a[i], s.c, s.processes[i].location) {
             if since < time && limit < time - since {
                 let deadline = since + limit;
                 if best.0 == 0 || deadline <= best.1 {
@@ -211,12 +214,13 @@ fn location_of(place: u64, arrival: u64) -> Location {
 /// Set into `main`, it may cost each turn of the loop a copy of the state.
 #[inline(never)]
 fn state_of(case: u64) -> State {
-    let [a, b, c] = cases::limits_of(case);
+    let [b, c] = cases::limits_of(case);
     let processes = std::array::from_fn(|i| {
         let (place, arrival) = cases::place_of(case, i as u64 + 1);
         Process { location: location_of(place, arrival) }
     });
-    State { n: cases::count_of(case), a, b, c, clock: 0, word: cases::word_of(case), processes }
+    let a = std::array::from_fn(|i| cases::a_of(case, i as u64 + 1));
+    State { n: cases::count_of(case), b, c, a, clock: 0, word: cases::word_of(case), processes }
 }
 
 fn main() {

@@ -3,7 +3,7 @@
 
     docs/timeline.py RECORDING ANSWERS > docs/timeline.svg
 
-RECORDING is a faultless recording, and ANSWERS what `replay` prints for it: that alone tells which acts are accepted.
+RECORDING is a faultless recording, of either shape, and ANSWERS what `replay` prints for it: that alone tells which acts are accepted.
 It is for short ones, in which a window checks once. docs/timeline.svg is made of examples/two-windows.csv and crates/replay/stdout."""
 import sys
 import textwrap
@@ -23,13 +23,24 @@ TO = {
 }
 
 
+def limits_of(lines):
+    """The a of each window, b and c, and how many lines stand before the steps."""
+    values = [int(value) for value in lines[1]]
+    if lines[0] == ["windows", "a", "b", "c"]:
+        n, a, b, c = values
+        return [a] * n, b, c, 3
+    n, b, c = values
+    return [int(a) for _, a in lines[3:3 + n]], b, c, 4 + n
+
+
 def read(recording, answers):
-    """n, a, b, c, and of each step its moment, window, act and the number of its answer."""
+    """The a of each window, b and c, and of each step its moment, window, act and the number of its answer."""
     lines, said = ([line.strip().split(",") for line in open(name, encoding="ascii")] for name in (recording, answers))
-    if [str(number) for number in range(4, len(lines) + 1)] != [answer[0] for answer in said[1:]]:
+    *limits, head = limits_of(lines)
+    if [str(number) for number in range(head + 1, len(lines) + 1)] != [answer[0] for answer in said[1:]]:
         sys.exit("timeline.py: the answers are not those of the recording")
-    steps = [(int(moment), int(window), act, int(answer[1])) for (moment, window, act), answer in zip(lines[3:], said[1:])]
-    return [int(value) for value in lines[1]], steps
+    steps = [(int(moment), int(window), act, int(answer[1])) for (moment, window, act), answer in zip(lines[head:], said[1:])]
+    return limits, steps
 
 
 def follow(n, steps):
@@ -143,9 +154,10 @@ def draw_window(picture, window, places, steps, b, c):
     picture.y += 18 * bool(checks) + 12
 
 
-def lesson(uses, clock):
+def lesson(uses, clock, is_one_a):
     """Why the lock holds, what each check came to, and what is left to say."""
-    yield "Whoever finds the word free sets it within a, and checks b or more after that: as a < b, all such sets are done by then."
+    own, each = ("a", "a") if is_one_a else ("its own a", "each a")
+    yield f"Whoever finds the word free sets it within {own}, and checks b or more after that: as {each} < b, all such sets are done by then."
     for moment, window, act, word in uses:
         if act == "check" and word == window:
             yield f"At {moment} window {window} finds its own number and enters."
@@ -154,11 +166,13 @@ def lesson(uses, clock):
     yield f"The recording ends at {clock}. Red: refused, with the answer's number."
 
 
-def draw(values, steps):
-    n, a, b, c = values
+def draw(limits, steps):
+    own, b, c = limits
+    n, is_one_a = len(own), len(set(own)) == 1
     places, word, uses = follow(n, steps)
     picture = Picture(max((moment for moment, *_ in steps), default=0) + 1)
-    title = f"Fischer's timed lock: {n} windows, one shared word; a = {a}, b = {b}, c = {c} \u00b5s"
+    a = f"a = {own[0]}" if is_one_a else "a = " + " and ".join(f"{a} (window {window})" for window, a in enumerate(own, 1))
+    title = f"Fischer's timed lock: {n} windows, one shared word; {a}, b = {b}, c = {c} \u00b5s"
     picture.text(12, 24, title, "start", more=' font-size="15" font-weight="bold"')
     for window in sorted({window for _, window, *_ in steps if 0 < window <= n}):
         draw_window(picture, window, places[window - 1], steps, b, c)
@@ -169,7 +183,7 @@ def draw(values, steps):
     clock = max((moment for moment, _, _, number in steps if not number), default=0)
     picture.axis(clock)
     picture.flags([mark(moment, act, number) for moment, window, act, number in steps if not 0 < window <= n], 1)
-    told = list(lesson(uses, clock))
+    told = list(lesson(uses, clock, is_one_a))
     for line in told[:1] + textwrap.wrap(" ".join(told[1:]), 125):
         picture.y += 18
         picture.text(12, picture.y, line, "start", more=' font-size="13"')

@@ -6,6 +6,7 @@ use reference::generator::generate;
 use reference::generator::shapes::Shape;
 use reference::machine::*;
 use reference::recording::*;
+use std::collections::BTreeSet;
 
 /// A faultless text of the new shape; its first step is on line 8.
 const NEW: &str = "windows,b,c\n3,8,12\nwindow,a\n1,5\n2,1\n3,7\ntime,window,act\n0,1,try\n3,1,test\n";
@@ -170,6 +171,25 @@ fn the_list_of_limits() {
     }
     assert_eq!(lent(&with(NEW, &[(9, "x")]), 95).0, answer(LINE, 0, 9));
     assert_eq!(lent(&with(NEW, &[(6, "3,8")]), 95).0, bare(LIMITS));
+}
+
+/// By line 1, the number, and a line up to 3 or any after it.
+#[test]
+fn generated_recordings_have_each_fault_in_both() {
+    let mut found = BTreeSet::new();
+    for text in (0..2_000).map(|index| generate(1, index).text) {
+        let Err(Fault { number, line }) = read(&text) else { continue };
+        for first in ["windows,b,c\n", "windows,a,b,c\n"] {
+            if text.starts_with(first.as_bytes()) {
+                found.insert((first, number, line.min(4)));
+            }
+        }
+    }
+    let of_new = [(WINDOW_COUNT, 2), (LIMITS, 4), (NAMES, 3), (NAMES, 4), (LINE, 2), (LINE, 4), (LENGTH, 0)];
+    let of_former = [(WINDOW_COUNT, 2), (LIMITS, 2), (NAMES, 3), (LINE, 2), (LINE, 4), (LENGTH, 0)];
+    let due = of_new.into_iter().map(|(number, line)| ("windows,b,c\n", number, line));
+    let due = due.chain(of_former.into_iter().map(|(number, line)| ("windows,a,b,c\n", number, line)));
+    assert_eq!(found, due.collect());
 }
 
 fn written(recording: &Recording) -> (Answer, Vec<u8>) {

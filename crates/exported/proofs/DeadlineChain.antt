@@ -11,7 +11,7 @@ use borrow.Author.Tests.{eq-eqb, eqb-true, eqb-false, le-ltb}
 use Rattle.model.specs.declared.Parameters.{Parameters}
 use Rattle.model.specs.declared.State.{State}
 use Rattle.model.specs.Answers.{answerOf}
-use Rattle.model.specs.States.{soundOf}
+use Rattle.model.specs.States.{parametersOf, soundOf}
 use Rattle.model.specs.Folds.{endBy, resultsBy}
 use Rattle.model.specs.Readings.{over}
 use Rattle.model.specs.Texts.{Event}
@@ -42,12 +42,12 @@ use Rattle.matching.proofs.Demand3.{every-list-with}
 use Rattle.exported.specs.DeadlineChains.{StartsDeadlines, StepsDeadlines, GoesToDeadlines, GoesToArrivals, MadeOnDeadlines, numbersAfter}
 use Rattle.exported.specs.DeadlineChains.{NotStuckOnDeadlines, inNumbersWith, EveryDeadlineTableChain, SomeDeadlineTableChain}
 use Rattle.exported.specs.DeadlineChains.{EveryThereAndBack, EveryBackAndThere}
-use Rattle.exported.proofs.Lending.{lending}
+use Rattle.exported.proofs.Lending.{lending, whole, lending-limits}
 
 -- One result is allowed
 
 starts-is : (k : Parameters) (table : List ℕ) (r : Lent) → StartsDeadlines k table r → r ≡ lentFreshWith k table
-starts-is k table r s = rw (s .1 .entry, s .1 .exit) at (s .2)
+starts-is k table r s = rw (s .1 .list .entry, s .1 .told, s .2 .entry, s .2 .exit) at (s .3)
 
 steps-is : (table : List ℕ) (act p m : ℕ) (r : Lent) → StepsDeadlines table act p m r → r ≡ lentStepWith table act p m
 steps-is table act p m r s = rw (s .1 .entry, s .1 .exit) at (s .2)
@@ -165,9 +165,17 @@ begins k table stand long =
     let e : freshWith k .answer .code ≡ 0 = rw (fresh-match k .answer) (fresh-is-plain k .accepted .1 stand) in
     simp (eq-eqb (freshWith k .answer .code) 0 e, le-ltb (length table) deadlineLength long) e
 
+starts-for : (k : Parameters) (table : List ℕ) → ParametersStand k → StartsDeadlines k table (lentFreshWith k table)
+starts-for k table stand = (
+  ([], ([], tt)),
+  lending-limits (k .a) (stand .limits .size),
+  lending table (lentFreshWith k table .table),
+  ap (λ (a : List ℕ). lentFreshWith (parametersOf (k .n) (k .b) (k .c) a) table) (sym (whole (k .a) (stand .limits .size))),
+)
+
 pub some-deadline-table-chain : SomeDeadlineTableChain
 some-deadline-table-chain = record {
-  start = λ k table stand long. (lentFreshWith k table, (([], tt), lending table (lentFreshWith k table .table), refl), begins k table stand long);
+  start = λ k table stand long. (lentFreshWith k table, starts-for k table stand, begins k table stand long);
   chain = λ l es. (resultsBy lentBy numbersAfter l es, list-chain lentBy numbersAfter made-for l es);
 }
 

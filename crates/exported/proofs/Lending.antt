@@ -1,18 +1,22 @@
 -- One result alone is allowed by the contract of each exported function, that of its definition; and lists can be lent for it. Assumes
 -- nothing.
-use Prim.Native.Nat.{ℕ}
-use mathlib.Core.Path.{_≡_, refl}
-use mathlib.Core.List.{List}
+use Prim.Native.Nat.{ℕ, _-_}
+use mathlib.Core.Path.{_≡_, refl, ap, _∙_}
+use mathlib.Core.List.{List, _++_, append-nil}
+use native.Mathlib.Omega.{arith}
+use lib.ListN.{length, take, replicate}
+use lib.Seq.{take-all}
 use Rattle.model.specs.declared.Parameters.{Parameters}
+use Rattle.model.specs.States.{limitsIn}
 use Rattle.layout.specs.Interface.{Lent, lentFresh, lentStep, LentSummary, lentSummary, LentBoth, lentRecord}
 use Rattle.recent.specs.Encodings.{LentBoard, lentSetUp, lentAdd, lentShow}
 use Rattle.recent.specs.Tellings.{LentTold, lentTell}
-use Rattle.exported.specs.Lending.{Lends, Starts, StartsSummary, StepsTo, RecordsTo, SetsUp, AddsTo, ShowsOn, TellsTo}
+use Rattle.exported.specs.Lending.{Lends, LendsLimits, Starts, StartsSummary, StepsTo, RecordsTo, SetsUp, AddsTo, ShowsOn, TellsTo}
 
 -- One result is allowed
 
 pub starts-is : (k : Parameters) (table : List ℕ) (r : Lent) → Starts k table r → r ≡ lentFresh k table
-starts-is k table r s = rw (s .1 .entry, s .1 .exit) at (s .2)
+starts-is k table r s = rw (s .1 .list .entry, s .1 .told, s .2 .entry, s .2 .exit) at (s .3)
 
 pub new-is : (summary : List ℕ) (r : LentSummary) → StartsSummary summary r → r ≡ lentSummary summary
 new-is summary r s = rw (s .1 .entry, s .1 .exit) at (s .2)
@@ -48,3 +52,11 @@ lending before after = record {
   entry = refl;
   exit = refl;
 }
+
+-- 96 values of a may be lent as they are
+pub whole : (a : List ℕ) → length a ≡ 96 → limitsIn a ≡ a
+unfolding limitsIn
+whole a size = ap (λ (k : ℕ). take 96 a ++ replicate k 0) {x = 96 - length a} {y = 0} (omega arith) ∙ append-nil (take 96 a) ∙ take-all 96 a (omega arith)
+
+abbrev pub lending-limits : (a : List ℕ) → length a ≡ 96 → LendsLimits a
+lending-limits a size = record { values = a; told = whole a size; list = lending a a }

@@ -1,11 +1,12 @@
 -- The statements about chains of exported calls on a table: the contracts allow one result for each call, that of the definition, so what holds
 -- of every list of calls holds of every chain; and every list has a chain. Assumes nothing.
 use Prim.Native.Nat.{ℕ}
-use mathlib.Core.Path.{_≡_, refl, ap, _∙_}
+use mathlib.Core.Path.{_≡_, refl, sym, ap, _∙_}
 use mathlib.Core.List.{List, []}
 use Rattle.model.specs.declared.State.{State}
 use Rattle.model.specs.declared.Parameters.{Parameters}
 use Rattle.model.specs.Acts.{withdrawAct}
+use Rattle.model.specs.States.{parametersOf}
 use Rattle.model.specs.Answers.{freshOf}
 use Rattle.model.specs.Folds.{resultsBy, itself}
 use Rattle.model.specs.Texts.{Event}
@@ -25,7 +26,7 @@ use Rattle.exported.specs.Lending.{Starts, StartsSummary, RecordsTo, Tel
 use Rattle.exported.specs.TableChains.{MadeOnTable, NotStuckOn, EveryTableChain, EveryTakenBack}
 use Rattle.exported.specs.TableChains.{MadeOnBoth, startsBoth, EveryRecordedTableChain}
 use Rattle.exported.specs.TableChains.{SomeTableStart, SomeSummaryStart, SomeTableChain, SomeRecordedTableChain}
-use Rattle.exported.proofs.Lending.{starts-is, new-is, steps-is, records-is, tells-is, lending}
+use Rattle.exported.proofs.Lending.{starts-is, new-is, steps-is, records-is, tells-is, lending, whole, lending-limits}
 
 -- a step that tells a board is the recorded step
 tells-step : (table summary board : List ℕ) (act p m : ℕ) (t : LentTold) → TellsTo table summary board act p m t
@@ -98,7 +99,12 @@ every-recorded-table-chain k table summary f x es rs s n fe xe ch =
 pub some-table-start : SomeTableStart
 some-table-start k table stand long = (
   lentFresh k table,
-  (([], tt), lending table (lentFresh k table .table), refl),
+  (
+    ([], ([], tt)),
+    lending-limits (k .a) (stand .limits .size),
+    lending table (lentFresh k table .table),
+    ap (λ (a : List ℕ). lentFresh (parametersOf (k .n) (k .b) (k .c) a) table) (sym (whole (k .a) (stand .limits .size))),
+  ),
   lent-successes .fresh-iff k table .1 (stand, long),
 )
 

@@ -1,7 +1,7 @@
 -- A table and a summary come back from their numbers, and numbers from what they tell: the laws of `Numbers`, of the front of a
 -- lent list. Assumes nothing.
 use Prim.Native.Nat.{ℕ, _≤_}
-use mathlib.Core.Path.{_≡_, ap}
+use mathlib.Core.Path.{_≡_, ap, _∙_}
 use mathlib.Core.Bool.{true}
 use mathlib.Core.List.{List, _++_}
 use native.Mathlib.Omega.{arith}
@@ -9,9 +9,13 @@ use lib.Dec.{leb}
 use lib.ListN.{length, take, drop, length-append}
 use lib.Seq.{take-at, length-take-le}
 use borrow.Author.Tests.{leb-true}
+use Rattle.model.specs.declared.Parameters.{Parameters}
 use Rattle.model.specs.declared.State.{State}
 use Rattle.model.specs.declared.Statistics.{Statistics}
 use Rattle.model.specs.States.{soundOf}
+use Rattle.model.specs.Answers.{stepOf}
+use Rattle.model.specs.Facts.{Accepted}
+use Rattle.theory.proofs.Acceptance.{next-is-changed}
 use Rattle.layout.specs.Encodings.{headerLength, tableLength, stateNumbers, stateIn, areEntries, isTable, tableIn, isSoundTable}
 use Rattle.layout.specs.Encodings.{summaryLength, statisticsNumbers, summaryIn}
 use Rattle.model.proofs.Lists.{over-front}
@@ -66,6 +70,15 @@ table-is-whole l e =
     record {
       limits = told-limits l fits;
       entries = omega (arith, length-state (tableIn l), told-limits l fits, ap length (table-numbers l e), length-take-le tableLength l fits);
+    }
+
+-- an accepted act leaves a whole state
+pub step-whole : (s : State) (act p m : ℕ) → Accepted (stepOf s act p m) → IsWhole s → IsWhole (stepOf s act p m .state)
+step-whole s act p m a whole =
+    let h = next-is-changed s (whole .entries) act p m a in
+    record {
+      limits = ap (λ (k : Parameters). length (k .a)) (h .parameters-stay) ∙ whole .limits;
+      entries = h .size-stays ∙ whole .entries;
     }
 
 pub numbers-come-back : NumbersComeBack

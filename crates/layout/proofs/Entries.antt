@@ -1,6 +1,6 @@
 -- The numbers of the entries of a table, one entry after the other: which entry of the state each tells, and whether those that are left
 -- are sound. Above n, entries are sound just where all their numbers are 0. Assumes nothing.
-use Prim.Native.Nat.{ℕ, zero, suc, _+_, _*_, _-_, _≤_, _<_}
+use Prim.Native.Nat.{ℕ, zero, suc, _+_, _*_, _≤_, _<_}
 use mathlib.Core.Path.{_≡_, refl, sym, ap, _∙_}
 use mathlib.Core.Logic.{_≢_}
 use mathlib.Core.Bool.{Bool, true, false, _&&_, and-false, and-assoc}

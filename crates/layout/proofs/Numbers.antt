@@ -5,7 +5,7 @@ use mathlib.Core.Path.{_≡_, refl, sym, ap, _∙_}
 use mathlib.Core.Bool.{true, false≢true}
 use mathlib.Core.List.{List, [], _∷_, _++_}
 use native.Mathlib.Omega.{arith}
-use lib.ListN.{length, getD, take, drop, set, length-append, length-drop, take-append-drop}
+use lib.ListN.{length, getD, drop, set, length-append, length-drop, take-append-drop}
 use lib.Seq.{take-at, drop-at as seam-at, drop-drop, length-take-le}
 use borrow.Author.Tests.{eq-eqb}
 use Rattle.model.specs.declared.Location.{Location}

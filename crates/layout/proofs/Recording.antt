@@ -21,7 +21,7 @@ use Rattle.model.specs.Facts.{Accepted}
 use Rattle.model.proofs.Tests.{clash}
 use Rattle.theory.specs.Acceptance.{Allowed}
 use Rattle.theory.specs.Summaries.{HasRoom}
-use Rattle.theory.proofs.Acceptance.{accepted-iff-allowed, next-is-changed}
+use Rattle.theory.proofs.Acceptance.{accepted-iff-allowed}
 use Rattle.theory.proofs.StaysSound.{sound-kept}
 use Rattle.theory.proofs.Waits.{unused-fits, length-waited-after}
 use Rattle.theory.proofs.Steps.{unsound-iff-one}
@@ -35,7 +35,8 @@ use Rattle.layout.specs.Encodings.{tableLength, stateNumbers, stateIn, t
 use Rattle.layout.specs.Encodings.{summaryLength, statisticsNumbers, statisticsIn, summaryIn}
 use Rattle.layout.specs.Interface.{lentGave, LentBoth, recordGave, recordedLent, lentRecord, LentEntry, entryGave, lentEntry}
 use Rattle.layout.proofs.Numbers.{state-told}
-use Rattle.layout.proofs.Encodings.{table-comes-back, table-is-whole, numbers-come-back, sound-is-table, table-is-sound}
+use Rattle.layout.specs.Numbers.{IsWhole}
+use Rattle.layout.proofs.Encodings.{table-comes-back, table-is-whole, step-whole, numbers-come-back, sound-is-table, table-is-sound}
 use Rattle.layout.proofs.Encodings.{summary-length, summary-is-whole, summary-numbers-come-back}
 use Rattle.layout.specs.Steps.{actedIn, surveyIn}
 use Rattle.layout.specs.Countings.{faultIn, waitIn, acceptedIn, refusedIn}
@@ -159,16 +160,22 @@ module _ (table summary : List ℕ) (act p m : ℕ) where
               allowed : Allowed s act p m
               allowed = accepted-iff-allowed s (table-is-sound table sound) act p m .0 accepted
 
+              before : IsWhole s
+              before = table-is-whole table (sound-is-table table sound)
+
               size : length (s .processes) ≡ 96
-              size = table-is-whole table (sound-is-table table sound)
+              size = before .entries
+
+              after : IsWhole (o .state)
+              after = step-whole s act p m accepted before
 
               state-after : stateIn new ≡ o .state
-              state-after = ap stateIn (new-numbers table long act p m e sound) ∙ state-told (o .state)
+              state-after = ap stateIn (new-numbers table long act p m e sound) ∙ state-told (o .state) (after .limits)
 
               pub sound-after : isSoundTable new ≡ true
               unfolding isSoundTable
               sound-after =
-                  let back = table-comes-back (o .state) (next-is-changed s size act p m accepted .size-stays ∙ size) [] in
+                  let back = table-comes-back (o .state) after [] in
                   let numbers = new-numbers table long act p m e sound ∙ sym (append-nil (stateNumbers (o .state))) in
                   rw (numbers, back .0, back .1) (sound-kept s size act p m (table-is-sound table sound) accepted)
 

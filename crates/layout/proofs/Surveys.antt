@@ -8,7 +8,7 @@ use mathlib.Core.List.{List}
 use native.Mathlib.Omega.{arith}
 use lib.Dec.{eqb}
 use lib.ListN.{length, getD, take, drop, length-drop}
-use lib.Seq.{getD-drop}
+use lib.Seq.{getD-drop, length-take-le}
 use borrow.Author.Tests.{eqb-true, eqb-false, eq-eqb, ne-eqb, not-true, not-false}
 use Rattle.model.specs.declared.Location.{Location}
 use Rattle.model.specs.declared.Location.the-variants.{Remainder}
@@ -22,6 +22,7 @@ use Rattle.layout.specs.Places.{numbersAt, entriesIn, tellsLocation, ent
 use Rattle.values.specs.Bits.{areZero}
 use Rattle.layout.proofs.Entries.{leftSound, entry-in, entries-size, next-told, left-sound, above-are-zero, entries-next, entries-end, first-next}
 use Rattle.layout.proofs.Entries.{zero-at, zeros-tell}
+use Rattle.layout.proofs.Numbers.{limits-size}
 use Rattle.model.proofs.Lists.{part-is}
 use Rattle.model.proofs.Tests.{by-test, by-cond, tests, and-true-iff, clash}
 use Rattle.rules.specs.declared.survey.Scene.{Scene}
@@ -212,6 +213,14 @@ survey-found l long acting =
     (record { passed = nothing-passed (stateIn l) acting stand (entries-size l long); told = refl })))
 
 -- Of the function: what it gives back, from what the functions that it calls ensure
+
+-- the two parts that are lent of it, up to n, are as long as it is asked
+pub parts-long : (l : List ℕ) → length l ≡ tableLength → countIn l ≤ 96 → (n end : ℕ) → n ≡ countIn l → end ≡ stagePlace (countIn l)
+    → (length (take (end - headerLength) (drop headerLength l)) ≡ stride * n) × (n ≤ length (limitsTold l))
+parts-long l long few n end n-is end-is = (
+  length-take-le (end - headerLength) (drop headerLength l) (omega (arith, length-drop headerLength l)) ∙ omega arith,
+  omega (arith, limits-size l (omega arith)),
+)
 
 module _ (l : List ℕ) (acting : ℕ) where
   -- the part that is lent is the entries up to n

@@ -16,7 +16,7 @@ use Rattle.theory.proofs.Soundness.{sound-iff-plain}
 use Rattle.statistics.specs.Waitings.{stageAt}
 use Rattle.statistics.proofs.Waits.{stage-few}
 use Rattle.statistics.proofs.Counted.{past-rests}
-use Rattle.layout.specs.Encodings.{headerLength, stride, tableLength, tableParameters, processNumbers, processesIn, stateIn, areEntries}
+use Rattle.layout.specs.Encodings.{headerLength, stride, tableLength, countIn, processNumbers, processesIn, stateIn, areEntries}
 use Rattle.layout.specs.Encodings.{isTable, isSoundTable}
 use Rattle.layout.specs.Countings.{stageIn}
 use Rattle.layout.proofs.Numbers.{entries-told}
@@ -66,11 +66,11 @@ module _ (table : List ℕ) (long : length table ≡ tableLength) (sound : isSou
   unfolding stateIn
   part-processes = ap processesIn entries-part
 
-  pub few-processes : tableParameters table .n ≤ 96
+  pub few-processes : countIn table ≤ 96
   unfolding stateIn
   few-processes = sound-state .parameters .count .most
 
-  pub past-part : (i : ℕ) → tableParameters table .n ≤ i
+  pub past-part : (i : ℕ) → countIn table ≤ i
       → stageAt (processesIn (take (tableLength - headerLength) (drop headerLength table))) i ≡ remainder
   unfolding stateIn
   past-part i h = rw part-processes (past-rests (stateIn table) sound-state i h)

@@ -11,7 +11,7 @@ use Where::*;
 
 type Line = Vec<u8>;
 
-/// The indices of the first lines that have the same in every recording of a shape; the third is one of the new shape.
+/// The indices of the first lines, up to the lines of a; the third is of the new shape alone.
 const FIRST_NAMES: usize = 0;
 const VALUES: usize = 1;
 const LIMIT_NAMES: usize = 2;

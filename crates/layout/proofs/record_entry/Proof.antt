@@ -1,14 +1,15 @@
 -- `layout::record_entry` meets its contract: table and summary are judged, and then the act is taken and counted. Assumes nothing.
+use Prim.Native.Nat.{ℕ}
 use mathlib.Core.Path.{_≡_, refl, sym, ap, _∙_}
 use mathlib.Core.Bool.{true}
-use mathlib.Core.List.{_++_}
+use mathlib.Core.List.{List, _++_}
 use native.Mathlib.Omega.{arith}
 use borrow.Author.Needs.{needs}
-use lib.ListN.{length, take, drop, length-append}
-use lib.Seq.{length-take-le, take-at}
+use lib.ListN.{length, getD, take, drop, length-append}
+use lib.Seq.{length-take-le, take-at, getD-take}
 use Rattle.model.specs.declared.Answer.{Answer}
 use Rattle.statistics.specs.Waitings.{unusedBeside}
-use Rattle.layout.specs.Encodings.{tableLength, isSoundTable, clockIn, summaryLength}
+use Rattle.layout.specs.Encodings.{clockPlace, tableLength, isSoundTable, clockIn, summaryLength}
 use Rattle.layout.specs.Interface.{lentGave}
 use Rattle.layout.specs.Steps.{actedIn, surveyIn}
 use Rattle.layout.specs.Countings.{faultIn}
@@ -91,14 +92,8 @@ returns-3 c =
     (c .before .answer-with3 .ensures))
     (λ z. omega (arith, z, ap (λ (r : Answer). r .code) (c .before .answer-with3 .ensures))) refl)
 
-slice-reshare-prefix-clock-in : tie.Need-slice-reshare-prefix-clock-in
-slice-reshare-prefix-clock-in c = search needs
-
-slice-aggregate-clock-in : tie.Need-slice-aggregate-clock-in
-slice-aggregate-clock-in c = sym (search (needs, length-take-le))
-
-clock-in-requires : tie.Need-clock-in-requires
-clock-in-requires c κs = search (needs, length-take-le)
+slice-read-clock : tie.Need-slice-read-clock
+slice-read-clock c = search needs
 
 slice-reshare-prefix-fault-of : tie.Need-slice-reshare-prefix-fault-of
 slice-reshare-prefix-fault-of c = search needs
@@ -109,11 +104,17 @@ slice-aggregate-fault-of c = sym (search (needs, length-take-le))
 fault-of-requires : tie.Need-fault-of-requires
 fault-of-requires c κs = search (needs, length-take-le)
 
+-- the clock is among the first numbers
+clock-read : (table : List ℕ) → getD table clockPlace 0 ≡ clockIn (take tableLength table)
+clock-read table = sym (getD-take tableLength table clockPlace 0 (omega arith))
+
 -- the number of the fault, of table and summary
 fault : (c : tie.After-fault-of)
-    → (let a = c .before .before .before .before .before .before .before .before .before .before .before .before .args in
+    → (let a = c .before .before .before .before .before .before .before .before .before .before .before .args in
     c .fault-of .result ≡ faultIn (take summaryLength (a .summary .now)) (clockIn (take tableLength (a .table .now))))
-fault c = rw (c .before .before .clock-in .ensures) at (c .fault-of .ensures)
+fault c =
+    let a = c .before .before .before .before .before .before .before .before .before .before .before .args in
+    c .fault-of .ensures ∙ ap (faultIn (take summaryLength (a .summary .now))) (clock-read (a .table .now))
 
 answer-with-requires-4 : tie.Need-answer-with-requires-4
 answer-with-requires-4 c κs = search needs
@@ -129,12 +130,12 @@ same-length-4 c = search needs
 
 returns-4 : tie.Need-returns-4
 returns-4 c =
-    let a = c .before .before .before .before .before .before .before .before .before .before .before .before .before .before .before .args in
+    let a = c .before .before .before .before .before .before .before .before .before .before .before .before .before .before .args in
     let r = c .refused4 .ensures in
     rw (ap (λ k. k .answer) r, ap (λ k. k .wait) r)
     (entry-refused (a .table .now) (a .summary .now) (a .action) (a .process) (a .time)
-    (record-refused (a .table .now) (a .summary .now) (a .action) (a .process) (a .time) (sound (c .before .before .before .before .before
-    .before .before .before)) (c .before .before .before .before .before .before .before .if3 .left) (fault (c .before .before .before))
+    (record-refused (a .table .now) (a .summary .now) (a .action) (a .process) (a .time) (sound (c .before .before .before .before .before .before .before))
+    (c .before .before .before .before .before .before .if3 .left) (fault (c .before .before .before))
     (c .before .before .if4 .taken) (c .before .answer-with4 .ensures))
     (λ z. c .before .before .if4 .taken
     (sym (ap (λ (r : Answer). r .code) (c .before .answer-with4 .ensures)) ∙ z)) refl)
@@ -146,26 +147,27 @@ slice-aggregate-act : tie.Need-slice-aggregate-act
 slice-aggregate-act c = sym (search (needs, length-take-le))
 
 act-requires : tie.Need-act-requires
-act-requires c κs = length-take-le tableLength (c .before .before .before .before .before .before .before .before .before .before .before
-    .before .before .before .args .table .now) (c .before .before .before .before .before .before .before .before .before .before .before .if1 .left)
+act-requires c κs = length-take-le tableLength
+    (c .before .before .before .before .before .before .before .before .before .before .before .before .before .args .table .now)
+    (c .before .before .before .before .before .before .before .before .before .before .if1 .left)
 
 -- what the step gave
 acted : (c : tie.After-act)
-    → (let a = c .before .before .before .before .before .before .before .before .before .before .before .before .before .before .before .args in
+    → (let a = c .before .before .before .before .before .before .before .before .before .before .before .before .before .before .args in
     let first = take tableLength (a .table .now) in
     lentGave (c .act .result) (c .act .last .0) ≡ actedIn first (surveyIn first (a .process)) (a .action) (a .process) (a .time))
-acted c = rw (c .before .before .before .before .before .before .before .before .before .before .survey-table .ensures) at (c .act .ensures)
+acted c = rw (c .before .before .before .before .before .before .before .before .before .survey-table .ensures) at (c .act .ensures)
 
 -- it leaves as many numbers
 new-size : (c : tie.After-act) → length (c .act .last .0) ≡ tableLength
 new-size c =
-    let a = c .before .before .before .before .before .before .before .before .before .before .before .before .before .before .before .args in
-    new-long (a .table .now) (c .before .before .before .before .before .before .before .before .before .before .before
-    .before .if1 .left) (a .action) (a .process) (a .time) (acted c)
+    let a = c .before .before .before .before .before .before .before .before .before .before .before .before .before .before .args in
+    new-long (a .table .now) (c .before .before .before .before .before .before .before .before .before .before .before .if1 .left) (a .action) (a .process)
+    (a .time) (acted c)
 
 -- which are the first of the table then
-front : (c : tie.After-act) → take tableLength (c .act .last .0 ++ drop tableLength (c .before .before .before .before .before .before
-    .before .before .before .before .before .before .before .before .before .args .table .now)) ≡ c .act .last .0
+front : (c : tie.After-act) → take tableLength (c .act .last .0 ++ drop tableLength
+    (c .before .before .before .before .before .before .before .before .before .before .before .before .before .before .args .table .now)) ≡ c .act .last .0
 front c = take-at (c .act .last .0) _ tableLength (new-size c)
 
 -- A refused act
@@ -178,9 +180,8 @@ slice-aggregate-count-refused c = sym (search (needs, length-take-le))
 
 count-refused-requires : tie.Need-count-refused-requires
 count-refused-requires c κs =
-    length-take-le summaryLength (c .before .before .before .before .before .before .before .before .before .before .before .before .before
-    .before .before .before .before .before .before .before .args .summary .now) (c .before .before .before .before .before .before .before
-    .before .before .before .before .before .if3 .left)
+    length-take-le summaryLength (c .before .before .before .before .before .before .before .before .before .before .before .before .before .before .before
+    .before .before .before .before .args .summary .now) (c .before .before .before .before .before .before .before .before .before .before .before .if3 .left)
 
 refused-requires-5 : tie.Need-refused-requires-5
 refused-requires-5 c κs = search needs
@@ -193,17 +194,17 @@ same-length-6 c = search needs
 
 returns-5 : tie.Need-returns-5
 returns-5 c =
-    let a = c .before .before .before .before .before .before .before .before .before .before .before .before .before .before .before
-    .before .before .before .before .before .before .before .before .before .args in
+    let a = c .before .before .before .before .before .before .before .before .before .before .before .before .before .before .before .before .before .before
+    .before .before .before .before .before .args in
     let r = c .refused5 .ensures in
     rw (ap (λ k. k .answer) r, ap (λ k. k .wait) r)
     (entry-refused (a .table .now) (a .summary .now) (a .action) (a .process) (a .time)
-    (record-counted (a .table .now) (a .summary .now) (a .action) (a .process) (a .time) (sound (c .before .before .before .before .before
-    .before .before .before .before .before .before .before .before .before .before .before .before)) (c .before .before .before .before
-    .before .before .before .before .before .before .before .before .before .before .before .before .if3 .left) (fault (c .before .before
-    .before .before .before .before .before .before .before .before .before .before))
-    (c .before .before .before .before .before .before .before .before .before .before .before .if4 .left) (c .before .before .before
-    .before .before .before .before .before .before .before .before .before .before .before .before .before .before .before .before .before
+    (record-counted (a .table .now) (a .summary .now) (a .action) (a .process) (a .time) (sound
+    (c .before .before .before .before .before .before .before .before .before .before .before .before .before .before .before .before))
+    (c .before .before .before .before .before .before .before .before .before .before .before .before .before .before .before .if3 .left) (fault
+    (c .before .before .before .before .before .before .before .before .before .before .before .before))
+    (c .before .before .before .before .before .before .before .before .before .before .before .if4 .left)
+    (c .before .before .before .before .before .before .before .before .before .before .before .before .before .before .before .before .before .before .before
     .before .if1 .left) (acted (c .before .before .before .before .before .before .before .before .before))
     (c .before .before .before .before .before .if5 .taken) (c .before .before .before .count-refused .ensures))
     (c .before .before .before .before .before .if5 .taken) refl)
@@ -215,17 +216,15 @@ unused-time-requires c κs = search needs
 
 -- the unused time, by what was found of the table
 unused : (c : tie.After-unused-time)
-    → (let a = c .before .before .before .before .before .before .before .before .before .before .before .before .before .before .before
-    .before .before .before .before .before .args in
+    → (let a = c .before .before .before .before .before .before .before .before .before .before .before .before .before .before .before .before .before
+    .before .before .args in
     let first = take tableLength (a .table .now) in
     c .unused-time .result ≡ unusedBeside (surveyIn first (a .process) .critical) (a .action) (clockIn first) (a .time))
 unused c =
-    let a = c .before .before .before .before .before .before .before .before .before .before .before .before .before .before .before
-    .before .before .before .before .before .args in
-    let survey = c .before .before .before .before .before .before .before .before .before .before .before .before .before .before
-    .before .survey-table in
-    let clock = c .before .before .before .before .before .before .before .before .before .before .clock-in in
-    c .unused-time .ensures ∙ (λ i. unusedBeside (survey .ensures i .critical) (a .action) (clock .ensures i) (a .time))
+    let a = c .before .before .before .before .before .before .before .before .before .before .before .before .before .before .before .before .before .before
+    .before .args in
+    let survey = c .before .before .before .before .before .before .before .before .before .before .before .before .before .before .survey-table in
+    c .unused-time .ensures ∙ (λ i. unusedBeside (survey .ensures i .critical) (a .action) (clock-read (a .table .now) i) (a .time))
 
 slice-relend-prefix-count-accepted : tie.Need-slice-relend-prefix-count-accepted
 slice-relend-prefix-count-accepted c = search needs
@@ -239,24 +238,23 @@ slice-reshare-prefix-count-accepted c =
     omega (
       arith,
       new-size (c .before .before .before .before .before .before),
-      length-append l (drop tableLength (c .before .before .before .before .before .before .before .before .before .before .before .before
-          .before .before .before .before .before .before .before .before .before .args .table .now)),
+      length-append l (drop tableLength (c .before .before .before .before .before .before .before .before .before .before .before .before .before .before
+          .before .before .before .before .before .before .args .table .now)),
     )
 
 slice-aggregate-count-accepted-2 : tie.Need-slice-aggregate-count-accepted-2
 slice-aggregate-count-accepted-2 c =
-    sym (ap length (front (c .before .before .before .before .before .before .before)) ∙ new-size (c .before .before .before .before .before
-    .before .before))
+    sym (ap length (front (c .before .before .before .before .before .before .before)) ∙ new-size (c .before .before .before .before .before .before .before))
 
 count-accepted-requires : tie.Need-count-accepted-requires
 count-accepted-requires c κs =
-    let a = c .before .before .before .before .before .before .before .before .before .before .before .before .before .before .before
-    .before .before .before .before .before .before .before .args in
-    let fits = c .before .before .before .before .before .before .before .before .before .before .before .before .before .before .if3 .left in
+    let a = c .before .before .before .before .before .before .before .before .before .before .before .before .before .before .before .before .before .before
+    .before .before .before .args in
+    let fits = c .before .before .before .before .before .before .before .before .before .before .before .before .before .if3 .left in
     let is = fault (c .before .before .before .before .before .before .before .before .before .before) in
     let none = c .before .before .before .before .before .before .before .before .before .if4 .left in
-    let long = c .before .before .before .before .before .before .before .before .before .before .before .before .before .before .before
-    .before .before .before .before .if1 .left in
+    let long = c .before .before .before .before .before .before .before .before .before .before .before .before .before .before .before .before .before
+    .before .if1 .left in
     let gave = acted (c .before .before .before .before .before .before .before) in
     let z = c .before .before .before .if5 .left in
     let back = front (c .before .before .before .before .before .before .before) in (
@@ -264,10 +262,12 @@ count-accepted-requires c κs =
       (
         ap length back ∙ new-size (c .before .before .before .before .before .before .before),
         (
-          ap isSoundTable back ∙ sound-after (a .table .now) (a .summary .now) (a .action) (a .process) (a .time) (sound (c .before .before
-              .before .before .before .before .before .before .before .before .before .before .before .before .before)) fits is none long gave z,
-          waits-fit (a .table .now) (a .summary .now) (a .action) (a .process) (a .time) (sound (c .before .before .before .before .before
-              .before .before .before .before .before .before .before .before .before .before)) fits is none long gave z (unused (c .before .before)),
+          ap isSoundTable back ∙ sound-after (a .table .now) (a .summary .now) (a .action) (a .process) (a .time) (sound
+              (c .before .before .before .before .before .before .before .before .before .before .before .before .before .before)) fits is none long gave z,
+          waits-fit (a .table .now) (a .summary .now) (a .action) (a .process) (a .time) (sound
+              (c .before .before .before .before .before .before .before .before .before .before .before .before .before
+              .before)) fits is none long gave z (unused
+              (c .before .before)),
         ),
       ),
     )
@@ -280,23 +280,22 @@ same-length-8 c = search needs
 
 returns-6 : tie.Need-returns-6
 returns-6 c =
-    let a = c .before .before .before .before .before .before .before .before .before .before .before .before .before .before .before
-    .before .before .before .before .before .before .before .before .before .before .args in
-    let safe = sound (c .before .before .before .before .before .before .before .before .before .before .before .before .before .before
-    .before .before .before .before) in
-    let fits = c .before .before .before .before .before .before .before .before .before .before .before .before .before .before .before
-    .before .before .if3 .left in
+    let a = c .before .before .before .before .before .before .before .before .before .before .before .before .before .before .before .before .before .before
+    .before .before .before .before .before .before .args in
+    let safe = sound (c .before .before .before .before .before .before .before .before .before .before .before .before .before .before .before .before
+    .before) in
+    let fits = c .before .before .before .before .before .before .before .before .before .before .before .before .before .before .before .before .if3 .left in
     let is = fault (c .before .before .before .before .before .before .before .before .before .before .before .before .before) in
     let none = c .before .before .before .before .before .before .before .before .before .before .before .before .if4 .left in
-    let long = c .before .before .before .before .before .before .before .before .before .before .before .before .before .before .before
-    .before .before .before .before .before .before .before .if1 .left in
+    let long = c .before .before .before .before .before .before .before .before .before .before .before .before .before .before .before .before .before
+    .before .before .before .before .if1 .left in
     let gave = acted (c .before .before .before .before .before .before .before .before .before .before) in
     let z = c .before .before .before .before .before .before .if5 .left in
     let d = unused (c .before .before .before .before .before) in
     let counted = c .before .before .count-accepted .ensures in
     entry-accepted (a .table .now) (a .summary .now) (a .action) (a .process) (a .time)
-    (record-accepted (a .table .now) (a .summary .now) (a .action) (a .process) (a .time) safe fits is none long gave z d (rw (front (c
-    .before .before .before .before .before .before .before .before .before .before)) at (counted .1)))
+    (record-accepted (a .table .now) (a .summary .now) (a .action) (a .process) (a .time) safe fits is none long gave z d (rw (front
+    (c .before .before .before .before .before .before .before .before .before .before)) at (counted .1)))
     z (wait-told (a .table .now) (a .summary .now) (a .action) (a .process) (a .time) safe fits is none long gave z d (counted .0))
 
 pub record-entry-spec : {M : Type 1} → statement M
@@ -317,9 +316,7 @@ record-entry-spec =
     refused-requires-3
     same-length-2
     returns-3
-    slice-reshare-prefix-clock-in
-    slice-aggregate-clock-in
-    clock-in-requires
+    slice-read-clock
     slice-reshare-prefix-fault-of
     slice-aggregate-fault-of
     fault-of-requires

@@ -72,9 +72,6 @@ waits-stay c = ap (drop countsLength) (c .put-counts .ensures) ∙ waits-kept (c
 
 -- The waits so far
 
-parameters-in-requires : tie.Need-parameters-in-requires
-parameters-in-requires c κs = search needs
-
 sub-wait-on : tie.Need-sub-wait-on
 sub-wait-on c = search needs
 
@@ -93,6 +90,9 @@ part-wait-on-start-2 c = search needs
 part-wait-on-end-2 : tie.Need-part-wait-on-end-2
 part-wait-on-end-2 c = search needs
 
+shared-slice-read-wait-on : tie.Need-shared-slice-read-wait-on
+shared-slice-read-wait-on c = search needs
+
 wait-on-requires : tie.Need-wait-on-requires
 wait-on-requires c κs =
     let a = c .before .before .before .before .before .before .before .before .before .before .before .before .before .before .before
@@ -100,17 +100,16 @@ wait-on-requires c κs =
     let h = c .before .before .before .before .before .before .before .before .before .before .before .before .before .before .before
     .before .before .pre in
     let put = counted-long (c .before .before .before .before .before .before) in
-    let n-is = c .before .before .parameters-in .ensures in
     let l = c .before .before .before .before .before .before .put-counts .last .0 in (
       ap length (waits-part l put) ∙ length-drop countsLength l ∙ omega (arith, put),
       (
         part-long (a .table .now) (h .1 .0) (h .1 .1 .0),
         (
-          rw n-is (few-processes (a .table .now) (h .1 .0) (h .1 .1 .0)),
+          few-processes (a .table .now) (h .1 .0) (h .1 .1 .0),
           (
             part-told (a .table .now) (h .1 .0) (h .1 .1 .0),
             (
-              rw n-is (past-part (a .table .now) (h .1 .0) (h .1 .1 .0)),
+              past-part (a .table .now) (h .1 .0) (h .1 .1 .0),
               λ i. rw (waits-part l put, waits-stay (c .before .before .before .before .before .before)) (h .1 .1 .1 i),
             ),
           ),
@@ -196,13 +195,13 @@ count-accepted-spec =
     counts-in-requires
     counts-after-requires
     put-counts-requires
-    parameters-in-requires
     sub-wait-on
     part-wait-on-start
     part-wait-on-end
     sub-wait-on-2
     part-wait-on-start-2
     part-wait-on-end-2
+    shared-slice-read-wait-on
     wait-on-requires
     does-clear-requires
     put-waited-requires

@@ -53,7 +53,11 @@ judge-requires : tie.Need-judge-requires
 judge-requires c κs = search needs
 
 put-action-requires : tie.Need-put-action-requires
-put-action-requires c κs = (c .before .before .before .before .before .before .before .before .before .before .before .before .before .before .before .before .before .pre, own-fits (c .before .before .before .before .before .before .before .before .before .before .before .before .before .before .before))
+put-action-requires c κs = (
+  c .before .before .before .before .before .before .before .before .before .before .before .before .before .before .before .before
+      .before .pre,
+  own-fits (c .before .before .before .before .before .before .before .before .before .before .before .before .before .before .before),
+)
 
 -- the answer, of the own entry and the row
 judged-is : (c : tie.After-judge)
@@ -61,8 +65,10 @@ judged-is : (c : tie.After-judge)
     let l = a .table .now in
     let own = c .before .before .before .before .before .before .before .before .before .before .location-in .result in
     c .judge .result
-    ≡ judged (a .found) (sceneIn l (a .process)) (stageOf own) (checkFrom own (bIn l)) (c .before .before .before .before .before .before .before .before .transition-of .result) (a .action) (a .time))
-judged-is c = rw (c .before .check-from .ensures, c .before .before .before .stage-of .ensures, c .before .before .before .before .scene-of .ensures) at (c .judge .ensures)
+    ≡ judged (a .found) (sceneIn l (a .process)) (stageOf own) (checkFrom own (bIn l))
+    (c .before .before .before .before .before .before .before .before .transition-of .result) (a .action) (a .time))
+judged-is c = rw (c .before .check-from .ensures, c .before .before .before .stage-of .ensures, c .before .before .before .before .scene-of .ensures) at
+    (c .judge .ensures)
 
 same-length : tie.Need-same-length
 same-length c = search needs
@@ -73,7 +79,9 @@ returns c =
     let a = met .before .before .before .before .before .before .before .before .before .before .before .before .before .before .args in
     let slot = met .before .before .before .before .before .before .before .before .before .before .before .before in
     acted-accepted (a .table .now) (a .found) (a .action) (a .process) (a .time) (slot .slot-of .result) (slot .slot-of .ensures)
-    (met .before .before .before .before .before .before .before .before .before .before .location-in .ensures) (met .before .before .before .before .before .before .before .before .transition-of .ensures) (judged-is met) (c .before .before .before .before .if1 .taken)
+    (met .before .before .before .before .before .before .before .before .before .before .location-in .ensures)
+    (met .before .before .before .before .before .before .before .before .transition-of .ensures) (judged-is met)
+    (c .before .before .before .before .if1 .taken)
     (c .before .before .put-action .ensures)
 
 same-length-2 : tie.Need-same-length-2
@@ -85,7 +93,8 @@ returns-2 c =
     let a = met .before .before .before .before .before .before .before .before .before .before .before .before .before .before .args in
     let slot = met .before .before .before .before .before .before .before .before .before .before .before .before in
     acted-refused (a .table .now) (a .found) (a .action) (a .process) (a .time) (slot .slot-of .result) (slot .slot-of .ensures)
-    (met .before .before .before .before .before .before .before .before .before .before .location-in .ensures) (met .before .before .before .before .before .before .before .before .transition-of .ensures) (judged-is met) (c .if1 .left)
+    (met .before .before .before .before .before .before .before .before .before .before .location-in .ensures)
+    (met .before .before .before .before .before .before .before .before .transition-of .ensures) (judged-is met) (c .if1 .left)
 
 pub act-spec : {M : Type 1} → statement M
 act-spec =

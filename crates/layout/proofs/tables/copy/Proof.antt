@@ -47,7 +47,8 @@ loop-again c =
       omega arith,
       v .inv .1,
       length-set (v .to) (v .i) _ ∙ v .inv .2,
-      ap (λ (l : List ℕ). set l (v .i) (getD (a .from .now) (v .i) 0)) (v .inv .3) ∙ copied-next (a .from .now) (a .to .now) (v .i) 0 (omega arith) (omega arith),
+      ap (λ (l : List ℕ). set l (v .i) (getD (a .from .now) (v .i) 0)) (v .inv .3) ∙ copied-next (a .from .now) (a .to .now) (v .i) 0 (omega arith)
+          (omega arith),
     )
 
 same-length : tie.Need-same-length Inv-loop μ-loop
