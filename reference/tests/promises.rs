@@ -5,7 +5,7 @@ use reference::generator::{generate, generate_list};
 use reference::list;
 use reference::machine::*;
 use reference::promises::{Kept, Promises};
-use reference::recording::read;
+use reference::recording::{read, Recording};
 
 /// 2c + 5a is 49.
 const VALUES: Values = Values::equal(2, 5, 8, 12);
@@ -49,14 +49,22 @@ impl Watched {
     }
 }
 
+fn keeps_them(recording: Recording) {
+    let mut watched = Watched::new(recording.values);
+    for taken in &recording.steps {
+        assert_eq!(watched.step(taken.act, taken.window, taken.time).1, Ok(()));
+    }
+}
+
 #[test]
 fn generated_recordings_keep_them() {
-    for recording in (0..400).filter_map(|index| read(&generate(4, index).text).ok()) {
-        let mut watched = Watched::new(recording.values);
-        for taken in &recording.steps {
-            assert_eq!(watched.step(taken.act, taken.window, taken.time).1, Ok(()));
-        }
-    }
+    (0..400).filter_map(|index| read(&generate(4, index).text).ok()).for_each(keeps_them);
+}
+
+/// In which a wait is longer than 2c + 5a would be by the smaller of two a.
+#[test]
+fn a_recording_with_windows_of_two_ages_keeps_them() {
+    keeps_them(read(include_bytes!("../corpus/two-ages.in")).expect("a recording"));
 }
 
 #[test]

@@ -1,17 +1,17 @@
-// From a table of `layout` to the deadline table that matches it, and back: what stands before the entries is the same in both, and the entries
-// are written one by one. No state is made of the numbers.
+// From a table of `layout` to the deadline table that matches it, and back: what stands before the entries is the same in both and is copied, and
+// the entries are written one by one. No state is made of the numbers.
 use crate::arrivals::location_in;
-use crate::headers::clock_in;
-use crate::headers::parameters_in;
-use crate::headers::put_clock;
-use crate::headers::put_parameters;
-use crate::headers::word_in;
 use crate::tables::first_at;
 use crate::tables::place_of;
 use crate::tables::put_entry;
 use crate::tables::stage_at;
 use deadlines::locations::dated;
 use deadlines::locations::less;
+use layout::tables::B;
+use layout::tables::C;
+use layout::tables::HEADER;
+use layout::tables::LIMITS;
+use layout::tables::copy;
 use model::Location;
 use rules::stages::CHECKING;
 use rules::stages::location_at;
@@ -32,13 +32,13 @@ pub(crate) fn put_dated(out: &mut [u64], table: &[u64])
     requires { ⌜ soundOf (stateIn (now table)) ≡ true ⌝ }
     ensures { λ _. ⌜ now (out .exit) ≡ stateNumbersWith (matched (stateIn (now (table .entry)))) ⌝ }
 {
-    let parameters = parameters_in(table);
-    put_parameters(out, parameters);
-    put_clock(out, clock_in(table), word_in(table));
+    copy(&mut out[..HEADER], &table[..HEADER]);
+    let b = table[B];
+    let c = table[C];
     let mut i: usize = 0;
     while i < 96 {
         let location = location_in(table, i);
-        put_entry(out, i, dated(parameters, (i as u64) + 1, location));
+        put_entry(out, i, dated(b, c, table[LIMITS + i], location));
         i += 1;
     }
 }
@@ -65,12 +65,11 @@ pub(crate) fn put_arrived(out: &mut [u64], deadlines: &[u64])
     requires { ⌜ entriesTold (now deadlines) ≡ true ⌝ }
     ensures { λ _. ⌜ now (out .exit) ≡ stateNumbers (arrived (stateWithIn (now (deadlines .entry)))) ⌝ }
 {
-    let parameters = parameters_in(deadlines);
-    put_parameters(out, parameters);
-    put_clock(out, clock_in(deadlines), word_in(deadlines));
+    copy(&mut out[..HEADER], &deadlines[..HEADER]);
+    let b = deadlines[B];
     let mut i: usize = 0;
     while i < 96 {
-        let location = arrived_in(deadlines, i, parameters.b);
+        let location = arrived_in(deadlines, i, b);
         crate::arrivals::put_entry(out, i, location);
         i += 1;
     }

@@ -2,7 +2,6 @@
 // of them. No other code knows a place of a deadline table.
 mod arrivals;
 mod conversions;
-mod headers;
 mod steps;
 mod tables;
 

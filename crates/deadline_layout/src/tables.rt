@@ -1,13 +1,12 @@
-// A deadline table in lent numbers: n, a, b, c, clock and word stand as in a table of `layout`, and after them of each entry its stage, its
-// first time and its last.
-use crate::headers::put_clock;
-use crate::headers::put_parameters;
+// A deadline table in lent numbers: n, b, c, clock, word and the values of a stand as in a table of `layout`, and after them of each entry its
+// stage, its first time and its last.
 use deadlines::DeadlineLocation;
 use deadlines::DeadlineState;
 use deadlines::locations::first_of;
 use deadlines::locations::last_of;
 use deadlines::locations::stage_with;
 use layout::tables::HEADER;
+use layout::tables::put_header;
 ghost use mathlib.Core.Path.{_≡_};
 ghost use Prim.Native.Nat.{_+_, _<_, _≤_};
 ghost use lib.ListN.{length, getD};
@@ -74,8 +73,7 @@ pub(crate) fn put_table(table: &mut [u64], state: DeadlineState)
     ensures { λ _. ⌜ now (table .exit) ≡ stateNumbersWith state ⌝ }
 {
     let parameters = state.parameters;
-    put_parameters(table, parameters);
-    put_clock(table, state.clock, state.word);
+    put_header(table, parameters, state.clock, state.word);
     let mut i: usize = 0;
     while i < 96 {
         let entry = state.processes[i];

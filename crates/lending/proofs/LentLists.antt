@@ -15,20 +15,22 @@ use Rattle.model.specs.Calls.{Call, callOf, tableOf, runOf, resultsOf}
 use Rattle.model.specs.Readings.{over}
 use Rattle.layout.specs.Encodings.{tableLength, stateNumbers, isSoundTable}
 use Rattle.model.proofs.Lists.{over-seam}
-use Rattle.theory.proofs.Soundness.{fresh-is-plain, fresh-is}
+use Rattle.theory.proofs.Soundness.{fresh-is}
 use Rattle.lists.specs.Demand3.{Demand3}
 use Rattle.lists.proofs.Calls.{unsound-call}
-use Rattle.lists.proofs.Sizes.{Whole, call-whole, run-whole}
 use Rattle.lists.proofs.Demand3.{every-list}
+use Rattle.layout.specs.Numbers.{IsWhole}
 use Rattle.layout.proofs.Encodings.{table-length, table-comes-back}
+use Rattle.layout.proofs.Starting.{fresh-whole}
 use Rattle.layout.specs.Interface.{Lent, lentGave, lentStep, LentBoth, recordGave}
 use Rattle.lending.specs.Guarantees.{LentCall, lentCall, lentResults, lentRun, callLent, summaryAfter}
 use Rattle.lending.specs.Guarantees.{inNumbers, allInNumbers, LentNotStuck, LentDemand3, EveryLentList}
+use Rattle.lending.proofs.Sizes.{call-whole, run-whole}
 use Rattle.lending.proofs.LentSteps.{FreshGiven, fresh-given, stepCall, summary-kept, CallGiven, given}
 
 -- One call
 
-module _ (s : State) (whole : Whole s) (rest : List ℕ) where
+module _ (s : State) (whole : IsWhole s) (rest : List ℕ) where
   abbrev numbers : List ℕ
   numbers = stateNumbers s ++ rest
 
@@ -37,7 +39,7 @@ module _ (s : State) (whole : Whole s) (rest : List ℕ) where
   sound-told = rw (table-comes-back s whole rest .0, table-comes-back s whole rest .1)
 
   -- the numbers of a table as large take the place of these
-  takes-place : (t : State) → Whole t → over (stateNumbers t) numbers ≡ stateNumbers t ++ rest
+  takes-place : (t : State) → IsWhole t → over (stateNumbers t) numbers ≡ stateNumbers t ++ rest
   takes-place t h = over-seam (stateNumbers t) (stateNumbers s) rest (table-length t h ∙ sym (table-length s whole))
 
   module _ (d : LentCall) where
@@ -75,7 +77,7 @@ module _ (s : State) (whole : Whole s) (rest : List ℕ) where
 -- A list of calls
 
 module _ (rest : List ℕ) where
-  results-in-numbers : (s : State) → Whole s → (ds : List LentCall)
+  results-in-numbers : (s : State) → IsWhole s → (ds : List LentCall)
       → lentResults (stateNumbers s ++ rest) ds ≡ allInNumbers rest ds (resultsOf s (map callLent ds))
   unfolding resultsBy allInNumbers
   results-in-numbers s whole [] = refl
@@ -84,7 +86,7 @@ module _ (rest : List ℕ) where
       ∙ ap (λ (gs : List LentBoth). inNumbers rest d (callOf s (callLent d)) ∷ gs)
       (results-in-numbers (tableOf s (callLent d)) (call-whole s whole (callLent d)) ds)
 
-  run-in-numbers : (s : State) → Whole s → (ds : List LentCall)
+  run-in-numbers : (s : State) → IsWhole s → (ds : List LentCall)
       → lentRun (stateNumbers s ++ rest) ds ≡ stateNumbers (runOf s (map callLent ds)) ++ rest
   unfolding endBy
   run-in-numbers s whole [] = refl
@@ -103,7 +105,7 @@ module _ (k : Parameters) (table : List ℕ) (ds : List LentCall) where
   fresh-list (FreshGiven.made _ _) e =
       let s = freshOf k .state in
       let rest = drop tableLength table in
-      let whole = fresh-is-plain k .fresh e .size in
+      let whole = fresh-whole k e in
       let last = runOf s (map callLent ds) in
       let last-is = run-in-numbers rest s whole ds in
       let demand3 = every-list s (fresh-is k e) (map callLent ds) in

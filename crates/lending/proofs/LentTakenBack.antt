@@ -16,10 +16,9 @@ use Rattle.layout.specs.Encodings.{clockPlace, stateNumbers, tableIn, isSoundTa
 use Rattle.layout.specs.Interface.{Lent, lentStep}
 use Rattle.lending.specs.Guarantees.{LentTakenBack, LentWithdrawUndoesTry}
 use Rattle.model.proofs.Tests.{by-test}
-use Rattle.theory.proofs.Acceptance.{next-is-changed}
 use Rattle.theory.proofs.TakenBack.{withdraw-undoes-try}
-use Rattle.lists.proofs.Sizes.{Whole}
-use Rattle.layout.proofs.Encodings.{sound-is-table, table-is-whole, numbers-come-back}
+use Rattle.layout.specs.Numbers.{IsWhole}
+use Rattle.layout.proofs.Encodings.{sound-is-table, table-is-whole, step-whole, numbers-come-back}
 use Rattle.lending.proofs.LentLists.{step-in-numbers, step-code}
 
 -- the try and the withdraw of process p on the numbers `table`
@@ -30,12 +29,12 @@ clock-set : {s t : State} {m : ℕ} (rest : List ℕ) → ClockOnly s m t → st
 unfolding stateNumbers
 clock-set rest c = rw (c .parameters-stay, c .clock-is, c .word-stays, c .entries-stay)
 
-module _ (s : State) (whole : Whole s) (rest : List ℕ) (p m : ℕ) where
+module _ (s : State) (whole : IsWhole s) (rest : List ℕ) (p m : ℕ) where
   undone : Accepted (stepOf s tryAct p m) → Undone p m (stateNumbers s ++ rest)
   undone a =
       let s′ = stepOf s tryAct p m .state in
-      let whole′ = next-is-changed s whole tryAct p m a .size-stays ∙ whole in
-      let back = withdraw-undoes-try s whole p m a in
+      let whole′ = step-whole s tryAct p m a whole in
+      let back = withdraw-undoes-try s (whole .entries) p m a in
       let second =
       ap (λ (g : Lent). lentStep (g .table) withdrawAct p m) (step-in-numbers s whole rest tryAct p m)
       ∙ step-in-numbers s′ whole′ rest withdrawAct p m in

@@ -20,20 +20,23 @@ use Rattle.layout.specs.Encodings.{tableLength, stateNumbers, summaryLength, st
 use Rattle.model.proofs.Lists.{over-seam}
 use Rattle.tallies.specs.Tallies.{recordNext, recordAll, recordsOf, startOf}
 use Rattle.theory.proofs.Soundness.{fresh-is-plain, fresh-is}
-use Rattle.lists.proofs.Sizes.{Whole, call-whole, waited-as-long}
+use Rattle.lists.proofs.Sizes.{waited-as-long}
 use Rattle.tallies.proofs.Tallies.{every-tally}
+use Rattle.layout.specs.Numbers.{IsWhole}
 use Rattle.layout.proofs.Encodings.{table-length, summary-length, summary-comes-back}
+use Rattle.layout.proofs.Starting.{fresh-whole as table-whole}
 use Rattle.layout.specs.Interface.{Lent, LentSummary, LentBoth, recordGave}
 use Rattle.lending.specs.Guarantees.{LentCall, lentCall, callLent, inNumbers, lentAll, lentRecords}
 use Rattle.lending.specs.Guarantees.{bothInNumbers, lentCode, EveryLentTally}
+use Rattle.lending.proofs.Sizes.{call-whole}
 use Rattle.lending.proofs.LentSteps.{FreshGiven, fresh-given, NewGiven, new-given, recordCall}
 use Rattle.lending.proofs.LentLists.{call-in-numbers}
 
 -- One recorded step
 
--- a table with its 96 entries and a summary with its 96 waits so far
+-- a table with its 96 values of a and its 96 entries, and a summary with its 96 waits so far
 pub record BothWhole (r : Recorded) : Type 0 where
-  pub table : Whole (r .outcome .state)
+  pub table : IsWhole (r .outcome .state)
   pub summary : length (r .statistics .waited) ≡ 96
 
 module _ (rest spare : List ℕ) (r : Recorded) (whole : BothWhole r) (e : Event) where
@@ -102,7 +105,7 @@ module _ (k : Parameters) (table summary : List ℕ) where
   fresh-in-numbers (FreshGiven.refused n) _ e f = absurd (n e)
   fresh-in-numbers (FreshGiven.made _ _) NewGiven.refused e f = absurd (omega arith)
   fresh-in-numbers (FreshGiven.made _ _) (NewGiven.made _) e f =
-      rw (fresh-is-plain k .answer e, table-length (freshOf k .state) (fresh-is-plain k .fresh e .size), summary-length newStatistics refl)
+      rw (fresh-is-plain k .answer e, table-length (freshOf k .state) (table-whole k e), summary-length newStatistics refl)
 
   pub fresh-accepted : {g : Lent} → FreshGiven k table g → g .answer .code ≡ 0 → Accepted (freshOf k)
   fresh-accepted (FreshGiven.refused n) e = absurd (n e)
@@ -110,7 +113,7 @@ module _ (k : Parameters) (table summary : List ℕ) where
 
 -- the start has all its entries and waits so far
 pub fresh-whole : (k : Parameters) → Accepted (freshOf k) → BothWhole (startOf (freshOf k .state))
-fresh-whole k e = record { table = fresh-is-plain k .fresh e .size; summary = refl }
+fresh-whole k e = record { table = table-whole k e; summary = refl }
 
 pub every-lent-tally : EveryLentTally
 every-lent-tally k table summary es e f =

@@ -1,4 +1,5 @@
 pub mod LentSteps
+pub mod Sizes
 pub mod Refusals
 pub mod Writes
 pub mod LentLists

@@ -33,16 +33,18 @@ use Rattle.lending.specs.Guarantees.{LentCall, lentCall, callLent}
 use Rattle.model.proofs.Lists.{length-over}
 use Rattle.model.proofs.Tests.{by-test}
 use Rattle.theory.proofs.Entries.{entry-at}
-use Rattle.theory.proofs.Soundness.{fresh-is-plain}
 use Rattle.theory.proofs.Waits.{unused-used, tryingAt, waited-other, waited-on-zero, cleared-other, clears-some}
 use Rattle.theory.proofs.Rows.{from-ready}
 use Rattle.theory.proofs.Steps.{stepped, accepted-is}
 use Rattle.lists.proofs.Calls.{Called, called}
-use Rattle.lists.proofs.Sizes.{Whole, call-whole, recorded-waited, waited-as-long}
+use Rattle.lists.proofs.Sizes.{recorded-waited, waited-as-long}
+use Rattle.layout.specs.Numbers.{IsWhole}
 use Rattle.layout.proofs.Storing.{moved-stored, waited-stored}
+use Rattle.layout.proofs.Starting.{fresh-whole}
 use Rattle.layout.proofs.Encodings.{table-length, table-fits, table-is-whole, numbers-come-back, sound-is-table}
 use Rattle.layout.proofs.Encodings.{summary-length, summary-is-whole, summary-numbers-come-back}
 use Rattle.lending.proofs.LentSteps.{FreshGiven, fresh-given, NewGiven, new-given, RecordGiven, record-given}
+use Rattle.lending.proofs.Sizes.{call-whole}
 use Rattle.lending.proofs.LentSteps.{stepCall, recordCall, CallGiven, Given, given}
 
 -- The numbers of the table after an act
@@ -58,7 +60,7 @@ module _ {p k : ℕ} (e : Elsewhere p k) where
       getD-set-other (set l (stagePlace (p - 1)) (stageOf to)) (sincePlace (p - 1)) k (sinceOf to) 0 (e .not-since some)
       ∙ getD-set-other l (stagePlace (p - 1)) k (stageOf to) 0 (e .not-stage some)
 
-  module _ (s : State) (m : ℕ) where
+  module _ (s : State) (size : length (s .parameters .a) ≡ 96) (m : ℕ) where
     abbrev Stays : State → Type 0
     Stays t = getD (stateNumbers t) k 0 ≡ getD (stateNumbers s) k 0
 
@@ -67,7 +69,7 @@ module _ {p k : ℕ} (e : Elsewhere p k) where
 
     move-stays : 1 ≤ p → (t : Transition) → Stays (moved s p m t)
     move-stays some t =
-        rw (moved-stored s p m t)
+        rw (moved-stored s size p m t)
         (placed-stays some (clocked (stateNumbers s) m (t .word)) (t .to) ∙ clocked-stays (stateNumbers s) m (t .word))
 
     effect-stays : {act : ℕ} → Waits act p ⊎ Acts s act p m → Stays (effect s act p m)
@@ -76,12 +78,12 @@ module _ {p k : ℕ} (e : Elsewhere p k) where
     effect-stays {act} (inr a) = rw (ne-eqb act waitAct (from-ready (a .from) .not-wait)) (move-stays (a .some) (transitionOf (s .word) act p m))
 
 -- of any call: a refused one leaves them all
-numbers-stay : {s : State} {d : Call} {o : Outcome} → Called s d o → (k : ℕ) → Elsewhere (d .process) k
+numbers-stay : {s : State} {d : Call} {o : Outcome} → length (s .parameters .a) ≡ 96 → Called s d o → (k : ℕ) → Elsewhere (d .process) k
     → getD (stateNumbers (o .state)) k 0 ≡ getD (stateNumbers s) k 0
-numbers-stay {s} {d} (Called.accepted a) k e =
+numbers-stay {s} {d} size (Called.accepted a) k e =
     let t = accepted-is (stepped s (d .action) (d .process) (d .time)) a in
-    rw (t .is) (effect-stays e s (d .time) (t .allowed .turn))
-numbers-stay (Called.refused _ same) k e = rw same
+    rw (t .is) (effect-stays e s size (d .time) (t .allowed .turn))
+numbers-stay size (Called.refused _ same) k e = rw same
 
 -- The numbers of the summary after an act
 
@@ -141,7 +143,7 @@ over-as-long xs l e h = length-over xs l (omega arith)
 
 module _ (table : List ℕ) (d : LentCall) where
   module _ (sound : isSoundTable table ≡ true) where
-    whole : Whole (tableIn table)
+    whole : IsWhole (tableIn table)
     whole = table-is-whole table (sound-is-table table sound)
 
     after-length : length (stateNumbers (tableOf (tableIn table) (callLent d))) ≡ tableLength
@@ -153,7 +155,7 @@ module _ (table : List ℕ) (d : LentCall) where
   given-writes (CallGiven.taken sound) k e =
       let s = tableIn table in
       over-same (stateNumbers (tableOf s (callLent d))) (stateNumbers s) table (numbers-come-back table (sound-is-table table sound))
-      (after-length sound ∙ sym (table-length s (whole sound))) k (numbers-stay (called s (callLent d)) k e)
+      (after-length sound ∙ sym (table-length s (whole sound))) k (numbers-stay (whole sound .limits) (called s (callLent d)) k e)
 
   given-as-long : {g : LentBoth} → Given table d g → length (g .table) ≡ length table
   given-as-long (CallGiven.no-table _) = refl
@@ -209,7 +211,7 @@ fresh-as-long : {k : Parameters} {table : List ℕ} {g : Lent} → FreshGiven k 
 fresh-as-long (FreshGiven.refused _) = refl
 fresh-as-long {k} {table} (FreshGiven.made e fits) =
     let s = freshOf k .state in
-    over-as-long (stateNumbers s) table (table-length s (fresh-is-plain k .fresh e .size)) fits
+    over-as-long (stateNumbers s) table (table-length s (fresh-whole k e)) fits
 
 new-as-long : {summary : List ℕ} {g : LentSummary} → NewGiven summary g → length (g .summary) ≡ length summary
 new-as-long NewGiven.refused = refl

@@ -26,7 +26,7 @@ fn with_number(mut numbers: [u64; 4], i: usize, v: u64) -> [u64; 4]
 }
 
 // [6.80] A refusal's code and line.
-fn line_fails(code: u64, line: u64) -> Line
+pub fn line_fails(code: u64, line: u64) -> Line
     ensures { λ r. ⌜ r ≡ record { code = code; line = line; numbers = replicate 4 0; size = 0 } ⌝ }
 {
     Line {

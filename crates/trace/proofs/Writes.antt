@@ -33,22 +33,22 @@ abbrev pub done : Task → Written
 done t = writeOf (t .parameters) (t .events) (t .out)
 
 module _ (t : Task) where
-  pub write-uncounted : countStands (t .parameters) ≡ false → done t ≡ unwritten 11 0 (t .out)
+  pub write-uncounted : countStands (t .parameters .n) ≡ false → done t ≡ unwritten 11 0 (t .out)
   unfolding writeOf
   write-uncounted e = rw e
 
-  pub write-unlimited : countStands (t .parameters) ≡ true → limitsStand (t .parameters) ≡ false → done t ≡ unwritten 12 0 (t .out)
+  pub write-unlimited : countStands (t .parameters .n) ≡ true → limitsStand (t .parameters) ≡ false → done t ≡ unwritten 12 0 (t .out)
   unfolding writeOf
   write-unlimited e f = rw (e, f)
 
-  pub write-formless : countStands (t .parameters) ≡ true → limitsStand (t .parameters) ≡ true → formless t ≢ 0
+  pub write-formless : countStands (t .parameters .n) ≡ true → limitsStand (t .parameters) ≡ true → formless t ≢ 0
       → done t ≡ unwritten 14 (formless t) (t .out)
   unfolding writeOf
   write-formless e f g = rw (e, f, ne-eqb (formless t) 0 g)
 
 -- count, limits and forms are as they should be
 pub record Sound (t : Task) : Type 0 where
-  pub counted : countStands (t .parameters) ≡ true
+  pub counted : countStands (t .parameters .n) ≡ true
   pub limited : limitsStand (t .parameters) ≡ true
   pub formed : formless t ≡ 0
 
@@ -71,4 +71,4 @@ module _ {t : Task} (s : Sound t) where
     write-done h =
         rw (sets-over (textOf t) (t .out) h)
         (write-is (t .parameters) (t .events) (t .out)
-        (record { stand = and-true-iff (countStands (t .parameters)) _ .1 (s .counted, s .limited); forms = s .formed; short = short }) h)
+        (record { stand = and-true-iff (countStands (t .parameters .n)) _ .1 (s .counted, s .limited); forms = s .formed; short = short }) h)

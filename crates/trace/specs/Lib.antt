@@ -1,1 +1,2 @@
 pub mod Passes
+pub mod ReadingTo

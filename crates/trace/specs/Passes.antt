@@ -3,14 +3,16 @@
 use Prim.Native.Nat.{ℕ, _+_, _≤_}
 use mathlib.Core.Path.{_≡_}
 use mathlib.Core.Bool.{cond}
-use mathlib.Core.List.{List}
+use mathlib.Core.List.{List, []}
 use lib.Dec.{ltb, eqb}
 use lib.ListN.{length}
 use lib.Seq.{sets}
 use Rattle.model.specs.declared.Parameters.{Parameters}
 use Rattle.model.specs.declared.Scan.{Scan}
+use Rattle.model.specs.declared.Answer.{Answer}
 use Rattle.model.specs.Texts.{textLimit}
-use Rattle.model.specs.Readings.{scanOf, scanFails, Body}
+use Rattle.model.specs.Answers.{answerOf}
+use Rattle.model.specs.Readings.{scanOf, scanFails, Body, lists, readOf}
 use Rattle.trace.specs.declared.steps.Counted.{Counted}
 use Rattle.trace.specs.declared.steps.Counted.the-variants.{Steps, Fault}
 use Rattle.trace.specs.declared.texts.Size.{Size}
@@ -24,6 +26,13 @@ countedOf b = cond (eqb (b .fault) 0) (Steps (length (b .events))) (Fault 14 (b 
 abbrev pub scanFound : ℕ → Parameters → Counted → Scan
 scanFound first k (Steps count) = scanOf first k count
 scanFound first k (Fault code line) = scanFails code line
+
+-- [9.90] the answer to a text where the values of a have no room: its own refusal, or 16. Read without room for a step, a text without a fault
+-- is answered with 0 or 16
+abbrev pub answerWithoutRoom : List ℕ → Answer
+answerWithoutRoom text =
+    let answer = readOf text (lists [] [] []) .reading .answer in
+    cond (eqb (answer .code) 0) (answerOf 16 0 0) answer
 
 -- how many bytes there are, up to 65,536
 abbrev pub sizeOf : ℕ → Size

@@ -1,10 +1,9 @@
-// Reader and writer of recordings: `scan` and `read` take a text apart into lent lists, `write` makes a text of lists. They take
-// anything, and give back what `scannedOf`, `readOf` and `writeOf` of the model say, refusals included.
+// Reader and writer of recordings: `scan`, `read` and `read_to` take a text apart into lent lists, `write` makes a text of lists. They take
+// anything, and give back what `scannedOf`, `readOf` and `writeOf` of the model and `readToOf` say, refusals included.
 mod lines;
 mod steps;
 mod texts;
 
-use crate::lines::first_line;
 use crate::lines::head_of;
 use crate::lines::scan_fails;
 use crate::steps::Counted;
@@ -19,13 +18,17 @@ use model::Parameters;
 use model::Reading;
 use model::Scan;
 use values::answer_with;
-use values::count_stands;
 use values::least;
-use values::limits_stand;
+use values::limits::count_stands;
+use values::limits::parameters_stand;
 use values::no_parameters;
 ghost use mathlib.Core.Path.{_≡_};
-ghost use Rattle.model.specs.Readings.{lent, scanGave, scannedOf, lineTold, readingFrom, readGave, readOf};
+ghost use Prim.Native.Nat.{_≤_};
+ghost use lib.ListN.{length};
+ghost use Rattle.model.specs.Readings.{lent, over, scanGave, scannedOf, lineTold, readingFrom, readGave, readOf};
 ghost use Rattle.model.specs.Writings.{eventsOf, writeGave, writeOf};
+ghost use Rattle.trace.specs.Passes.{answerWithoutRoom};
+ghost use Rattle.trace.specs.ReadingTo.{readingToOf, readToGave, readToOf};
 
 // [6.145] [6.90] [6.130] [6.133] [6.136] [6.140] [21.110] Scans a recording: its steps go to the three lists. A refused scan stores nothing.
 pub fn scan(text: &[u8], times: &mut [u64], processes: &mut [u64], actions: &mut [u64]) -> Scan
@@ -95,6 +98,83 @@ pub fn read(text: &[u8], times: &mut [u64], processes: &mut [u64], actions: &mut
     reading_from(found)
 }
 
+// [9.90] What a reading for the library answers; n, b and c are 0 where it is refused. Its fields lie as in C, for `funnelfawn`.
+#[repr(C)]
+pub struct ReadingTo {
+    pub answer: Answer,
+    pub n: u64,
+    pub b: u64,
+    pub c: u64,
+}
+
+// [9.90] [6.140] A refusal.
+fn unread_to(answer: Answer) -> ReadingTo
+    ensures { λ r. ⌜ r ≡ readingToOf answer 0 0 0 ⌝ }
+{
+    ReadingTo {
+        answer: answer,
+        n: 0,
+        b: 0,
+        c: 0,
+    }
+}
+
+// [9.90] [4.16] The answer to a text where the values of a have no room: its own refusal, or 16.
+fn answer_without_room(text: &[u8]) -> Answer
+    ensures { λ r. ⌜ r ≡ answerWithoutRoom (now (text .entry)) ⌝ }
+{
+    let mut times: [u64; 0] = [];
+    let mut processes: [u64; 0] = [];
+    let mut actions: [u64; 0] = [];
+    let reading = read(text, &mut times, &mut processes, &mut actions);
+    let answer = reading.answer;
+    if answer.code == 0 {
+        return answer_with(16, 0, 0);
+    }
+    answer
+}
+
+// [9.90] The values of a, to the first places of a list.
+fn store_limits(list: &mut [u64], a: &[u64])
+    requires { ⌜ length (now a) ≤ length (now list) ⌝ }
+    ensures { λ _. ⌜ now (list .exit) ≡ over (now (a .entry)) (now (list .entry)) ⌝ }
+{
+    let mut i: usize = 0;
+    while i < a.len() {
+        list[i] = a[i];
+        i += 1;
+    }
+}
+
+// [9.90] [6.130] [6.140] [21.110] Reads a recording as `read` does; its values of a go to the first 96 places of a list.
+pub fn read_to(
+    text: &[u8],
+    a: &mut [u64],
+    times: &mut [u64],
+    processes: &mut [u64],
+    actions: &mut [u64],
+) -> ReadingTo
+    ensures { λ r. ⌜ readToGave r (now (a .exit)) (lent (times .exit) (processes .exit) (actions .exit))
+        ≡ readToOf (now (text .entry)) (now (a .entry)) (lent (times .entry) (processes .entry) (actions .entry)) ⌝ }
+{
+    if a.len() < 96 {
+        return unread_to(answer_without_room(text));
+    }
+    let reading = read(text, times, processes, actions);
+    let answer = reading.answer;
+    if answer.code != 0 {
+        return unread_to(answer);
+    }
+    let parameters = reading.parameters;
+    store_limits(a, &parameters.a);
+    ReadingTo {
+        answer: answer,
+        n: parameters.n,
+        b: parameters.b,
+        c: parameters.c,
+    }
+}
+
 // [6.150] [6.153] [6.156] [6.170] [6.180] [21.110] Writes a recording of the steps in the three lists, as many as the shortest holds.
 // A refused writing stores nothing.
 pub fn write(
@@ -107,13 +187,15 @@ pub fn write(
     ensures { λ r. ⌜ writeGave r (now (out .exit))
         ≡ writeOf parameters (eventsOf (lent (times .entry) (processes .entry) (actions .entry))) (now (out .entry)) ⌝ }
 {
-    if !count_stands(parameters) {
+    if !count_stands(parameters.n) {
         return answer_with(11, 0, 0);
     }
-    if !limits_stand(parameters) {
+    if !parameters_stand(parameters.n, parameters.b, parameters.c, &parameters.a) {
         return answer_with(12, 0, 0);
     }
-    let line = formless(first_line(parameters), times, processes, actions);
+    // [6.50] the line of the first step
+    let first = parameters.n + 5;
+    let line = formless(first, times, processes, actions);
     if line != 0 {
         return answer_with(14, 0, line);
     }

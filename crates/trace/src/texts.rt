@@ -9,8 +9,10 @@ use text::puts::put_word;
 use text::words::COUNT;
 use values::least;
 ghost use mathlib.Core.Path.{_≡_};
-ghost use Prim.Native.Nat.{_≤_};
-ghost use Rattle.model.specs.Texts.{event, hasForm, eventText, headText, eventsText, traceText};
+ghost use mathlib.Core.List.{[], _∷_};
+ghost use Prim.Native.Nat.{_*_, _≤_};
+ghost use lib.ListN.{length};
+ghost use Rattle.model.specs.Texts.{event, hasForm, numbersText, limitsText, eventText, headText, eventsText, traceText};
 ghost use Rattle.model.specs.Readings.{lent};
 ghost use Rattle.model.specs.Writings.{eventsOf, formlessFrom};
 ghost use Rattle.text.specs.Puts.{Put};
@@ -51,16 +53,45 @@ pub(crate) fn formless(first: u64, times: &[u64], processes: &[u64], actions: &[
     0
 }
 
-// [6.20] [6.30] [6.40] The first three lines.
-fn put_head(out: &mut [u8], parameters: Parameters) -> usize
-    ensures { λ r. ⌜ Put (now (out .entry)) (now (out .exit)) 0 (headText parameters) r ⌝ }
-    ensures { λ r. ⌜ r ≤ 114 ⌝ }
+// [6.34] The line of a process. The place is a u32 so that no sum of places overflows.
+fn put_limit(out: &mut [u8], at: u32, process: u64, limit: u64) -> usize
+    ensures { λ r. ⌜ Put (now (out .entry)) (now (out .exit)) at (numbersText process (limit ∷ [])) r ⌝ }
+    ensures { λ r. ⌜ r ≤ 42 ⌝ }
 {
-    let rest = [parameters.a, parameters.b, parameters.c];
-    let i = put_text(out, 0, b"windows,a,b,c\n");
+    put_numbers(out, at, process, &[limit])
+}
+
+// [6.34] The lines of a, from place `at` on.
+fn put_limits(out: &mut [u8], at: usize, a: &[u64]) -> usize
+    requires { ⌜ (at ≤ 65536) × (length (now a) ≤ 96) ⌝ }
+    ensures { λ r. ⌜ Put (now (out .entry)) (now (out .exit)) at (limitsText 1 (now (a .entry))) r ⌝ }
+    ensures { λ r. ⌜ r ≤ 42 * length (now (a .entry)) ⌝ }
+{
+    let mut size: usize = 0;
+    let mut i: usize = 0;
+    while i < a.len() {
+        let place = at + size;
+        size += put_limit(out, place as u32, (i as u64) + 1, a[i]);
+        i += 1;
+    }
+    size
+}
+
+// [6.20] [6.30] [6.32] [6.34] [6.40] The first lines: three of names, of 12, 9 and 16 bytes, three numbers, and two more for each process.
+fn put_head(out: &mut [u8], parameters: Parameters) -> usize
+    requires { ⌜ parameters .n ≤ 96 ⌝ }
+    ensures { λ r. ⌜ Put (now (out .entry)) (now (out .exit)) 0 (headText parameters) r ⌝ }
+    ensures { λ r. ⌜ r ≤ 4132 ⌝ }
+{
+    let rest = [parameters.b, parameters.c];
+    let a = parameters.a;
+    let count = parameters.n as usize;
+    let i = put_text(out, 0, b"windows,b,c\n");
     let j = put_numbers(out, i as u32, parameters.n, &rest);
-    let k = put_text(out, i + j, b"time,window,act\n");
-    i + (j + k)
+    let k = put_text(out, i + j, b"window,a\n");
+    let l = put_limits(out, i + j + k, &a[..count]);
+    let m = put_text(out, i + j + k + l, b"time,window,act\n");
+    i + (j + (k + (l + m)))
 }
 
 // [6.50] The line of a step. The place is a u32 so that no sum of places overflows.
@@ -108,6 +139,7 @@ pub(crate) fn put_trace(
     processes: &[u64],
     actions: &[u64],
 ) -> Size
+    requires { ⌜ parameters .n ≤ 96 ⌝ }
     ensures { λ r. ⌜ PutSized (now (out .entry)) (now (out .exit)) 0
         (traceText parameters (eventsOf (lent (times .entry) (processes .entry) (actions .entry)))) r ⌝ }
 {

@@ -9,9 +9,10 @@ use lib.Seq.{sets}
 use borrow.Author.Tests.{not-true, not-false}
 use Rattle.model.proofs.Given.{write-gave}
 use Rattle.model.specs.States.{countStands, limitsStand}
-use Rattle.model.specs.Texts.{textLimit}
+use Rattle.model.specs.Texts.{firstLine, textLimit}
 use Rattle.model.specs.Readings.{lists}
 use Rattle.model.specs.Writings.{eventsOf}
+use Rattle.model.proofs.Tests.{tests}
 use Rattle.trace.proofs.Sizes.{size-bytes, size-long, nothing-put}
 use Rattle.trace.proofs.Writes.{Task, textOf, formless, Sound}
 use Rattle.trace.proofs.Writes.{write-uncounted, write-unlimited, write-formless, write-long, write-roomless, write-done}
@@ -23,30 +24,46 @@ abbrev task : tie.Start → Task
 task c =
     let a = c .args in
     record {
-      parameters = a .parameters;
+      parameters = a .t1;
       events = eventsOf (lists (a .times .now) (a .processes .now) (a .actions .now));
       out = a .out .now;
     }
 
-counted : (c : tie.Else1) → countStands (task (c .before .before .before .before .before .before) .parameters) ≡ true
+-- Where n stands, and where the limits do
+
+abbrev begun : tie.Else1 → tie.Start
+begun c = c .before .before .before .before .before .before
+
+counted : (c : tie.Else1) → countStands (task (begun c) .parameters .n) ≡ true
 counted c = sym (c .before .count-stands .ensures) ∙ not-false _ (c .if1 .left)
 
-limited : (c : tie.Else2) → limitsStand (task (c .before .before .before .before .before .before .before .before) .parameters) ≡ true
-limited c = sym (c .before .limits-stand .ensures) ∙ not-false _ (c .if2 .left)
+few : (c : tie.Else1) → task (begun c) .parameters .n ≤ 96
+few c = (simp tests at (counted c)) .1
+
+-- there the parameters stand just where the limits do
+stand : (c : tie.After-parameters-stand) → c .parameters-stand .result ≡ limitsStand (task (begun (c .before .before .before .before)) .parameters)
+stand c = c .parameters-stand .ensures ∙ rw (counted (c .before .before .before .before))
+
+abbrev to-count : tie.Else2 → tie.Else1
+to-count c = c .before .before .before .before .before
+
+limited : (c : tie.Else2) → limitsStand (task (begun (to-count c)) .parameters) ≡ true
+limited c = sym (stand (c .before)) ∙ not-false _ (c .if2 .left)
 
 -- what is written, at the place where it has been measured
 abbrev whole : tie.After-put-trace → Task
-whole c = task (c .before .before .before .before .before .before .before .before .before .before .before .before .before)
+whole c = task (begun (to-count (c .before .before .before .before)))
 
 -- the line that the steps are judged with
-judged : (c : tie.After-formless) → c .formless .result ≡ formless (task (c .before .before .before .before .before .before .before .before .before .before))
-judged c = rw (c .before .first-line .ensures .0) at (c .formless .ensures)
+judged : (c : tie.After-formless) → c .formless .result ≡ formless (task (begun (to-count (c .before))))
+unfolding firstLine
+judged c = c .formless .ensures
 
 sound : (c : tie.After-put-trace) → Sound (whole c)
 sound c =
     record {
-      counted = counted (c .before .before .before .before .before .before .before);
-      limited = limited (c .before .before .before .before .before);
+      counted = counted (to-count (c .before .before .before .before));
+      limited = limited (c .before .before .before .before);
       formed = sym (judged (c .before .before .before)) ∙ c .before .before .if3 .left;
     }
 
@@ -77,33 +94,32 @@ returns c =
     let e = sym (c .before .before .count-stands .ensures) ∙ not-true _ (c .before .if1 .taken) in
     rw (write-uncounted (task (c .before .before .before .before .before .before .before)) e) (write-gave (c .answer-with .ensures) refl)
 
-limits-stand-requires : tie.Need-limits-stand-requires
-limits-stand-requires c κs = search needs
+parameters-stand-requires : tie.Need-parameters-stand-requires
+parameters-stand-requires c κs = search needs
 
 answer-with-requires-2 : tie.Need-answer-with-requires-2
 answer-with-requires-2 c κs = search needs
 
 returns-2 : tie.Need-returns-2
 returns-2 c =
-    let t = task (c .before .before .before .before .before .before .before .before .before) in
-    let e = sym (c .before .before .limits-stand .ensures) ∙ not-true _ (c .before .if2 .taken) in
-    rw (write-unlimited t (counted (c .before .before .before)) e) (write-gave (c .answer-with2 .ensures) refl)
+    let k = c .before .before .before .before .before .before in
+    let e = sym (stand (c .before .before)) ∙ not-true _ (c .before .if2 .taken) in
+    rw (write-unlimited (task (begun k)) (counted k) e) (write-gave (c .answer-with2 .ensures) refl)
 
-first-line-requires : tie.Need-first-line-requires
-first-line-requires c κs = search needs
+add-first : tie.Need-add-first
+add-first c = omega (arith, few (to-count c))
 
 formless-requires : tie.Need-formless-requires
-formless-requires c κs = search needs
+formless-requires c κs = omega (arith, few (to-count c))
 
 answer-with-requires-3 : tie.Need-answer-with-requires-3
 answer-with-requires-3 c κs = search needs
 
 returns-3 : tie.Need-returns-3
 returns-3 c =
-    let t = task (c .before .before .before .before .before .before .before .before .before .before .before .before) in
     let e = judged (c .before .before) in
-    let k = c .before .before .before .before in
-    rw (write-formless t (counted (k .before .before)) (limited k) (rw e at (c .before .if3 .taken)))
+    let k = c .before .before .before in
+    rw (write-formless (task (begun (to-count k))) (counted (to-count k)) (limited k) (rw e at (c .before .if3 .taken)))
     (write-gave (rw e at (c .answer-with3 .ensures)) refl)
 
 slice-relend-prefix-put-trace : tie.Need-slice-relend-prefix-put-trace
@@ -113,7 +129,7 @@ slice-aggregate-put-trace : tie.Need-slice-aggregate-put-trace
 slice-aggregate-put-trace c = search needs
 
 put-trace-requires : tie.Need-put-trace-requires
-put-trace-requires c κs = search needs
+put-trace-requires c κs = few (to-count (c .before .before .before))
 
 enum-known-measured : tie.Need-enum-known-measured
 enum-known-measured c = search needs
@@ -146,7 +162,7 @@ returns-5 c =
     (write-gave (c .answer-with5 .ensures) (untouched p))
 
 put-trace-requires-2 : tie.Need-put-trace-requires-2
-put-trace-requires-2 c κs = search needs
+put-trace-requires-2 c κs = few (to-count (c .before .before .before .before .before .before .before .before .before .before .before))
 
 answer-with-requires-6 : tie.Need-answer-with-requires-6
 answer-with-requires-6 c κs = search needs
@@ -173,10 +189,10 @@ write-spec =
     count-stands-requires
     answer-with-requires
     returns
-    limits-stand-requires
+    parameters-stand-requires
     answer-with-requires-2
     returns-2
-    first-line-requires
+    add-first
     formless-requires
     answer-with-requires-3
     returns-3
