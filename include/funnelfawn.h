@@ -1,10 +1,11 @@
 /* Funnelfawn for C and C++: Fischer's timed lock over a table of up to 96 sales windows.
  *
  * Link with libfunnelfawn.a (x86-64 Linux) and the C library, of which only memcpy and memset are used. No function keeps state, allocates,
- * prints or blocks; each takes any numbers at all and returns. funnelfawn_replay and funnelfawn_spans need about 210 KB of stack,
- * funnelfawn_fresh_deadlines less than 3 KB, funnelfawn_fresh and funnelfawn_write less than 2 KB, the others less than 1 KB, and a step,
- * recorded or not and of either engine, less than 512 bytes. The library is proved against docs/SPECIFICATION.md; numbers such as [9.50]
- * are its clauses, and its section 1 has the words that it uses for the windows, places, moments and acts of this header.
+ * prints or blocks; each takes any numbers at all and returns. funnelfawn_replay and funnelfawn_spans need about 216 KB of stack,
+ * funnelfawn_read less than 10 KB, funnelfawn_fresh less than 8 KB, funnelfawn_fresh_deadlines and funnelfawn_write less than 6 KB, the
+ * others less than 1 KB, and a step, recorded or not and of either engine, less than 512 bytes. The library is proved against
+ * docs/SPECIFICATION.md; numbers such as [9.50] are its clauses, and its section 1 has the words that it uses for the windows, places,
+ * moments and acts of this header.
  *
  * What is lent
  *   A list is a pointer and the count of its elements (not of bytes). The caller owns it; the library keeps no pointer past the call.

@@ -14,7 +14,7 @@ pub struct Handed {
     pub a: Vec<u64>,
 }
 
-/// Those that stand, of which mostly one number is another, with a list of values of a that is as long as needed, shorter or longer.
+/// Values that stand, of which one may be another number then, with a list for those of a that is as long as needed, shorter or longer.
 pub fn handed(random: &mut Random, values: &Values) -> Handed {
     let mut handed = Handed::read(values);
     match random.below(10) {
@@ -45,13 +45,13 @@ fn off_its_rule(random: &mut Random, values: &Values) -> u64 {
     random.pick(&[0, 1, values.b - 1, values.b, any])
 }
 
-/// For a window above n, most of which would do below it.
+/// For a window above n: numbers that would stand up to n, and others.
 fn off_zero(random: &mut Random, values: &Values) -> u64 {
     let any = any_number(random, 0);
     random.pick(&[1, values.b - 1, values.b, u64::MAX, any])
 }
 
-/// Of a list for n windows: just n or 96 mostly, and else about these, or none, or more.
+/// Of a list for n windows: n or 96 mostly, else one less than these, none, more, or between them.
 fn length(random: &mut Random, n: usize) -> usize {
     let (between, longer) = (n + random.index(WINDOWS - n + 1), WINDOWS + random.index(5));
     match random.below(10) {

@@ -51,12 +51,13 @@ fn read(random: &mut Random, text: &[u8], sights: &mut Sights) -> (Answer, Verdi
 
 /// What a text has, written again, with what the writing is handed and its steps damaged now and then.
 fn write(random: &mut Random, text: &[u8], sights: &mut Sights) -> (Answer, Verdict) {
-    let is_long = random.chance(5);
+    let is_long = random.chance(15);
     let text = if is_long { repeated(text) } else { text.to_vec() };
     let is_former = text.starts_with(FORMER);
     let empty = Recording { values: Values::equal(1, 1, 2, 2), first_line: 6, steps: Vec::new() };
     let Recording { values, mut steps, .. } = recording::read(&text).unwrap_or(empty);
-    if random.chance(5) {
+    let is_repeated = random.chance(5);
+    if is_repeated {
         steps = steps.repeat(10_000 / steps.len().max(1));
     }
     let column = |number: fn(&Step) -> u64| steps.iter().map(number).collect::<Vec<u64>>();
@@ -69,14 +70,14 @@ fn write(random: &mut Random, text: &[u8], sights: &mut Sights) -> (Answer, Verd
     let longer = random.index(3);
     lists[longer].push(7777);
     let write = |out: &mut [u8]| recording::write(handed.values(), &lists[0], &lists[1], &lists[2], out);
-    // with room for any text it has so many bytes, or none
-    let needed = write(&mut vec![0; TEXT_END]).moment as usize;
+    let whole = write(&mut vec![0; TEXT_END]);
+    let needed = if whole.number == ACCEPTED { whole.moment as usize } else { text.len() };
     let out = vec![b'#'; about(random, needed)];
     let mut after = out.clone();
     let answer = write(&mut after);
     handed.look(answer, sights);
     sights.look(Sight::FormerWritten, answer.number == ACCEPTED && is_former);
-    sights.look(Sight::FormerTooLong, answer.number == LENGTH && is_former && is_long);
+    sights.look(Sight::FormerTooLong, answer.number == LENGTH && is_former && is_long && !is_repeated);
     (answer, calls::write(&handed, &lists, &out, (answer, &after)))
 }
 

@@ -1,5 +1,5 @@
 // A lent table, judged where it lies: one pass over the entries up to n finds what a step needs, those above n have to be zeros, and an
-// accepted act writes four numbers at most.
+// accepted act writes four numbers at most. The values of a are lent where they lie too: a step makes no copy of them.
 use crate::tables::B;
 use crate::tables::C;
 use crate::tables::CLOCK;
@@ -39,8 +39,8 @@ ghost use Rattle.layout.specs.Places.{entriesIn};
 ghost use Rattle.rules.specs.Survey.{nothing};
 ghost use Rattle.layout.specs.Steps.{entriesNoted, surveyIn, actionPut, actedIn};
 
-// What a pass over entries finds, those of the processes from 1 on. The process is told by the place in the list: where it is counted
-// beside it, an entry takes two instructions more.
+// What a pass over entries finds, those of the processes from 1 on, with their values of a. The process is told by the place in the list, and
+// so is its a: where the process is counted beside it, an entry takes two instructions more.
 fn survey_entries(entries: &[u64], limits: &[u64], scene: Scene) -> Survey
     requires { ⌜ length (now entries) ≡ stride * scene .n ⌝ }
     requires { ⌜ scene .n ≤ length (now limits) ⌝ }
