@@ -7,25 +7,18 @@ use mathlib.Core.Bool.{false}
 use mathlib.Core.List.{List}
 use native.Mathlib.Omega.{arith}
 use lib.Dec.{ltb}
-use lib.ListN.{length, length-append}
+use lib.ListN.{length}
 use borrow.Author.Tests.{le-ltb}
 use Rattle.model.specs.declared.Parameters.{Parameters}
-use Rattle.model.specs.Texts.{Event, headText, eventsText}
+use Rattle.model.specs.Texts.{Event}
 use Rattle.model.specs.Readings.{Lists, room, Trace, refused, trace, traceOf, Scanned, into, scannedOf}
 use Rattle.model.specs.Writings.{eventsOf}
 use Rattle.model.specs.Executions.{Started, startGave, firstState, startedOf}
 use Rattle.grammar.specs.RoundTrips.{firstOf}
-use Rattle.grammar.proofs.Heads.{first-line}
 use Rattle.grammar.proofs.Exact.{read-exactly, refused-exactly}
 use Rattle.grammar.proofs.Faults.{fault-some}
-use Rattle.grammar.proofs.Fits.{events-fit}
+use Rattle.grammar.proofs.Fits.{says-line, events-fit}
 use Rattle.grammar.proofs.RoundTrips.{events-back}
-
--- the line of the first step
-line-low : (text : List ℕ) (line : ℕ) (k : Parameters) (events : List Event) → traceOf text ≡ trace line k events → line ≤ 65536
-line-low text line k events e =
-    let says = read-exactly text line k events .0 e in
-    omega (arith, says .line-is, first-line k .1, says .formed .short, length-append (headText k) (eventsText events))
 
 -- what is found with code 0: the text is the trace whose steps stand in the first places of the lists, to be taken from the state on
 pub record Ready (text : List ℕ) (x : Started) : Type 0 where
@@ -51,7 +44,7 @@ module _ (text : List ℕ) (l : Lists) (wide : room l ≡ 8187) where
       rw (roomy line k events q)
       (λ _. record {
         few = events-fit text line k events q;
-        low = line-low text line k events q;
+        low = says-line (read-exactly text line k events .0 q) .1;
         is = q ∙ rw (events-back events l);
         state = refl;
       })

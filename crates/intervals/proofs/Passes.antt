@@ -6,15 +6,13 @@ use mathlib.Core.Bool.{Bool, true, false}
 use mathlib.Core.List.{List, [], _∷_, _++_, append-assoc}
 use native.Mathlib.Omega.{arith}
 use lib.ListN.{length, length-append}
-use Rattle.model.specs.declared.Parameters.{Parameters}
 use Rattle.model.specs.declared.State.{State}
-use Rattle.model.specs.Texts.{comma, newline, numberText, wordText, Event, eventText, headText, eventsText, traceText}
+use Rattle.model.specs.Texts.{comma, newline, numberText, wordText, Event, eventText, eventsText}
 use Rattle.model.specs.Tallies.{Attempt, attempted, isEntry, isExit}
 use Rattle.model.specs.Facts.{IsFresh}
 use Rattle.model.specs.Executions.{codesFrom, attemptsOf, attemptsFrom}
 use Rattle.model.proofs.Tests.{by-cond}
 use Rattle.grammar.proofs.Lines.{number-length}
-use Rattle.grammar.proofs.Heads.{head-long}
 use Rattle.intervals.specs.Intervals.{endOf, intervalsOf, intervalNames, endText, intervalText, intervalLines, intervalsText}
 use Rattle.intervals.specs.Runs.{AcceptedCrit, AcceptedExit}
 use Rattle.intervals.specs.Parts.{partText, partsText, openWith, openAfter, lastText, restText, passText}
@@ -117,15 +115,13 @@ last-short : (opened : Bool) → length (lastText opened) ≤ 2
 last-short true = omega arith
 last-short false = omega arith
 
--- the names line and a dash have fewer bytes than the first lines of a trace
-pub pass-short : (s : State) (k : Parameters) (events : List Event) → length (passText s events) ≤ length (traceText k events)
+-- the names line and a dash have fewer bytes than the first lines of a trace, of whichever shape: those have 38 or more
+pub pass-short : (s : State) (events : List Event) → length (passText s events) ≤ 38 + length (eventsText events)
 unfolding passText
-pass-short s k events =
+pass-short s events =
     let es = attemptsFrom s events in
     omega (
       arith,
-      length-append (headText k) (eventsText events),
-      head-long k,
       length-append intervalNames (restText false es),
       length-append (partsText es) (lastText (openAfter false es)),
       parts-short events (codesFrom s events),

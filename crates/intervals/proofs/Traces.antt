@@ -17,7 +17,7 @@ use Rattle.theory.proofs.Soundness.{fresh-is}
 use Rattle.grammar.specs.Exact.{Says}
 use Rattle.grammar.specs.RoundTrips.{firstOf}
 use Rattle.grammar.proofs.Exact.{read-exactly}
-use Rattle.grammar.proofs.Fits.{events-fit}
+use Rattle.grammar.proofs.Fits.{says-long, events-fit}
 use Rattle.execution.proofs.Starts.{Ready}
 use Rattle.intervals.specs.Intervals.{traceIntervals, intervalsText, writeIntervalsOf}
 use Rattle.intervals.specs.Parts.{passText}
@@ -29,14 +29,14 @@ module _ {text : List ℕ} {line : ℕ} {k : Parameters} {events : List Event} (
   starts-fresh : IsFresh (freshOf k .state)
   unfolding freshOf
   starts-fresh =
-      let stand = and-true-iff (countStands k) (limitsStand k) .0 (says .formed .stand) in
+      let stand = and-true-iff (countStands (k .n)) (limitsStand k) .0 (says .stand) in
       fresh-is k (rw (stand .0, stand .1))
 
   trace-text : passText (freshOf k .state) events ≡ intervalsText (traceIntervals k events)
   trace-text = pass-text starts-fresh events
 
   trace-short : length (passText (freshOf k .state) events) ≤ length text
-  trace-short = rw (says .text-is) (pass-short (freshOf k .state) k events)
+  trace-short = omega (arith, pass-short (freshOf k .state) events, says-long says)
 
 -- What is found of a text that is started, with code 0
 

@@ -12,10 +12,10 @@ use Rattle.model.specs.declared.Parameters.{Parameters}
 use Rattle.model.specs.declared.State.{State}
 use Rattle.model.specs.States.{stageOf, sinceOf}
 use Rattle.model.specs.Readings.{over}
-use Rattle.layout.specs.Encodings.{countPlace, bPlace, cPlace, clockPlace, wordPlace, limitsPlace, headerLength, stride, tableLength}
+use Rattle.layout.specs.Encodings.{countPlace, bPlace, cPlace, clockPlace, wordPlace, limitsPlace, headerLength, stride, tableLength, headerPut}
 use Rattle.layout.specs.Encodings.{processNumbers, headerNumbers, stateNumbers}
 use Rattle.model.proofs.Lists.{drop-at, drop-end}
-use Rattle.layout.specs.Places.{headerPut, placedAt}
+use Rattle.layout.specs.Places.{placedAt}
 use Rattle.layout.proofs.Lists.{fill-pair, copied-whole}
 use Rattle.layout.proofs.Numbers.{header-long}
 

@@ -1,10 +1,10 @@
 -- Section 9 of the specification, its lists: a state and a summary as numbers at fixed places, for a caller who can lend nothing else.
 -- Assumes nothing.
 use Prim.Native.Nat.{ℕ, _+_, _*_}
-use mathlib.Core.Bool.{Bool, true, false, _&&_}
+use mathlib.Core.Bool.{Bool, true, false, cond, _&&_}
 use mathlib.Core.List.{List, [], _∷_, _++_}
 use lib.ListN.{length, getD, take, drop}
-use lib.Dec.{leb, eqb}
+use lib.Dec.{leb, ltb, eqb}
 use Rattle.model.specs.declared.Process.{Process}
 use Rattle.model.specs.declared.Parameters.{Parameters}
 use Rattle.model.specs.declared.State.{State}
@@ -12,6 +12,7 @@ use Rattle.model.specs.declared.Counts.{Counts}
 use Rattle.model.specs.declared.Statistics.{Statistics}
 use Rattle.model.specs.Stages.{leaving}
 use Rattle.model.specs.States.{entry, stageOf, sinceOf, soundOf, locationAt, parametersOf}
+use Rattle.model.specs.Readings.{over}
 use Rattle.model.specs.Summaries.{countsOf, countsNumbers, statisticsOf}
 
 -- A table, the numbers of a state
@@ -76,6 +77,10 @@ headerNumbers k clock word = k .n ∷ k .b ∷ k .c ∷ clock ∷ word ∷ k .a
 -- [9.10]
 unfoldable pub stateNumbers : State → List ℕ
 stateNumbers s = headerNumbers (s .parameters) (s .clock) (s .word) ++ processNumbers (s .processes)
+
+-- [9.10] [12.110] a list with other numbers before the entries; one that has no room for them stays
+abbrev pub headerPut : List ℕ → Parameters → ℕ → ℕ → List ℕ
+headerPut l k clock word = cond (ltb (length l) headerLength) l (over (headerNumbers k clock word) l)
 
 -- The state that numbers tell
 

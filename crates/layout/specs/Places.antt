@@ -1,16 +1,13 @@
 -- The numbers of an entry, and what the functions that write places make of a list. For the proofs only. `proofs/` relates these
 -- definitions to the encodings. Assumes nothing.
 use Prim.Native.Nat.{ℕ, _+_, _*_}
-use mathlib.Core.Bool.{Bool, cond}
+use mathlib.Core.Bool.{Bool}
 use mathlib.Core.List.{List, [], _∷_}
-use lib.Dec.{ltb}
-use lib.ListN.{length, getD, take, drop, set}
+use lib.ListN.{getD, take, drop, set}
 use Rattle.model.specs.declared.Location.{Location}
-use Rattle.model.specs.declared.Parameters.{Parameters}
 use Rattle.model.specs.declared.Counts.{Counts}
 use Rattle.model.specs.States.{stageOf, sinceOf, locationAt}
-use Rattle.model.specs.Readings.{over}
-use Rattle.layout.specs.Encodings.{clockPlace, wordPlace, headerLength, stride, stagePlace, sincePlace, headerNumbers, tellsEntry}
+use Rattle.layout.specs.Encodings.{clockPlace, wordPlace, stride, stagePlace, sincePlace, tellsEntry}
 use Rattle.layout.specs.Encodings.{acceptedPlace, refusedPlace, entriesPlace, exitsPlace, longestPlace}
 
 -- The numbers of an entry
@@ -59,10 +56,6 @@ entriesFrom l i = drop (stagePlace i) l
 -- [9.10] those of the first k entries of a list of entries
 abbrev pub firstEntries : ℕ → List ℕ → List ℕ
 firstEntries k l = take (stride * k) l
-
--- [9.10] [12.110] with other numbers before the entries; a list that has no room for them stays
-abbrev pub headerPut : List ℕ → Parameters → ℕ → ℕ → List ℕ
-headerPut l k clock word = cond (ltb (length l) headerLength) l (over (headerNumbers k clock word) l)
 
 -- [9.10] with another clock and another word
 abbrev pub clocked : List ℕ → ℕ → ℕ → List ℕ

@@ -10,8 +10,8 @@ ghost use mathlib.Core.Path.{_≡_};
 ghost use Prim.Native.Nat.{_+_, _<_, _≤_};
 ghost use lib.ListN.{length, take};
 ghost use Rattle.model.specs.Readings.{over};
-ghost use Rattle.layout.specs.Encodings.{stride, tableLength, stagePlace, stateNumbers};
-ghost use Rattle.layout.specs.Places.{numbersAt, locationIn, headerPut, placedAt};
+ghost use Rattle.layout.specs.Encodings.{stride, tableLength, stagePlace, stateNumbers, headerPut};
+ghost use Rattle.layout.specs.Places.{numbersAt, locationIn, placedAt};
 
 // [9.10] where n, b and c stand
 pub const N: usize = 0;

@@ -1,20 +1,22 @@
 -- What the calls of a round trip give back, by what each call ensures. Assumes nothing.
 use Prim.Native.Nat.{ℕ, _≤_}
-use mathlib.Core.Path.{_≡_, sym, ap, subst}
+use mathlib.Core.Path.{_≡_, sym, ap, _∙_, subst}
 use mathlib.Core.Logic.{_≢_}
 use mathlib.Core.List.{List, map}
 use native.Mathlib.Omega.{arith}
 use lib.ListN.{length, drop, length-append, length-map}
 use borrow.Author.Tests.{eq-eqb, ne-eqb}
 use Rattle.model.specs.declared.Parameters.{Parameters}
+use Rattle.model.specs.declared.Reading.{Reading}
 use Rattle.model.specs.Texts.{Event, traceText}
-use Rattle.model.specs.Readings.{Lists, over, Read, readGave, readOf}
+use Rattle.model.specs.Readings.{Lists, over, stored, Read, readGave, readingOf, readOf}
 use Rattle.model.specs.Writings.{eventsOf, Written, writeGave, writeOf}
-use Rattle.grammar.specs.RoundTrips.{rewritten, rereading}
+use Rattle.model.proofs.Tests.{if-eq}
+use Rattle.grammar.specs.RoundTrips.{firstOf, eventsRead, rewritten, rereading}
 use Rattle.grammar.specs.Answers.{Readable}
 use Rattle.grammar.proofs.Answers.{read-is, read-iff, write-is, write-iff}
-use Rattle.grammar.proofs.RoundTrips.{read-then-write, same-events}
-use Rattle.round_trips.specs.Trips.{rewriteOf, notRead, rereadOf, ComesBack, StepsComeBack}
+use Rattle.grammar.proofs.RoundTrips.{events-back, read-then-write, write-then-read, same-events}
+use Rattle.round_trips.specs.Trips.{rewriteOf, notRead, rereadOf, ComesBack, ReadsAlike, StepsComeBack}
 
 -- Reading, then writing
 
@@ -55,7 +57,24 @@ module _ (r : Read) (out : List ℕ) where
 -- a recording that is read comes back
 pub rewrite-same : (text : List ℕ) (l : Lists) (out : List ℕ) → ComesBack text l out (rewriteOf (readOf text l) out .out)
 unfolding rewriteOf
-rewrite-same text l out z h = rw (eq-eqb _ _ z) (ap (λ w. w .out) (read-then-write text l out z h))
+rewrite-same text l out s z h = rw (eq-eqb _ _ z) (ap (λ w. w .out) (read-then-write text l out s z h))
+
+-- what was read, of what was written of it
+read-back : (text : List ℕ) (l : Lists) → readOf text l .reading .answer .code ≡ 0
+    → (let r = readOf text l in readingOf 0 (length (eventsRead r)) (r .reading .parameters) ≡ r .reading)
+read-back text l z =
+    let f = read-iff text l .0 z in
+    rw (read-is text l (f .0) (f .1) (f .2) (f .3), events-back (f .2) l)
+
+pub rewrite-alike : (text : List ℕ) (l : Lists) (out : List ℕ) → ReadsAlike text l (rewriteOf (readOf text l) out)
+unfolding rewriteOf
+rewrite-alike text l out =
+    let r = readOf text l in
+    if-eq (r .reading .answer .code) 0
+    (λ z. rw (eq-eqb _ _ z) (λ e m h.
+    write-then-read (r .reading .parameters) (firstOf (r .reading .answer .time) (r .kept)) out m e h
+    ∙ ap (λ (q : Reading). readGave q (stored (eventsRead r) m)) (read-back text l z)))
+    (λ n. rw (ne-eqb _ _ n) (λ e. absurd (n e)))
 
 -- Writing, then reading
 

@@ -9,9 +9,9 @@ use values::no_parameters;
 ghost use mathlib.Core.Path.{_≡_};
 ghost use Rattle.model.specs.Readings.{lent, readGave, readOf};
 ghost use Rattle.model.specs.Writings.{eventsOf, writeGave, writeOf};
-ghost use Rattle.round_trips.specs.Trips.{rewriteOf, notRead, rereadOf, ComesBack, StepsComeBack};
+ghost use Rattle.round_trips.specs.Trips.{rewriteOf, notRead, rereadOf, ComesBack, ReadsAlike, StepsComeBack};
 
-// [6.200] [6.205] [21.110] Reads a recording into three lists, and writes what was read. A refused reading is the answer, and `out` stays.
+// [6.200] [6.202] [6.205] [21.110] Reads a recording into three lists, and writes what was read. A refused reading is the answer, and `out` stays.
 pub fn rewrite(
     text: &[u8],
     times: &mut [u64],
@@ -25,6 +25,7 @@ pub fn rewrite(
         ≡ rewriteOf (readOf (now (text .entry)) (lent (times .entry) (processes .entry) (actions .entry))) (now (out .entry)) ⌝ }
     ensures trip { λ _. ⌜ ComesBack (now (text .entry)) (lent (times .entry) (processes .entry) (actions .entry))
         (now (out .entry)) (now (out .exit)) ⌝ }
+    ensures alike { λ r. ⌜ ReadsAlike (now (text .entry)) (lent (times .entry) (processes .entry) (actions .entry)) (writeGave r (now (out .exit))) ⌝ }
 {
     let reading = read(text, times, processes, actions);
     let answer = reading.answer;

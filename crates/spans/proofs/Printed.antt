@@ -1,7 +1,7 @@
 -- What is printed for a text, by how the intervals of the text were answered: they are whole where the code is 0; otherwise the text is no
 -- trace, as there is room for the intervals of any. Assumes nothing.
 use Prim.Native.Nat.{ℕ, _≤_}
-use mathlib.Core.Path.{_≡_, refl, ap}
+use mathlib.Core.Path.{_≡_, refl}
 use mathlib.Core.Logic.{_≢_}
 use mathlib.Core.List.{List}
 use native.Mathlib.Omega.{arith}
@@ -32,7 +32,7 @@ module _ (text out : List ℕ) where
   refused-of wide (refused code line) told = λ _. refl
   refused-of wide (trace line k events) told =
       let fits : length (intervalsText (traceIntervals k events)) ≤ length out =
-      omega (arith, intervals-short text line k events told, told .formed .short, ap length (told .text-is)) in
+      omega (arith, intervals-short text line k events told, told .short) in
       rw (fitted-is (intervalsText (traceIntervals k events)) out fits) (λ z. absurd (z refl))
 
   pub reported : 65536 ≤ length out → writeIntervalsOf text out .answer .code ≢ 0 → printedText text ≡ reportText text

@@ -6,14 +6,14 @@ use mathlib.Core.Bool.{true, false}
 use mathlib.Core.List.{List}
 use lib.ListN.{length}
 use lib.Seq.{sets}
-use borrow.Author.Tests.{ne-eqb, eq-eqb, lt-ltb, le-ltb}
+use borrow.Author.Tests.{ne-eqb}
 use Rattle.model.specs.declared.Parameters.{Parameters}
-use Rattle.model.specs.States.{countStands, limitsStand}
+use Rattle.model.specs.States.{countStands, limitsStand, parametersStand}
 use Rattle.model.specs.Answers.{answerOf}
 use Rattle.model.specs.Texts.{Event, firstLine, traceText, textLimit}
-use Rattle.model.specs.Writings.{formlessFrom, Written, unwritten, fitted, writeOf}
+use Rattle.model.specs.Writings.{formlessFrom, Written, unwritten, writeOf}
 use Rattle.model.proofs.Tests.{and-true-iff}
-use Rattle.grammar.proofs.Answers.{write-is}
+use Rattle.grammar.proofs.Answers.{fitted-short, write-long, write-fitted, write-is}
 use Rattle.text.proofs.Putting.{sets-over}
 
 -- what is to be written, and the lent bytes
@@ -37,38 +37,31 @@ module _ (t : Task) where
   unfolding writeOf
   write-uncounted e = rw e
 
-  pub write-unlimited : countStands (t .parameters .n) ≡ true → limitsStand (t .parameters) ≡ false → done t ≡ unwritten 12 0 (t .out)
+  pub write-unlimited : countStands (t .parameters .n) ≡ true → parametersStand (t .parameters) ≡ false → done t ≡ unwritten 12 0 (t .out)
   unfolding writeOf
-  write-unlimited e f = rw (e, f)
+  write-unlimited e f = let g : limitsStand (t .parameters) ≡ false = rw e at f in rw (e, g)
 
-  pub write-formless : countStands (t .parameters .n) ≡ true → limitsStand (t .parameters) ≡ true → formless t ≢ 0
-      → done t ≡ unwritten 14 (formless t) (t .out)
+  pub write-formless : parametersStand (t .parameters) ≡ true → formless t ≢ 0 → done t ≡ unwritten 14 (formless t) (t .out)
   unfolding writeOf
-  write-formless e f g = rw (e, f, ne-eqb (formless t) 0 g)
+  write-formless e g =
+      let f = and-true-iff (countStands (t .parameters .n)) (limitsStand (t .parameters)) .0 e in
+      rw (f .0, f .1, ne-eqb (formless t) 0 g)
 
--- count, limits and forms are as they should be
+-- parameters and forms are as they should be
 pub record Sound (t : Task) : Type 0 where
-  pub counted : countStands (t .parameters .n) ≡ true
-  pub limited : limitsStand (t .parameters) ≡ true
+  pub stand : parametersStand (t .parameters) ≡ true
   pub formed : formless t ≡ 0
 
 module _ {t : Task} (s : Sound t) where
-  pub write-long : textLimit < length (textOf t) → done t ≡ unwritten 15 0 (t .out)
-  unfolding writeOf
-  write-long h = rw (s .counted, s .limited, eq-eqb _ 0 (s .formed), lt-ltb textLimit (length (textOf t)) h)
+  pub write-too-long : textLimit < length (textOf t) → done t ≡ unwritten 15 0 (t .out)
+  write-too-long h = write-long (t .parameters) (t .events) (t .out) (s .stand) (s .formed) h
 
   module _ (short : length (textOf t) ≤ textLimit) where
-    fits : done t ≡ fitted (textOf t) (t .out)
-    unfolding writeOf
-    fits = rw (s .counted, s .limited, eq-eqb _ 0 (s .formed), le-ltb textLimit (length (textOf t)) short)
-
     pub write-roomless : length (t .out) < length (textOf t) → done t ≡ unwritten 16 0 (t .out)
-    unfolding fitted
-    write-roomless h = fits ∙ rw (lt-ltb (length (t .out)) (length (textOf t)) h)
+    write-roomless h = write-fitted (t .parameters) (t .events) (t .out) (s .stand) (s .formed) short ∙ fitted-short (textOf t) (t .out) h
 
     pub write-done : length (textOf t) ≤ length (t .out)
         → done t ≡ record { answer = answerOf 0 0 (length (textOf t)); out = sets (t .out) 0 (textOf t) }
     write-done h =
         rw (sets-over (textOf t) (t .out) h)
-        (write-is (t .parameters) (t .events) (t .out)
-        (record { stand = and-true-iff (countStands (t .parameters .n)) _ .1 (s .counted, s .limited); forms = s .formed; short = short }) h)
+        (write-is (t .parameters) (t .events) (t .out) (record { stand = s .stand; forms = s .formed; short = short }) h)

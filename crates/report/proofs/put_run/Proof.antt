@@ -151,7 +151,9 @@ add-size c =
     omega (arith, simp length-take at (c .before .before .put-rows .ensures .1), few d, head d .loop .inv, start d .pre)
 
 add-i : tie.Need-add-i Inv-loop μ-loop
-add-i c = omega arith
+add-i c =
+    let d = c .before .before .before .before .before .before in
+    omega (arith, few d, head d .loop .inv, start d .pre)
 
 loop-less : tie.Need-loop-less Inv-loop μ-loop
 loop-less c = omega arith

@@ -1,12 +1,13 @@
 -- `round_trips::rewrite` meets its contract: what `read` gave is `readOf`, and `ReadThenWrite` is the round trip. Assumes nothing.
 use Prim.Native.Nat.{ℕ}
-use mathlib.Core.Path.{_≡_, sym, ap, _∙_}
+use mathlib.Core.Path.{_≡_, sym, ap, _∙_, subst}
 use mathlib.Core.List.{List}
 use lib.Seq.{length-take-le}
 use Rattle.model.specs.Readings.{Lists, lists, lent, Read, readGave, readOf}
+use Rattle.model.specs.Writings.{Written}
 use Rattle.model.proofs.Given.{gave-out}
-use Rattle.round_trips.specs.Trips.{rewriteOf}
-use Rattle.round_trips.proofs.Trips.{Held, held, rewrite-refused, rewrite-done, rewrite-same}
+use Rattle.round_trips.specs.Trips.{rewriteOf, ReadsAlike}
+use Rattle.round_trips.proofs.Trips.{Held, held, rewrite-refused, rewrite-done, rewrite-same, rewrite-alike}
 use borrow.Author.Needs.{needs}
 use Rattle.round_trips.proofs.rewrite.Statement.{statement}
 use Rattle.round_trips.proofs.rewrite.Tie as tie
@@ -35,6 +36,10 @@ was-read c = c .before .before .before .before .before .before .before .read .en
 fits : (c : tie.After-answer) → given c .reading .answer .code ≡ 0 → Held (given c .reading .answer .time) (given c .kept)
 fits c = held (text c) (to c) (was-read c)
 
+-- what is due of what is given
+alike : (c : tie.After-answer) {w : Written} → w ≡ rewriteOf (readOf (text c) (to c)) (out c) → ReadsAlike (text c) (to c) w
+alike c e = subst (ReadsAlike (text c) (to c)) (sym e) (rewrite-alike (text c) (to c) (out c))
+
 read-requires : tie.Need-read-requires
 read-requires c κs = search needs
 
@@ -52,7 +57,7 @@ returns c =
     let k = c .before .before in
     let e = was-read k in
     let w = sym (rewrite-refused (given k) (out k) (c .if1 .taken)) ∙ ap (λ (r : Read). rewriteOf r (out k)) e in
-    (ap (λ (r : Read). r .kept) e, (w, λ z _. absurd (c .if1 .taken (ap (λ (r : Read). r .reading .answer .code) e ∙ z))))
+    (ap (λ (r : Read). r .kept) e, (w, (λ _ z _. absurd (c .if1 .taken (ap (λ (r : Read). r .reading .answer .code) e ∙ z)), alike k w)))
 
 slice-reshare-prefix-write : tie.Need-slice-reshare-prefix-write
 slice-reshare-prefix-write c = fits (c .before .before) (c .if1 .left) .times
@@ -93,7 +98,7 @@ returns-2 c =
     let e = was-read k in
     let done = sym (rewrite-done (given k) (out k) (c .before .before .before .before .before .before .before .if1 .left)) in
     let w = c .before .before .write .ensures ∙ (done ∙ ap (λ (r : Read). rewriteOf r (out k)) e) in
-    (ap (λ (r : Read). r .kept) e, (w, λ z h. gave-out w ∙ rewrite-same (text k) (to k) (out k) z h))
+    (ap (λ (r : Read). r .kept) e, (w, (λ s z h. gave-out w ∙ rewrite-same (text k) (to k) (out k) s z h, alike k w)))
 
 pub rewrite-spec : {M : Type 1} → statement M
 rewrite-spec =

@@ -8,14 +8,14 @@ use lib.ListN.{length}
 use lib.Seq.{sets}
 use borrow.Author.Tests.{not-true, not-false}
 use Rattle.model.proofs.Given.{write-gave}
-use Rattle.model.specs.States.{countStands, limitsStand}
+use Rattle.model.specs.States.{countStands, parametersStand}
 use Rattle.model.specs.Texts.{firstLine, textLimit}
 use Rattle.model.specs.Readings.{lists}
 use Rattle.model.specs.Writings.{eventsOf}
-use Rattle.model.proofs.Tests.{tests}
+use Rattle.grammar.proofs.Shapes.{count-parts}
 use Rattle.trace.proofs.Sizes.{size-bytes, size-long, nothing-put}
 use Rattle.trace.proofs.Writes.{Task, textOf, formless, Sound}
-use Rattle.trace.proofs.Writes.{write-uncounted, write-unlimited, write-formless, write-long, write-roomless, write-done}
+use Rattle.trace.proofs.Writes.{write-uncounted, write-unlimited, write-formless, write-too-long, write-roomless, write-done}
 use borrow.Author.Needs.{needs}
 use Rattle.trace.proofs.write.Statement.{statement}
 use Rattle.trace.proofs.write.Tie as tie
@@ -29,7 +29,7 @@ task c =
       out = a .out .now;
     }
 
--- Where n stands, and where the limits do
+-- Where n stands, and where the limits stand too
 
 abbrev begun : tie.Else1 → tie.Start
 begun c = c .before .before .before .before .before .before
@@ -38,17 +38,13 @@ counted : (c : tie.Else1) → countStands (task (begun c) .parameters .n) ≡ tr
 counted c = sym (c .before .count-stands .ensures) ∙ not-false _ (c .if1 .left)
 
 few : (c : tie.Else1) → task (begun c) .parameters .n ≤ 96
-few c = (simp tests at (counted c)) .1
-
--- there the parameters stand just where the limits do
-stand : (c : tie.After-parameters-stand) → c .parameters-stand .result ≡ limitsStand (task (begun (c .before .before .before .before)) .parameters)
-stand c = c .parameters-stand .ensures ∙ rw (counted (c .before .before .before .before))
+few c = count-parts _ (counted c) .most
 
 abbrev to-count : tie.Else2 → tie.Else1
 to-count c = c .before .before .before .before .before
 
-limited : (c : tie.Else2) → limitsStand (task (begun (to-count c)) .parameters) ≡ true
-limited c = sym (stand (c .before)) ∙ not-false _ (c .if2 .left)
+stand : (c : tie.Else2) → parametersStand (task (begun (to-count c)) .parameters) ≡ true
+stand c = sym (c .before .parameters-stand .ensures) ∙ not-false _ (c .if2 .left)
 
 -- what is written, at the place where it has been measured
 abbrev whole : tie.After-put-trace → Task
@@ -60,12 +56,7 @@ unfolding firstLine
 judged c = c .formless .ensures
 
 sound : (c : tie.After-put-trace) → Sound (whole c)
-sound c =
-    record {
-      counted = counted (to-count (c .before .before .before .before));
-      limited = limited (c .before .before .before .before);
-      formed = sym (judged (c .before .before .before)) ∙ c .before .before .if3 .left;
-    }
+sound c = record { stand = stand (c .before .before .before .before); formed = sym (judged (c .before .before .before)) ∙ c .before .before .if3 .left }
 
 -- measuring leaves the bytes as they were lent
 untouched : (c : tie.After-put-trace) → c .put-trace .last .0 ++ whole c .out ≡ whole c .out
@@ -103,7 +94,7 @@ answer-with-requires-2 c κs = search needs
 returns-2 : tie.Need-returns-2
 returns-2 c =
     let k = c .before .before .before .before .before .before in
-    let e = sym (stand (c .before .before)) ∙ not-true _ (c .before .if2 .taken) in
+    let e = sym (c .before .before .parameters-stand .ensures) ∙ not-true _ (c .before .if2 .taken) in
     rw (write-unlimited (task (begun k)) (counted k) e) (write-gave (c .answer-with2 .ensures) refl)
 
 add-first : tie.Need-add-first
@@ -119,7 +110,7 @@ returns-3 : tie.Need-returns-3
 returns-3 c =
     let e = judged (c .before .before) in
     let k = c .before .before .before in
-    rw (write-formless (task (begun (to-count k))) (counted (to-count k)) (limited k) (rw e at (c .before .if3 .taken)))
+    rw (write-formless (task (begun (to-count k))) (stand k) (rw e at (c .before .if3 .taken)))
     (write-gave (rw e at (c .answer-with3 .ensures)) refl)
 
 slice-relend-prefix-put-trace : tie.Need-slice-relend-prefix-put-trace
@@ -146,7 +137,7 @@ same-length c = search needs
 returns-4 : tie.Need-returns-4
 returns-4 c =
     let p = c .before .before .before .before .before in
-    rw (write-long (sound p) (long (c .before))) (write-gave (c .answer-with4 .ensures) (untouched p))
+    rw (write-too-long (sound p) (long (c .before))) (write-gave (c .answer-with4 .ensures) (untouched p))
 
 answer-with-requires-5 : tie.Need-answer-with-requires-5
 answer-with-requires-5 c κs = search needs

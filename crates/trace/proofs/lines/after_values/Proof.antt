@@ -10,8 +10,8 @@ use Rattle.model.specs.States.{countStands}
 use Rattle.model.specs.Texts.{limitNames}
 use Rattle.model.specs.Readings.{startsWith, limitsFrom}
 use Rattle.model.proofs.Lists.{part-is}
-use Rattle.model.proofs.Tests.{tests}
 use Rattle.grammar.proofs.Fields.{took-le, starts-took}
+use Rattle.grammar.proofs.Shapes.{count-parts}
 use Rattle.trace.proofs.lines.after_values.Statement.{statement}
 use Rattle.trace.proofs.lines.after_values.Tie as tie
 
@@ -24,7 +24,7 @@ counted : (c : tie.Else1) → countStands (begun c .args .n) ≡ true
 counted c = sym (c .before .count-stands .ensures) ∙ not-false _ (c .if1 .left)
 
 few : (c : tie.Else1) → begun c .args .n ≤ 96
-few c = (simp tests at (counted c)) .1
+few c = count-parts _ (counted c) .most
 
 -- Past line 3
 
