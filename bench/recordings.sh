@@ -1,6 +1,6 @@
 # The four recordings on which bench/run measures `replay` and `spans`, the programs and the calls; all but the last have the former shape. Sourced
 # by it.
-recordings='tries sales withdrawals tills'
+recordings='tries sales withdrawals own_limits'
 
 # the shortest steps there are, 8,187 of them: a try that is accepted, and tries that are out of place
 tries() {
@@ -24,8 +24,8 @@ sales_after() {
 
 sales() { printf 'windows,a,b,c\n96,5,8,12\ntime,window,act\n' | sales_after; }
 
-# the same in a house with tills of two ages, whose head has a line for each window
-tills() {
+# the same with an a for each window, 5 and 7 in turn, and so with a line for each in the head
+own_limits() {
     awk 'BEGIN {
         printf "windows,b,c\n96,8,12\nwindow,a\n"
         for (w = 1; w <= 96; w++) print w "," (w % 2 ? 5 : 7)

@@ -1,14 +1,14 @@
 //! The table that a case of cases.rs starts from, and the deadline table that matches it, as the library is lent them.
 
 use crate::cases;
-use crate::raw::{AT_A, DEADLINES, DEADLINES_STRIDE, HEADER, STRIDE, TABLE};
+use crate::raw::{AT_LIMITS, DEADLINES, DEADLINES_STRIDE, HEADER, STRIDE, TABLE};
 
 pub fn table_of(case: u64) -> [u64; TABLE] {
     let mut table = [0; TABLE];
     let [b, c] = cases::limits_of(case);
     let (n, clock, word) = (cases::count_of(case), cases::clock_of(case), cases::word_of(case));
-    table[..AT_A].copy_from_slice(&[n, b, c, clock, word]);
-    for (window, a) in (1..).zip(&mut table[AT_A..HEADER]) {
+    table[..AT_LIMITS].copy_from_slice(&[n, b, c, clock, word]);
+    for (window, a) in (1..).zip(&mut table[AT_LIMITS..HEADER]) {
         *a = cases::a_of(case, window);
     }
     for (window, entry) in (1..).zip(table[HEADER..].chunks_exact_mut(STRIDE)) {

@@ -17,7 +17,7 @@ EDITS = [
     # clauses
     ("a clause gets another number, its citations do not", [(SPECIFICATION, "- [8.80] ", "- [8.81] ")], "[8.80] is no clause"),
     ("a clause's text is edited, and nothing else", [(SPECIFICATION, "more than 2c + 5a past", "more than 2c + 4a past")], STALE),
-    ("a step of the whole case is moved to another line", [(SPECIFICATION, "  2,5,8,12\n", "  2,5,8,12 ")], STALE),
+    ("a line of the whole case is joined to the next", [(SPECIFICATION, "  2,5,8,12\n", "  2,5,8,12 ")], STALE),
     ("the columns of a table are exchanged", [(SPECIFICATION, "| process | time |", "| time | process |")], STALE),
     ("a note is edited", [(SPECIFICATION, "number of microseconds", "number of milliseconds")], STALE),
     ("two clauses have one number", [(SPECIFICATION, "\n- [2.30] ", "\n- [2.20] ")], "[2.20] stands twice"),

@@ -46,8 +46,8 @@ extern "C" {
  *   out anew: n, b, c, the clock, the word; n times its a, and zeros up to 96 values; and then its entries, as they are. It is the same lock
  *   then, with the same latest moments.
  *   A program for layout 2 has to change its calls of funnelfawn_fresh, funnelfawn_fresh_deadlines, funnelfawn_read and funnelfawn_write,
- *   which take other arguments: its compiler names them. It names neither a place that is looked up by a bare number nor FUNNELFAWN_AT_A,
- *   where the a of window 1 stands now.
+ *   which take other arguments, and its uses of FUNNELFAWN_AT_A, which is gone: from FUNNELFAWN_AT_LIMITS on stands the a of each window. Its
+ *   compiler names them all, but not a place that is looked up by a bare number.
  *
  * Layout 2 has the lengths of layout 1; only waits differ. FUNNELFAWN_AT_TRIES is gone: from FUNNELFAWN_AT_WAITED, the same place, on stands
  * what each window has waited where its try moment stood; and the longest wait and a board's waits count unused time alone. So a summary
@@ -62,8 +62,8 @@ uint64_t funnelfawn_layout(void);
  *
  * A table of windows is lent as FUNNELFAWN_TABLE_LENGTH numbers: n, b, c, the clock, the shared word (0, or a window); the 96 values of a;
  * and then for each of the 96 windows its place and its arrival, the moment at which it came there. Window w, from 1, has its a at
- * FUNNELFAWN_AT_A + w - 1, its place at FUNNELFAWN_HEADER_LENGTH + FUNNELFAWN_STRIDE * (w - 1), and its arrival after that. Timed places are
- * all but remainder and selling; these two have no arrival, and 0 stands for it.
+ * FUNNELFAWN_AT_LIMITS + w - 1, its place at FUNNELFAWN_HEADER_LENGTH + FUNNELFAWN_STRIDE * (w - 1), and its arrival after that. Timed places
+ * are all but remainder and selling; these two have no arrival, and 0 stands for it.
  *
  * The a of a window is the time that its till has for a step, and each may have another; b and c are for all. The latest moment of a window
  * is its arrival + c in checking and + its own a in the other timed places; the earliest moment of a check is its arrival + b. A table is
@@ -82,8 +82,8 @@ enum {
     FUNNELFAWN_AT_C,
     FUNNELFAWN_AT_CLOCK,
     FUNNELFAWN_AT_WORD,
-    FUNNELFAWN_AT_A,
-    FUNNELFAWN_HEADER_LENGTH = FUNNELFAWN_AT_A + FUNNELFAWN_WINDOWS, /* the numbers before the entries */
+    FUNNELFAWN_AT_LIMITS,
+    FUNNELFAWN_HEADER_LENGTH = FUNNELFAWN_AT_LIMITS + FUNNELFAWN_WINDOWS, /* the numbers before the entries */
     FUNNELFAWN_STRIDE = 2,
     FUNNELFAWN_TABLE_LENGTH = FUNNELFAWN_HEADER_LENGTH + FUNNELFAWN_STRIDE * FUNNELFAWN_WINDOWS
 };
@@ -229,8 +229,8 @@ enum funnelfawn_number {
 /* [9.50] A fresh table of n windows with the limits b and c and an a for each of them: all in remainder, clock 0, word 0.
  *   The list `a` has the values of a from window 1 on [9.45]: n of them are enough. Where it has fewer numbers than FUNNELFAWN_WINDOWS, 0 stands
  *   for the others, and what comes after so many is not looked at. So fewer than n give 12, and so does a number above n that is not 0.
- *   Tills of one age have the same number n times. The values of another table are such a list too, at FUNNELFAWN_AT_A; but those of the very
- *   list that is to take the fresh table overlap with it, and have to be copied first.
+ *   Tills of one age have the same number n times. The values of another table are such a list too, at FUNNELFAWN_AT_LIMITS; but those of the
+ *   very list that is to take the fresh table overlap with it, and have to be copied first.
  *   0, 0, 0 with the table's numbers in `table`; or 11, 12, or, last, 16.
  *   Look at the answer before stepping on the list. Refused, it is as it was: one that held an older table holds that table still, sound
  *   if it was sound, and steps go on from there. (Within Rattle it is otherwise: a `fresh` that is refused gives back a table that is not
@@ -320,9 +320,10 @@ struct funnelfawn_answer funnelfawn_to_arrivals(const uint64_t *FUNNELFAWN_RESTR
  * A recording begins with `windows,b,c`, a line of these values, `window,a`, a line for each window from 1 to n, such as `1,5`, and
  * `time,window,act`; so its first step is on line 5 + n [6.20] to [6.40]. In the former shape it begins with `windows,a,b,c`, a line of these
  * values and `time,window,act`, and its first step is on line 4: it is read as n values of a that are equal [6.45]. Line 1 tells which of the
- * two it is. In the former shape nothing is written any more: a recording that was read comes out of the writing byte by byte if it begins
- * with `windows,b,c`, and otherwise as one that is read as the same steps with the same values [6.200] [6.202]. That one has n + 1 lines more,
- * so that of a former recording of nearly FUNNELFAWN_MOST_TEXT bytes the writing may give 15. */
+ * two it is. In the former shape nothing is written any more. What funnelfawn_read gave back, its list of a and its steps, funnelfawn_write
+ * turns into the very bytes that were read if they begin with `windows,b,c`, and otherwise into a recording that is read as the same steps with
+ * the same values: so a former one becomes a new one [6.200] [6.202] [9.105]. That has n + 1 lines more, so that of a former recording of nearly
+ * FUNNELFAWN_MOST_TEXT bytes the writing may give 15. */
 enum { FUNNELFAWN_MOST_TEXT = 65536, FUNNELFAWN_MOST_STEPS = 8187 };
 
 /* n, b, c are 0 where a reading is refused. */
@@ -336,14 +337,16 @@ struct funnelfawn_reading {
 /* [9.90] Reads a recording. 0, 0, the count of steps, with n, b, c in the reading, the values of a in the first FUNNELFAWN_WINDOWS places of `a`,
  * which are 0 above n, and the steps in the three lists; or 15, or 13, 14, 11 or 12 for the first fault of the text, or, last, 16 where `a`
  * has fewer places, whatever n is, or the shortest of the three no room for all steps. With FUNNELFAWN_WINDOWS places in `a` and
- * FUNNELFAWN_MOST_STEPS in each of the three it is never answered 16. */
+ * FUNNELFAWN_MOST_STEPS in each of the three it is never answered 16.
+ *   What came with 0 may be handed on as it is [9.105]: n, b, c and `a` to funnelfawn_fresh, for the table that `replay` starts from; the same
+ *   and the three lists, with the count of steps for their lengths, to funnelfawn_write. */
 struct funnelfawn_reading funnelfawn_read(const uint8_t *FUNNELFAWN_RESTRICT text, size_t text_length, uint64_t *FUNNELFAWN_RESTRICT a,
                                           size_t a_length, uint64_t *FUNNELFAWN_RESTRICT moments, size_t moments_length,
                                           uint64_t *FUNNELFAWN_RESTRICT windows, size_t windows_length,
                                           uint64_t *FUNNELFAWN_RESTRICT acts, size_t acts_length);
 
 /* [9.100] Writes a recording of the steps in the three lists, as many as the shortest has, with the values of a in the list `a`, which is as
- * funnelfawn_fresh has it [9.45]; what a reading has put there is such a list. 0, 0, the count of bytes, with the text in `out`; or 11, 12, 14
+ * funnelfawn_fresh has it [9.45]; one that a reading has filled is such a list. 0, 0, the count of bytes, with the text in `out`; or 11, 12, 14
  * with the line of the first step without a form (a moment of more than 13 digits, a window of more than 8, no such act), 5 + n being that of
  * the first step, 15, or, last, 16. An `out` of FUNNELFAWN_MOST_TEXT bytes always suffices. */
 struct funnelfawn_answer funnelfawn_write(uint64_t n, uint64_t b, uint64_t c, const uint64_t *a, size_t a_length, const uint64_t *moments,

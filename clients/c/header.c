@@ -86,7 +86,7 @@ static void layout(void)
 {
     CHECK(funnelfawn_layout() == FUNNELFAWN_LAYOUT && FUNNELFAWN_LAYOUT == 3);
     CHECK(FUNNELFAWN_TABLE_LENGTH == 293 && FUNNELFAWN_SUMMARY_LENGTH == 101 && FUNNELFAWN_BOARD_LENGTH == 3076);
-    CHECK(FUNNELFAWN_DEADLINES_LENGTH == 389 && FUNNELFAWN_HEADER_LENGTH == 101 && FUNNELFAWN_AT_A == 5);
+    CHECK(FUNNELFAWN_DEADLINES_LENGTH == 389 && FUNNELFAWN_HEADER_LENGTH == 101 && FUNNELFAWN_AT_LIMITS == 5);
 }
 
 /* Window 96 goes once round: the acts, the places and where each number stands. */
@@ -103,7 +103,7 @@ static void round_of_96(void)
 
     start();
     CHECK(table[FUNNELFAWN_AT_N] == 96 && table[FUNNELFAWN_AT_B] == 8 && table[FUNNELFAWN_AT_C] == 12);
-    CHECK(memcmp(table + FUNNELFAWN_AT_A, fives, sizeof fives) == 0 && table[FUNNELFAWN_HEADER_LENGTH - 1] == 5);
+    CHECK(memcmp(table + FUNNELFAWN_AT_LIMITS, fives, sizeof fives) == 0 && table[FUNNELFAWN_HEADER_LENGTH - 1] == 5);
     for (size_t i = 0; i < sizeof turns / sizeof turns[0]; i++) {
         CHECK(record(turns[i].act, FUNNELFAWN_WINDOWS, turns[i].moment) == FUNNELFAWN_OK);
         CHECK(table[FUNNELFAWN_AT_CLOCK] == turns[i].moment && table[FUNNELFAWN_AT_WORD] == turns[i].word);
@@ -206,7 +206,7 @@ static void own_limits(void)
         a[window - 1] = window;
     CHECK(says(funnelfawn_fresh(96, 97, 97, a, 96, table, FUNNELFAWN_TABLE_LENGTH), FUNNELFAWN_OK, 0, 0));
     CHECK(says(funnelfawn_fresh_deadlines(96, 97, 97, a, 96, deadlines, FUNNELFAWN_DEADLINES_LENGTH), FUNNELFAWN_OK, 0, 0) && match());
-    CHECK(memcmp(table + FUNNELFAWN_AT_A, a, sizeof a) == 0 && memcmp(deadlines + FUNNELFAWN_AT_A, a, sizeof a) == 0);
+    CHECK(memcmp(table + FUNNELFAWN_AT_LIMITS, a, sizeof a) == 0 && memcmp(deadlines + FUNNELFAWN_AT_LIMITS, a, sizeof a) == 0);
     for (uint64_t window = 1; window <= 96; window++)
         CHECK(step(FUNNELFAWN_ACT_TRY, window, 0) == FUNNELFAWN_OK && step_deadlines(FUNNELFAWN_ACT_TRY, window, 0).number == FUNNELFAWN_OK);
     for (uint64_t window = 1; window <= 96; window++) {
@@ -216,7 +216,7 @@ static void own_limits(void)
         CHECK(step_deadlines(FUNNELFAWN_ACT_WITHDRAW, window, window).number == FUNNELFAWN_OK);
     }
     CHECK(step(FUNNELFAWN_ACT_WAIT, 0, 1000) == FUNNELFAWN_OK && step_deadlines(FUNNELFAWN_ACT_WAIT, 0, 1000).number == FUNNELFAWN_OK);
-    CHECK(memcmp(table + FUNNELFAWN_AT_A, a, sizeof a) == 0 && match());
+    CHECK(memcmp(table + FUNNELFAWN_AT_LIMITS, a, sizeof a) == 0 && match());
 }
 
 /* The answers to a list of values of a, of which so many are lent: the three calls that take one look at it alike, and refused they write
@@ -243,8 +243,8 @@ static void values_of_a(void)
     uint64_t a[FUNNELFAWN_WINDOWS + 2] = {5, 7};
 
     start_both();
-    CHECK(takes(2, 8, 12, a, 2) == FUNNELFAWN_OK && table[FUNNELFAWN_AT_A] == 5 && table[FUNNELFAWN_AT_A + 1] == 7);
-    CHECK(table[FUNNELFAWN_AT_A + 2] == 0 && table[FUNNELFAWN_HEADER_LENGTH - 1] == 0 && match());
+    CHECK(takes(2, 8, 12, a, 2) == FUNNELFAWN_OK && table[FUNNELFAWN_AT_LIMITS] == 5 && table[FUNNELFAWN_AT_LIMITS + 1] == 7);
+    CHECK(table[FUNNELFAWN_AT_LIMITS + 2] == 0 && table[FUNNELFAWN_HEADER_LENGTH - 1] == 0 && match());
     CHECK(takes(2, 8, 12, a, 3) == FUNNELFAWN_OK && takes(2, 8, 12, a, 95) == FUNNELFAWN_OK && takes(2, 8, 12, a, 96) == FUNNELFAWN_OK);
     /* one missing is 0, and a 0 up to n is no a */
     CHECK(takes(2, 8, 12, a, 1) == FUNNELFAWN_REFUSED_LIMITS && takes(2, 8, 12, NULL, 0) == FUNNELFAWN_REFUSED_LIMITS);
@@ -273,7 +273,7 @@ static void values_of_a(void)
     CHECK(takes(95, 8, 12, a, 96) == FUNNELFAWN_REFUSED_LIMITS && takes(96, 8, 12, a, 95) == FUNNELFAWN_REFUSED_LIMITS);
     /* the values of a table serve another one */
     CHECK(takes(96, 8, 12, fives, 96) == FUNNELFAWN_OK);
-    CHECK(says(funnelfawn_fresh_deadlines(96, 8, 12, table + FUNNELFAWN_AT_A, 96, deadlines, FUNNELFAWN_DEADLINES_LENGTH), FUNNELFAWN_OK, 0, 0));
+    CHECK(says(funnelfawn_fresh_deadlines(96, 8, 12, table + FUNNELFAWN_AT_LIMITS, 96, deadlines, FUNNELFAWN_DEADLINES_LENGTH), FUNNELFAWN_OK, 0, 0));
     CHECK(match());
 }
 
@@ -283,7 +283,7 @@ static int is_sound_with(size_t window, uint64_t a)
     uint64_t number;
 
     CHECK(takes(2, 8, 12, fives, 2) == FUNNELFAWN_OK);
-    table[FUNNELFAWN_AT_A + window - 1] = deadlines[FUNNELFAWN_AT_A + window - 1] = a;
+    table[FUNNELFAWN_AT_LIMITS + window - 1] = deadlines[FUNNELFAWN_AT_LIMITS + window - 1] = a;
     number = step(FUNNELFAWN_ACT_WAIT, 0, 0);
     CHECK(number == FUNNELFAWN_OK || number == FUNNELFAWN_REFUSED_NO_TABLE);
     CHECK(step_deadlines(FUNNELFAWN_ACT_WAIT, 0, 0).number == number && match() == (number == FUNNELFAWN_OK));
@@ -311,7 +311,7 @@ static void lay_out_anew(const uint64_t *stored, size_t stride, uint64_t *made)
     made[FUNNELFAWN_AT_CLOCK] = stored[CLOCK];
     made[FUNNELFAWN_AT_WORD] = stored[WORD];
     for (size_t i = 0; i < FUNNELFAWN_WINDOWS; i++)
-        made[FUNNELFAWN_AT_A + i] = i < stored[N] ? stored[A] : 0;
+        made[FUNNELFAWN_AT_LIMITS + i] = i < stored[N] ? stored[A] : 0;
     memcpy(made + FUNNELFAWN_HEADER_LENGTH, stored + ENTRIES, stride * FUNNELFAWN_WINDOWS * sizeof *made);
 }
 

@@ -237,17 +237,17 @@ static void no_table(void)
         {FUNNELFAWN_AT_C, 10000001},
         {FUNNELFAWN_AT_CLOCK, UINT64_C(1000000000001)},
         {FUNNELFAWN_AT_WORD, 3},
-        {FUNNELFAWN_AT_A, 8},
-        {FUNNELFAWN_AT_A, 0},
-        {FUNNELFAWN_AT_A + 1, UINT64_MAX},
-        {FUNNELFAWN_AT_A + 2, 5},
+        {FUNNELFAWN_AT_LIMITS, 8},
+        {FUNNELFAWN_AT_LIMITS, 0},
+        {FUNNELFAWN_AT_LIMITS + 1, UINT64_MAX},
+        {FUNNELFAWN_AT_LIMITS + 2, 5},
         {FUNNELFAWN_HEADER_LENGTH - 1, 5},
         {FUNNELFAWN_HEADER_LENGTH, 8},
         {FUNNELFAWN_HEADER_LENGTH + 1, 7},
         {FUNNELFAWN_HEADER_LENGTH + 2 * FUNNELFAWN_STRIDE, 5},
         {FUNNELFAWN_TABLE_LENGTH - 1, 1},
     };
-    static const size_t lengths[] = {0, 1, FUNNELFAWN_AT_A, FUNNELFAWN_HEADER_LENGTH, FUNNELFAWN_TABLE_LENGTH - 1};
+    static const size_t lengths[] = {0, 1, FUNNELFAWN_AT_LIMITS, FUNNELFAWN_HEADER_LENGTH, FUNNELFAWN_TABLE_LENGTH - 1};
 
     for (size_t i = 0; i < sizeof damage / sizeof damage[0]; i++) {
         uint64_t damaged[FUNNELFAWN_TABLE_LENGTH];
@@ -268,8 +268,8 @@ static void no_table(void)
     }
 }
 
-/* [12.115] [12.30] Deadline tables that are none or not sound, in one number each, and too short ones: neither they nor the table that lies
- * ready for what matches can be written. Window 1 may check from 8 to 12, and window 2 test from 5 to 10. */
+/* [12.115] [12.30] Deadline tables that are none or not sound, in one number each: neither they nor the table that lies ready for what matches
+ * can be written. Window 1 may check from 8 to 12, and window 2 test from 5 to 10. */
 static void no_deadlines(void)
 {
     static const struct { size_t place; uint64_t number; } damage[] = {
@@ -283,11 +283,11 @@ static void no_deadlines(void)
         {FUNNELFAWN_AT_CLOCK, 11},
         {FUNNELFAWN_AT_CLOCK, UINT64_C(1000000000001)},
         {FUNNELFAWN_AT_WORD, 3},
-        {FUNNELFAWN_AT_A, 8},
-        {FUNNELFAWN_AT_A, 0},
-        {FUNNELFAWN_AT_A + 1, 4},
-        {FUNNELFAWN_AT_A + 1, 6},
-        {FUNNELFAWN_AT_A + 2, 5},
+        {FUNNELFAWN_AT_LIMITS, 8},
+        {FUNNELFAWN_AT_LIMITS, 0},
+        {FUNNELFAWN_AT_LIMITS + 1, 4},
+        {FUNNELFAWN_AT_LIMITS + 1, 6},
+        {FUNNELFAWN_AT_LIMITS + 2, 5},
         {FUNNELFAWN_HEADER_LENGTH - 1, 5},
         {FUNNELFAWN_HEADER_LENGTH, 8},
         {FUNNELFAWN_HEADER_LENGTH, 4},
@@ -298,7 +298,6 @@ static void no_deadlines(void)
         {FUNNELFAWN_DEADLINES_LENGTH - 2, 1},
         {FUNNELFAWN_DEADLINES_LENGTH - 1, 1},
     };
-    static const size_t lengths[] = {0, 1, FUNNELFAWN_AT_A, FUNNELFAWN_HEADER_LENGTH, FUNNELFAWN_TABLE_LENGTH, FUNNELFAWN_DEADLINES_LENGTH - 1};
 
     lay(&table, numbers, FUNNELFAWN_TABLE_LENGTH, NONE, 0);
     for (size_t i = 0; i < sizeof damage / sizeof damage[0]; i++) {
@@ -310,6 +309,16 @@ static void no_deadlines(void)
         CHECK(step_deadlines(a_wait) == FUNNELFAWN_REFUSED_NO_TABLE, "a step on a damaged deadline table", i);
         CHECK(to_arrivals() == FUNNELFAWN_REFUSED_NO_TABLE, "a damaged deadline table to arrivals", i);
     }
+}
+
+/* [12.115] Deadline tables that are too short, likewise. */
+static void short_deadlines(void)
+{
+    static const size_t lengths[] = {
+        0, 1, FUNNELFAWN_AT_LIMITS, FUNNELFAWN_HEADER_LENGTH, FUNNELFAWN_TABLE_LENGTH, FUNNELFAWN_DEADLINES_LENGTH - 1,
+    };
+
+    lay(&table, numbers, FUNNELFAWN_TABLE_LENGTH, NONE, 0);
     for (size_t i = 0; i < sizeof lengths / sizeof lengths[0]; i++) {
         lay(&deadlines, moments, lengths[i], NONE, 0);
         CHECK(step_deadlines(a_wait) == FUNNELFAWN_REFUSED_NO_TABLE, "a step on a short deadline table", i);
@@ -376,11 +385,17 @@ static void values_of_a(void)
         CHECK(write_values(lists[i].n, out, sizeof out) == lists[i].number, "a writing", i);
         CHECK(write_values(lists[i].n, NULL, 0) == (is_taken ? FUNNELFAWN_REFUSED_SHORT_OUTPUT : lists[i].number), "a writing without room", i);
         if (is_taken) {
-            CHECK(memcmp(table.list + FUNNELFAWN_AT_A, a, FUNNELFAWN_WINDOWS * sizeof *a) == 0, "the values of a table", i);
+            CHECK(memcmp(table.list + FUNNELFAWN_AT_LIMITS, a, FUNNELFAWN_WINDOWS * sizeof *a) == 0, "the values of a table", i);
             CHECK(memcmp(deadlines.list, table.list, FUNNELFAWN_HEADER_LENGTH * sizeof *a) == 0, "the values of a deadline table", i);
         }
     }
-    /* a list that is too short for the table; and what lies behind the numbers of a table in a longer one */
+}
+
+/* [9.50] [12.120] A list that is too short for a fresh table cannot be written; nor can what lies behind its numbers in a longer one. */
+static void room_for_fresh(void)
+{
+    static const uint64_t a[] = {4, 5};
+
     lay(&values, a, 2, NONE, 0);
     lay(&table, numbers, FUNNELFAWN_TABLE_LENGTH - 1, NONE, 0);
     CHECK(fresh(2) == FUNNELFAWN_REFUSED_SHORT_OUTPUT, "too short for a fresh table", 0);
@@ -497,7 +512,7 @@ static void refused_acts(void)
  * values of a and the entries of the windows below it, which only the comparison of numbers speaks of. */
 static size_t entry_end(size_t stride, struct act act)
 {
-    return act.window == 0 ? FUNNELFAWN_AT_A : FUNNELFAWN_HEADER_LENGTH + stride * (size_t)act.window;
+    return act.window == 0 ? FUNNELFAWN_AT_LIMITS : FUNNELFAWN_HEADER_LENGTH + stride * (size_t)act.window;
 }
 
 static uint64_t place_of(size_t window)
@@ -655,8 +670,10 @@ int main(void)
     faults_are_found();
     no_table();
     no_deadlines();
+    short_deadlines();
     to_and_fro();
     values_of_a();
+    room_for_fresh();
     values_read();
     no_summary();
     refused_acts();

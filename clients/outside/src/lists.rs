@@ -2,7 +2,7 @@
 
 use crate::acts::any_number;
 use crate::encoding::{summary_numbers, table_numbers};
-use funnelfawn::raw::{AT_A, AT_B, AT_C, AT_CLOCK, AT_N, AT_WORD, HEADER, STRIDE, TABLE};
+use funnelfawn::raw::{AT_B, AT_C, AT_CLOCK, AT_LIMITS, AT_N, AT_WORD, HEADER, STRIDE, TABLE};
 use reference::generator::lists::{foreign, unsound_or_full};
 use reference::generator::random::Random;
 use reference::machine::{Table, Values, CLOCK_END, LIMIT_END, WINDOWS};
@@ -52,16 +52,16 @@ fn damage_table(random: &mut Random, table: &Table, numbers: &mut Vec<u64>) {
 /// Of what both kinds of table begin with: all but the values of a, those of windows up to n, or those of all.
 pub fn part_of_header<'a>(random: &mut Random, values: &Values, numbers: &'a mut [u64]) -> &'a mut [u64] {
     match random.below(4) {
-        0 | 1 => &mut numbers[..AT_A],
-        2 => &mut numbers[AT_A..AT_A + values.n as usize],
-        _ => &mut numbers[AT_A..HEADER],
+        0 | 1 => &mut numbers[..AT_LIMITS],
+        2 => &mut numbers[AT_LIMITS..AT_LIMITS + values.n as usize],
+        _ => &mut numbers[AT_LIMITS..HEADER],
     }
 }
 
 /// The a of a window up to n at the ends of its rule, or just outside.
 pub fn a_at_an_edge(random: &mut Random, values: &Values, numbers: &mut [u64]) {
     let window = random.index(values.n as usize);
-    numbers[AT_A + window] = random.pick(&[0, 1, values.b - 1, values.b, u64::MAX]);
+    numbers[AT_LIMITS + window] = random.pick(&[0, 1, values.b - 1, values.b, u64::MAX]);
 }
 
 /// The a of a window above n, which is in remainder, is not 0: one that would stand up to n, or one that would not. Of 96 windows the last one
@@ -75,14 +75,14 @@ pub fn a_above(random: &mut Random, values: &Values, numbers: &mut [u64]) {
     }
     let any = random.between(n + 1, 96);
     let window = random.pick(&[n + 1, 96, any]) as usize;
-    numbers[AT_A + window - 1] = random.pick(&[1, values.b - 1, values.b, 1 << 32, u64::MAX]);
+    numbers[AT_LIMITS + window - 1] = random.pick(&[1, values.b - 1, values.b, 1 << 32, u64::MAX]);
 }
 
 /// Makes it a table of n windows, of which those above n have no a, and the word is none of theirs.
 pub fn lower(n: u64, numbers: &mut [u64]) {
     numbers[AT_N] = n;
     numbers[AT_WORD] = numbers[AT_WORD].min(n);
-    numbers[AT_A + n as usize..HEADER].fill(0);
+    numbers[AT_LIMITS + n as usize..HEADER].fill(0);
 }
 
 fn entry(numbers: &mut [u64], window: u64) -> &mut [u64] {
@@ -162,7 +162,7 @@ fn above(random: &mut Random, table: &Table, numbers: &mut [u64]) {
 pub fn cut(random: &mut Random, numbers: &mut Vec<u64>) {
     let length = numbers.len();
     let shorter = random.index(length);
-    let lengths = [0, AT_A, HEADER, HEADER + 1, 198, length - 2, length - 1, shorter];
+    let lengths = [0, AT_LIMITS, HEADER, HEADER + 1, 198, length - 2, length - 1, shorter];
     numbers.truncate(random.pick(&lengths).min(length - 1));
 }
 

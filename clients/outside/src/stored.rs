@@ -4,7 +4,7 @@
 use crate::boards;
 use crate::calls::{self, Verdict};
 use crate::handed::Handed;
-use funnelfawn::raw::{AT_A, BOARD, DEADLINES, HEADER, SUMMARY, TABLE};
+use funnelfawn::raw::{AT_LIMITS, BOARD, DEADLINES, HEADER, SUMMARY, TABLE};
 use reference::answer::{answer, bare, Answer, ACCEPTED, NO_TABLE, SHORT_OUTPUT};
 use reference::board::Entry;
 use reference::board_list::BoardCall;
@@ -219,10 +219,10 @@ fn tabled(field: &str, length: usize) -> Result<Vec<u64>, String> {
     let &[first, a, entries] = &parts[..] else { return Err(format!("no table: {field}")) };
     let mut all = numbers(first)?;
     let mut values = numbers(a)?;
-    if all.len() != AT_A || values.len() > HEADER - AT_A {
+    if all.len() != AT_LIMITS || values.len() > HEADER - AT_LIMITS {
         return Err(format!("too many or too few numbers before the entries: {field}"));
     }
-    values.resize(HEADER - AT_A, 0);
+    values.resize(HEADER - AT_LIMITS, 0);
     all.extend(values);
     all.extend(padded(entries, length - HEADER)?);
     Ok(all)

@@ -18,7 +18,7 @@ impl<'a> Header<'a> {
     }
 
     pub fn a(&self, window: u64) -> Option<u64> {
-        self.index(window).map(|index| self.0[raw::AT_A + index])
+        self.index(window).map(|index| self.0[raw::AT_LIMITS + index])
     }
 
     pub fn clock(&self) -> u64 {

@@ -52,9 +52,9 @@ pub const AT_CLOCK: usize = 3;
 /// Where it has the word.
 pub const AT_WORD: usize = 4;
 /// Where it has the a of window 1; those of the others follow, and are 0 above n.
-pub const AT_A: usize = 5;
+pub const AT_LIMITS: usize = 5;
 /// The numbers of a table before its entries.
-pub const HEADER: usize = AT_A + WINDOWS;
+pub const HEADER: usize = AT_LIMITS + WINDOWS;
 /// The numbers of an entry: place, arrival.
 pub const STRIDE: usize = 2;
 /// The numbers of a table.
@@ -192,7 +192,8 @@ pub fn to_arrivals(deadlines: &[u64], table: &mut [u64]) -> Answer {
     unsafe { funnelfawn_to_arrivals(deadlines.as_ptr(), deadlines.len(), table.as_mut_ptr(), table.len()) }
 }
 
-/// All [`WINDOWS`] values of a go to the list `a`, with 0 above n. With fewer places there it is refused with 16, whatever n is.
+/// All [`WINDOWS`] values of a go to the list `a`, with 0 above n: so it can be handed to [`fresh`] and [`write`] as it is, [9.105]. With fewer
+/// places there it is refused with 16, whatever n is.
 #[rustfmt::skip]
 pub fn read(text: &[u8], a: &mut [u64], moments: &mut [u64], windows: &mut [u64], acts: &mut [u64]) -> Reading {
     unsafe {

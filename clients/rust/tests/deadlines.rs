@@ -1,7 +1,7 @@
 //! The second engine, on first and last moments: the whole case through both, what is refused, and the way from one kind of table to the
 //! other and back.
 
-use funnelfawn::raw::{self, Answer, AT_A, AT_B, AT_C, AT_CLOCK, AT_N, AT_WORD};
+use funnelfawn::raw::{self, Answer, AT_B, AT_C, AT_CLOCK, AT_LIMITS, AT_N, AT_WORD};
 use funnelfawn::raw::{DEADLINES, DEADLINES_STRIDE, HEADER, STRIDE, TABLE};
 use funnelfawn::Act::*;
 use funnelfawn::{read, replay, Accepted, Act, DeadlineTable, Limits, Moments, Place, Refusal, Step, Table};
@@ -10,7 +10,7 @@ const WHOLE_CASE: &[u8] = include_bytes!("../../../examples/two-windows.csv");
 const WITHDRAWS: &[u8] = include_bytes!("../../../examples/withdraw.csv");
 const SALES: &[u8] = include_bytes!("../../../examples/spans.csv");
 const WAITS: &[u8] = include_bytes!("../../c/waits.csv");
-const TILLS: &[u8] = include_bytes!("../../c/tills.csv");
+const TILLS: &[u8] = include_bytes!("../../../examples/tills.csv");
 
 const END: u64 = 1_000_000_000_000;
 const PAST: u64 = 7777;
@@ -238,12 +238,12 @@ fn no_deadline_table() {
         (AT_C, 10_000_001),
         (AT_CLOCK, END + 1),
         (AT_WORD, 3),
-        (AT_A, 0),
-        (AT_A, 4),
-        (AT_A, 6),
-        (AT_A + 1, 0),
-        (AT_A + 1, 8),
-        (AT_A + 2, 5),
+        (AT_LIMITS, 0),
+        (AT_LIMITS, 4),
+        (AT_LIMITS, 6),
+        (AT_LIMITS + 1, 0),
+        (AT_LIMITS + 1, 8),
+        (AT_LIMITS + 2, 5),
         (HEADER - 1, 5),
         (above, 5),
     ] {
@@ -258,7 +258,7 @@ fn no_deadline_table() {
 fn no_table() {
     let mut numbers = *Table::fresh(&Limits::equal(2, 5, 8, 12)).unwrap().numbers();
     for (place, number) in
-        [(AT_WORD, 3), (HEADER, 8), (HEADER + 1, 1), (AT_CLOCK, END + 1), (AT_A, 8), (AT_A + 2, 1)]
+        [(AT_WORD, 3), (HEADER, 8), (HEADER + 1, 1), (AT_CLOCK, END + 1), (AT_LIMITS, 8), (AT_LIMITS + 2, 1)]
     {
         let sound = std::mem::replace(&mut numbers[place], number);
         assert_eq!(DeadlineTable::from_table(Table::from_numbers(numbers)), Err(Refusal::NoTable));

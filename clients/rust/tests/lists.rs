@@ -29,7 +29,7 @@ fn the_layout() {
     assert_eq!((layout(), LAYOUT), (3, 3));
     assert_eq!((TABLE, SUMMARY, WAITED, BOARD), (293, 101, 5, 3_076));
     assert_eq!((DEADLINES, DEADLINES_STRIDE), (389, 3));
-    assert_eq!([AT_N, AT_B, AT_C, AT_CLOCK, AT_WORD, AT_A, HEADER], [0, 1, 2, 3, 4, 5, 101]);
+    assert_eq!([AT_N, AT_B, AT_C, AT_CLOCK, AT_WORD, AT_LIMITS, HEADER], [0, 1, 2, 3, 4, 5, 101]);
 }
 
 /// A list of values of a in three calls, of which each has to answer the same; but for the writing, which has no room.
@@ -45,7 +45,7 @@ fn takes(n: u64, b: u64, c: u64, a: &[u64]) -> Answer {
     assert_eq!((answer, written), (bare(0), bare(16)));
     let mut values = a[..a.len().min(WINDOWS)].to_vec();
     values.resize(WINDOWS, 0);
-    assert_eq!((&table[AT_A..HEADER], &deadlines[..HEADER]), (&values[..], &table[..HEADER]));
+    assert_eq!((&table[AT_LIMITS..HEADER], &deadlines[..HEADER]), (&values[..], &table[..HEADER]));
     answer
 }
 
@@ -84,7 +84,7 @@ fn the_a_of_each_window() {
     assert_eq!((table.limits(), deadlines.limits()), (limits.clone(), limits));
     for window in 1..=96 {
         assert_eq!((table.a(window), deadlines.a(window)), (Some(window), Some(window)));
-        assert_eq!(table.numbers()[AT_A + window as usize - 1], window);
+        assert_eq!(table.numbers()[AT_LIMITS + window as usize - 1], window);
     }
     for window in [0, 97, u64::MAX] {
         assert_eq!((table.a(window), deadlines.a(window)), (None, None));
@@ -100,7 +100,7 @@ fn the_a_of_each_window() {
 
 #[test]
 fn short_tables_and_summaries() {
-    for length in [0, 1, AT_A, HEADER, HEADER + 1, 198, TABLE - 2, TABLE - 1] {
+    for length in [0, 1, AT_LIMITS, HEADER, HEADER + 1, 198, TABLE - 2, TABLE - 1] {
         let mut short = table()[..length].to_vec();
         let mut summary = [0; SUMMARY];
         assert_eq!(step(&mut short, 0, 0, 1), bare(1));

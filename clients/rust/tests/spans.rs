@@ -9,7 +9,7 @@ const WHOLE_CASE: &[u8] = include_bytes!("../../../examples/two-windows.csv");
 const WAITS: &[u8] = include_bytes!("../../c/waits.csv");
 const REFUSED_BETWEEN: &[u8] = include_bytes!("../../../examples/spans.csv");
 /// Two tills of different age.
-const TILLS: &[u8] = include_bytes!("../../c/tills.csv");
+const TILLS: &[u8] = include_bytes!("../../../examples/tills.csv");
 
 const HEAD: &str = "windows,b,c\n2,8,12\nwindow,a\n1,5\n2,5\ntime,window,act\n";
 const FORMER_HEAD: &str = "windows,a,b,c\n2,5,8,12\ntime,window,act\n";

@@ -3,7 +3,7 @@
 use funnelfawn::Act::*;
 use funnelfawn::{read, replay, Accepted, DeadlineTable, Limits, Moments, Place, Refusal, Summary, Table};
 
-const INPUT: &[u8] = include_bytes!("../../c/tills.csv");
+const INPUT: &[u8] = include_bytes!("../../../examples/tills.csv");
 
 const OUTPUT: &str = "line,answer,window,moment
 7,0,0,0

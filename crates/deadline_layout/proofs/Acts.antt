@@ -12,6 +12,7 @@ use borrow.Author.Tests.{eq-eqb, ne-eqb}
 use Rattle.model.specs.declared.Transition.{Transition}
 use Rattle.model.specs.declared.Answer.{Answer}
 use Rattle.model.specs.Acts.{waitAct, lastAct}
+use Rattle.model.specs.States.{limitIn}
 use Rattle.model.specs.Actions.{transitionOf}
 use Rattle.model.specs.Answers.{answerOf}
 use Rattle.model.proofs.Tests.{if-eq, and-true-iff}
@@ -20,11 +21,12 @@ use Rattle.rules.specs.Judging.{slotOf, rowOf, judged}
 use Rattle.rules.proofs.Rows.{row-is}
 use Rattle.rules.proofs.Slots.{slot-in, slot-below}
 use Rattle.rules.proofs.Pass.{Whole}
-use Rattle.layout.specs.Encodings.{tableParameters}
+use Rattle.layout.specs.Encodings.{limitPlace, bIn, cIn}
 use Rattle.layout.specs.Interface.{Lent, lentGave}
 use Rattle.layout.specs.Places.{clocked}
 use Rattle.layout.specs.Steps.{sceneIn, rowIn}
 use Rattle.layout.proofs.Acts.{lent-gave}
+use Rattle.layout.proofs.Numbers.{limits-size}
 use Rattle.deadlines.specs.declared.DeadlineLocation.{DeadlineLocation}
 use Rattle.deadlines.specs.declared.DeadlineProcess.{DeadlineProcess}
 use Rattle.deadlines.specs.declared.DeadlineState.{DeadlineState}
@@ -33,14 +35,20 @@ use Rattle.deadlines.specs.Deadlines.{entryWith, idleWith, entryIn, soundWith, 
 use Rattle.deadlines.specs.Looks.{datedWith}
 use Rattle.deadlines.specs.Matching.{arrived}
 use Rattle.deadlines.proofs.Passing.{standingWith, sound-parts-with, small, SurveyedWith}
-use Rattle.deadlines.proofs.Judging.{GoesWith, goes-with, within, exit-refused-with, exit-waited-with, exit-moved-with}
+use Rattle.deadlines.proofs.Judging.{GoesWith, refuse, wait, move, goes-with, within, exit-refused-with, exit-waited-with, exit-moved-with}
 use Rattle.deadline_layout.specs.Encodings.{deadlineLength, stagePlaceWith, firstPlace, lastPlace, stateNumbersWith, stateWithIn}
 use Rattle.deadline_layout.specs.Places.{locationIn, entriesTold, placedWith}
 use Rattle.deadline_layout.specs.Steps.{surveyWith, actionPutWith, answerIn, actedWith}
 use Rattle.deadline_layout.proofs.Numbers.{Told, state-numbers-told}
 use Rattle.deadline_layout.proofs.Storing.{moved-stored, waited-stored}
-use Rattle.deadline_layout.proofs.Entries.{entry-at, entries-size, each-told}
+use Rattle.deadline_layout.proofs.Entries.{limit-at, entry-at, entries-size, each-told}
 use Rattle.deadline_layout.proofs.Surveys.{tellSound, Found, faulty, whole, survey-found}
+
+-- an accepted action that is no wait is that of a process up to 96
+acting-few : {d : DeadlineState} {act p m : ℕ} {o : DeadlineOutcome} {j : Answer} → GoesWith d act p m o j → j .code ≡ 0 → act ≢ waitAct → p ≤ 96
+acting-few (refuse e n) z some = absurd (n z)
+acting-few (wait w e o h) z some = absurd (some w)
+acting-few (move a b c to e h) z some = to
 
 -- the outcome of a step in numbers
 abbrev pub outcomeNumbers : DeadlineOutcome → Lent
@@ -89,7 +97,7 @@ module _ (l : List ℕ) (long : length l ≡ deadlineLength) (act p m : ℕ) whe
     t = rowIn l act p m
 
     abbrev put : List ℕ
-    put = actionPutWith l slot (tableParameters l) act p t m
+    put = actionPutWith l slot act t m
 
     -- what is written is what the step changes
     wait-put : act ≡ waitAct → put ≡ stateNumbersWith (changedWith d m (d .word) (d .processes))
@@ -97,13 +105,23 @@ module _ (l : List ℕ) (long : length l ≡ deadlineLength) (act p m : ℕ) whe
     wait-put w = rw (eq-eqb act waitAct w) (sym (waited-stored d m ∙ ap (λ (k : List ℕ). clocked k m (d .word)) are-numbers))
 
     abbrev reached : DeadlineLocation
-    reached = datedWith (tableParameters l) p (t .to)
+    reached = datedWith (d .parameters .b) (d .parameters .c) (limitIn (d .parameters) p) (t .to)
 
-    move-put : act ≢ waitAct → put ≡ stateNumbersWith (changedWith d m (t .word) (set (d .processes) slot (entryWith reached)))
+    -- they have 96 values of a, and that of the acting process is read
+    own-size : length (d .parameters .a) ≡ 96
+    unfolding stateWithIn
+    own-size = limits-size l (omega arith)
+
+    dated-is : p ≤ 96 → datedWith (bIn l) (cIn l) (getD l (limitPlace slot) 0) (t .to) ≡ reached
+    unfolding stateWithIn
+    dated-is to = ap (λ (limit : ℕ). datedWith (bIn l) (cIn l) limit (t .to)) (limit-at l p slot (slot-in p to) (slot-below p))
+
+    move-put : act ≢ waitAct → p ≤ 96 → put ≡ stateNumbersWith (changedWith d m (t .word) (set (d .processes) slot (entryWith reached)))
     unfolding actionPutWith
-    move-put some =
+    move-put some to =
         rw (ne-eqb act waitAct some)
-        (sym (moved-stored d m (t .word) slot reached ∙ ap (λ (k : List ℕ). placedWith (clocked k m (t .word)) slot reached) are-numbers))
+        (ap (λ (q : DeadlineLocation). clocked (placedWith l slot q) m (t .word)) (dated-is to)
+        ∙ sym (moved-stored d own-size m (t .word) slot reached ∙ ap (λ (k : List ℕ). clocked (placedWith k slot reached) m (t .word)) are-numbers))
 
     module _ (f : Survey) (w : Whole (arrived d) p f) where
       abbrev j : Answer
@@ -123,7 +141,7 @@ module _ (l : List ℕ) (long : length l ≡ deadlineLength) (act p m : ℕ) whe
       written = if-eq (j .code) 0
           (λ z. if-eq act waitAct
           (λ e. ap (lentGave j) (rw (eq-eqb (j .code) 0 z) (wait-put e)) ∙ ap outcomeNumbers (exit-waited-with d act p m o j going z e))
-          (λ some. ap (lentGave j) (rw (eq-eqb (j .code) 0 z) (move-put some))
+          (λ some. ap (lentGave j) (rw (eq-eqb (j .code) 0 z) (move-put some (acting-few going z some)))
           ∙ ap outcomeNumbers
           (exit-moved-with d act p m slot t o j (slot-in p) row
           (within f (sceneIn l p) (getD l (stagePlaceWith slot) 0) (getD l (firstPlace slot) 0) t act m z) (small d stands) going z some)))
@@ -151,13 +169,13 @@ module _ (l : List ℕ) (f : Survey) (act p m at : ℕ) (at-is : at ≡ slotOf p
   answer-is : j ≡ answerIn l f act p m
   answer-is = j-is ∙ (λ i. judged f (sceneIn l p) (getD l (stagePlaceWith (at-is i)) 0) (getD l (firstPlace (at-is i)) 0) (t-is i) act m)
 
-  pub acted-accepted : j .code ≡ 0 → {new : List ℕ} → new ≡ actionPutWith l at (tableParameters l) act p t m
+  pub acted-accepted : j .code ≡ 0 → {new : List ℕ} → new ≡ actionPutWith l at act t m
       → lentGave j new ≡ actedWith l f act p m
   unfolding actedWith
   acted-accepted z e =
       let accepted : answerIn l f act p m .code ≡ 0 = sym (ap (λ (r : Answer). r .code) answer-is) ∙ z in
       lent-gave answer-is
-      (e ∙ (λ i. actionPutWith l (at-is i) (tableParameters l) act p (t-is i) m) ∙ sym (rw (eq-eqb (answerIn l f act p m .code) 0 accepted)))
+      (e ∙ (λ i. actionPutWith l (at-is i) act (t-is i) m) ∙ sym (rw (eq-eqb (answerIn l f act p m .code) 0 accepted)))
 
   pub acted-refused : j .code ≢ 0 → lentGave j l ≡ actedWith l f act p m
   unfolding actedWith

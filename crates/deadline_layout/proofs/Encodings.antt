@@ -12,16 +12,17 @@ use borrow.Author.Tests.{leb-true}
 use Rattle.layout.specs.Encodings.{headerLength}
 use Rattle.deadlines.specs.declared.DeadlineState.{DeadlineState}
 use Rattle.deadlines.specs.Deadlines.{soundWith}
-use Rattle.deadline_layout.specs.Encodings.{deadlineLength, stateNumbersWith, areDeadlines, deadlineTableIn}
+use Rattle.layout.proofs.Numbers.{limits-size}
+use Rattle.deadline_layout.specs.Encodings.{deadlineLength, stateNumbersWith, stateWithIn, areDeadlines, deadlineTableIn}
 use Rattle.deadline_layout.specs.Encodings.{isDeadlineTable, isSoundDeadlineTable}
-use Rattle.deadline_layout.specs.Numbers.{DeadlinesComeBack, DeadlineNumbersComeBack, DeadlineLayout}
+use Rattle.deadline_layout.specs.Numbers.{IsWholeWith, DeadlinesComeBack, DeadlineNumbersComeBack, DeadlineLayout}
 use Rattle.model.proofs.Lists.{over-front}
 use Rattle.model.proofs.Tests.{and-true-iff, tests}
 use Rattle.deadline_layout.proofs.Numbers.{length-state, state-tells, state-told, state-numbers-told}
 
-module _ (d : DeadlineState) (whole : length (d .processes) ≡ 96) where
+module _ (d : DeadlineState) (whole : IsWholeWith d) where
   pub table-length : length (stateNumbersWith d) ≡ deadlineLength
-  table-length = omega (arith, length-state d)
+  table-length = omega (arith, length-state d, whole .limits, whole .entries)
 
   -- what stands after them does not count
   table-front : (rest : List ℕ) → take deadlineLength (stateNumbersWith d ++ rest) ≡ stateNumbersWith d
@@ -31,11 +32,11 @@ module _ (d : DeadlineState) (whole : length (d .processes) ≡ 96) where
   unfolding isDeadlineTable
   told-back rest = simp tests (
     omega (arith, length-append (stateNumbersWith d) rest, table-length),
-    rw (table-front rest) (state-tells d),
+    rw (table-front rest) (state-tells d (whole .limits)),
   )
 
 pub deadlines-come-back : DeadlinesComeBack
-deadlines-come-back d whole rest = (told-back d whole rest, rw (table-front d whole rest) (state-told d))
+deadlines-come-back d whole rest = (told-back d whole rest, rw (table-front d whole rest) (state-told d (whole .limits)))
 
 module _ (l : List ℕ) (told : isDeadlineTable l ≡ true) where
   -- numbers that tell a deadline table are enough
@@ -52,15 +53,19 @@ module _ (l : List ℕ) (told : isDeadlineTable l ≡ true) where
   pub table-numbers : stateNumbersWith (deadlineTableIn l) ≡ take deadlineLength l
   table-numbers = state-numbers-told (take deadlineLength l) (omega (arith, length-take-le deadlineLength l table-fits)) entries-are
 
--- and it has 96 entries
-pub deadlines-are-whole : (l : List ℕ) → isDeadlineTable l ≡ true → length (deadlineTableIn l .processes) ≡ 96
+-- and it has 96 values of a and 96 entries
+told-limits : (l : List ℕ) → deadlineLength ≤ length l → length (deadlineTableIn l .parameters .a) ≡ 96
+unfolding stateWithIn
+told-limits l fits = limits-size (take deadlineLength l) (omega (arith, length-take-le deadlineLength l fits))
+
+pub deadlines-are-whole : (l : List ℕ) → isDeadlineTable l ≡ true → IsWholeWith (deadlineTableIn l)
 deadlines-are-whole l e =
-    omega (
-      arith,
-      length-state (deadlineTableIn l),
-      ap length (table-numbers l e),
-      length-take-le deadlineLength l (table-fits l e),
-    )
+    let fits = table-fits l e in
+    let own = told-limits l fits in
+    record {
+      limits = own;
+      entries = omega (arith, length-state (deadlineTableIn l), own, ap length (table-numbers l e), length-take-le deadlineLength l fits);
+    }
 
 pub deadline-numbers-come-back : DeadlineNumbersComeBack
 deadline-numbers-come-back l e = rw (table-numbers l e) (over-front deadlineLength l (table-fits l e))

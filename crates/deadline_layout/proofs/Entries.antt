@@ -7,13 +7,14 @@ use mathlib.Core.Bool.{Bool, true, false, _&&_, and-false, and-true, and-assoc}
 use mathlib.Core.List.{List, [], _∷_}
 use native.Mathlib.Omega.{arith}
 use lib.ListN.{length, getD, drop, length-drop}
-use lib.Seq.{getD-drop, drop-drop}
+use lib.Seq.{getD-take, getD-drop, drop-drop}
 use lib.Dec.{eqb}
 use borrow.Author.Tests.{lt-leb, ne-eqb}
 use Rattle.model.specs.Stages.{remainder, testing, setting, checking, entering, critical, resetting}
 use Rattle.model.proofs.Tests.{by-cond, if-eq, and-true-iff}
-use Rattle.layout.specs.Encodings.{headerLength}
-use Rattle.layout.specs.Places.{areZero}
+use Rattle.model.specs.States.{limitAt}
+use Rattle.values.specs.Bits.{areZero}
+use Rattle.layout.specs.Encodings.{limitsPlace, limitPlace, headerLength, limitsTold}
 use Rattle.layout.proofs.Entries.{regroup}
 use Rattle.deadlines.specs.declared.DeadlineLocation.{DeadlineLocation}
 use Rattle.deadlines.specs.declared.DeadlineProcess.{DeadlineProcess}
@@ -25,6 +26,12 @@ use Rattle.deadline_layout.specs.Places.{tellsAt, locationIn, entriesFro
 use Rattle.deadline_layout.proofs.Numbers.{Told, entry-told, length-told, told-at}
 use Rattle.deadline_layout.proofs.Looks.{still}
 use Rattle.deadline_layout.proofs.Turns.{three-at}
+
+-- the a of entry i, which is that of process k
+pub limit-at : (l : List ℕ) (k i : ℕ) → i ≡ k - 1 → i < 96 → getD l (limitPlace i) 0 ≡ limitAt (limitsTold l) k
+unfolding limitAt
+limit-at l k i e h =
+    sym (getD-take 96 (drop limitsPlace l) i 0 h ∙ getD-drop limitsPlace l i 0) ∙ ap (λ (j : ℕ). getD (limitsTold l) j 0) e
 
 -- the entries that are left after i
 three-more : (i : ℕ) → deadlineStride * suc i ≡ suc (suc (suc (deadlineStride * i)))

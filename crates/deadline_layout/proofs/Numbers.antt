@@ -1,14 +1,14 @@
 -- Numbers and what they tell: a deadline table comes back from its numbers, the numbers of an entry or a table from what they tell, and how many
 -- they are. Assumes nothing.
 use Prim.Native.Nat.{ℕ, zero, suc, _+_, _*_, _≤_, _<_}
-use mathlib.Core.Path.{_≡_, refl, ap}
+use mathlib.Core.Path.{_≡_, refl, ap, _∙_}
 use mathlib.Core.Bool.{true, false≢true}
-use mathlib.Core.List.{List, [], _∷_}
+use mathlib.Core.List.{List, [], _∷_, _++_}
 use native.Mathlib.Omega.{arith}
-use lib.ListN.{length, getD, drop}
+use lib.ListN.{length, getD, drop, length-append}
 use borrow.Author.Tests.{eq-eqb}
 use Rattle.model.specs.Stages.{leaving}
-use Rattle.layout.specs.Encodings.{headerLength}
+use Rattle.layout.specs.Encodings.{limitPlace, headerLength, headerNumbers, tableParameters, clockIn, wordIn}
 use Rattle.deadlines.specs.declared.DeadlineLocation.{DeadlineLocation}
 use Rattle.deadlines.specs.declared.DeadlineLocation.the-variants.{Remainder, Testing, Setting, Checking, Entering, Critical, Resetting, Leaving}
 use Rattle.deadlines.specs.declared.DeadlineProcess.{DeadlineProcess}
@@ -16,9 +16,8 @@ use Rattle.deadlines.specs.declared.DeadlineState.{DeadlineState}
 use Rattle.deadlines.specs.Deadlines.{stageWith, firstOf, lastOf, deadlineAt, entryWith}
 use Rattle.deadline_layout.specs.Encodings.{deadlineStride, deadlineNumbers, stateNumbersWith, deadlinesIn, stateWithIn}
 use Rattle.deadline_layout.specs.Encodings.{tellsTimes, areDeadlines}
-use Rattle.model.proofs.Lists.{drop-at}
 use Rattle.model.proofs.Tests.{and-true-iff, tests}
-use Rattle.layout.proofs.Numbers.{five-and-rest}
+use Rattle.layout.proofs.Numbers.{behind-header, parameters-told, header-told}
 
 -- One entry
 
@@ -124,19 +123,32 @@ told-at (suc i) (x ∷ y ∷ z ∷ l) d h =
 
 -- A deadline table
 
-pub length-state : (d : DeadlineState) → length (stateNumbersWith d) ≡ headerLength + deadlineStride * length (d .processes)
+pub length-state : (d : DeadlineState)
+    → length (stateNumbersWith d) ≡ limitPlace (length (d .parameters .a)) + deadlineStride * length (d .processes)
 unfolding stateNumbersWith
-length-state d = omega (arith, length-entries (d .processes))
+length-state d =
+    let ns = deadlineNumbers (d .processes) in
+    omega (arith, length-append (headerNumbers (d .parameters) (d .clock) (d .word)) ns, length-entries (d .processes))
 
-pub state-tells : (d : DeadlineState) → areDeadlines (drop headerLength (stateNumbersWith d)) ≡ true
-unfolding stateNumbersWith
-state-tells d = entries-tell (d .processes)
+module _ (d : DeadlineState) (size : length (d .parameters .a) ≡ 96) where
+  behind : drop headerLength (stateNumbersWith d) ≡ deadlineNumbers (d .processes)
+  unfolding stateNumbersWith
+  behind = behind-header (d .parameters) size (d .clock) (d .word) (deadlineNumbers (d .processes))
 
-pub state-told : (d : DeadlineState) → stateWithIn (stateNumbersWith d) ≡ d
-unfolding stateWithIn stateNumbersWith
-state-told d = rw (entries-back (d .processes))
+  pub state-tells : areDeadlines (drop headerLength (stateNumbersWith d)) ≡ true
+  state-tells = rw behind (entries-tell (d .processes))
+
+  pub state-told : stateWithIn (stateNumbersWith d) ≡ d
+  unfolding stateWithIn stateNumbersWith
+  state-told = λ i. record {
+    parameters = parameters-told (d .parameters) size (d .clock) (d .word) (deadlineNumbers (d .processes)) i;
+    clock = d .clock;
+    word = d .word;
+    processes = (ap deadlinesIn behind ∙ entries-back (d .processes)) i;
+  }
 
 pub state-numbers-told : (l : List ℕ) → headerLength ≤ length l → areDeadlines (drop headerLength l) ≡ true
     → stateNumbersWith (stateWithIn l) ≡ l
 unfolding stateWithIn stateNumbersWith
-state-numbers-told l h e = rw (entries-told (drop headerLength l) e, ← drop-at l 5 0 (omega arith)) (five-and-rest l (omega arith))
+state-numbers-told l h e =
+    ap (λ (r : List ℕ). headerNumbers (tableParameters l) (clockIn l) (wordIn l) ++ r) (entries-told (drop headerLength l) e) ∙ header-told l h

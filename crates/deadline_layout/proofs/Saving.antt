@@ -7,10 +7,8 @@ use native.Mathlib.Omega.{arith}
 use lib.ListN.{length, getD, take, drop, set, length-set}
 use lib.Seq.{take-all}
 use Rattle.model.proofs.Lists.{drop-at, drop-end}
-use Rattle.layout.specs.Encodings.{headerLength}
-use Rattle.layout.specs.Places.{parametersPut, clocked}
+use Rattle.layout.specs.Encodings.{headerLength, headerNumbers}
 use Rattle.layout.proofs.Lists.{fill-at, fill-pair}
-use Rattle.layout.proofs.Saving.{header-put}
 use Rattle.deadlines.specs.declared.DeadlineProcess.{DeadlineProcess}
 use Rattle.deadlines.specs.declared.DeadlineState.{DeadlineState}
 use Rattle.deadlines.specs.Deadlines.{stageWith, firstOf, lastOf}
@@ -25,13 +23,13 @@ pub record EntriesWritten (d : DeadlineState) (l : List ℕ) (i : ℕ) : Type 0 
   pub written : take (headerLength + deadlineStride * i) l ++ deadlineNumbers (drop i (d .processes)) ≡ stateNumbersWith d
 
 pub header-written : (d : DeadlineState) (l : List ℕ) → length (d .processes) ≡ 96 → length l ≡ deadlineLength
-    → EntriesWritten d (clocked (parametersPut l (d .parameters)) (d .clock) (d .word)) 0
+    → take headerLength l ≡ headerNumbers (d .parameters) (d .clock) (d .word) → EntriesWritten d l 0
 unfolding stateNumbersWith
-header-written d l size long = record {
+header-written d l size long e = record {
   most = omega arith;
   size = size;
-  long = simp length-set long;
-  written = header-put l (d .parameters) (d .clock) (d .word) (deadlineNumbers (d .processes)) (omega arith);
+  long = long;
+  written = ap (λ (front : List ℕ). front ++ deadlineNumbers (d .processes)) e;
 }
 
 -- three numbers more are stored

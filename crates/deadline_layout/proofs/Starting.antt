@@ -5,11 +5,12 @@ use mathlib.Core.Logic.{_≢_}
 use mathlib.Core.Bool.{not}
 use mathlib.Core.List.{List, _++_}
 use lib.ListN.{length, drop}
-use borrow.Author.Tests.{eq-eqb, ne-eqb, lt-ltb, le-ltb}
+use borrow.Author.Tests.{eq-eqb, ne-eqb, lt-ltb, le-ltb, not-false}
 use Rattle.model.specs.declared.Parameters.{Parameters}
 use Rattle.model.specs.declared.Answer.{Answer}
 use Rattle.model.specs.States.{countStands, limitsStand}
 use Rattle.model.specs.Answers.{answerOf}
+use Rattle.model.proofs.OwnLimits.{limits-parts}
 use Rattle.model.proofs.Tests.{by-cond}
 use Rattle.layout.specs.Interface.{lentGave}
 use Rattle.layout.proofs.Lists.{front-over}
@@ -18,14 +19,17 @@ use Rattle.deadlines.specs.declared.DeadlineOutcome.{DeadlineOutcome}
 use Rattle.deadlines.specs.Deadlines.{freshWith}
 use Rattle.deadline_layout.specs.Encodings.{deadlineLength, stateNumbersWith}
 use Rattle.deadline_layout.specs.Interface.{lentFreshWith}
+use Rattle.deadline_layout.specs.Numbers.{IsWholeWith}
 use Rattle.deadline_layout.proofs.Encodings.{table-length}
 
--- a fresh state of deadlines has 96 entries, and so has that of a refusal
-pub fresh-size : (k : Parameters) → length (freshWith k .state .processes) ≡ 96
+-- a fresh state of deadlines has 96 values of a and 96 entries, and so has that of a refusal
+pub fresh-whole : (k : Parameters) → IsWholeWith (freshWith k .state)
 unfolding freshWith
-fresh-size k =
-    let P : DeadlineOutcome → Type 0 = λ o. length (o .state .processes) ≡ 96 in
-    by-cond P (not (countStands k)) (λ _. refl) (λ _. by-cond P (not (limitsStand k)) (λ _. refl) (λ _. refl))
+fresh-whole k =
+    let P : DeadlineOutcome → Type 0 = λ o. IsWholeWith (o .state) in
+    by-cond P (not (countStands (k .n))) (λ _. record { limits = refl; entries = refl })
+    (λ _. by-cond P (not (limitsStand k)) (λ _. record { limits = refl; entries = refl })
+    (λ e. record { limits = limits-parts k (not-false _ e) .size; entries = refl }))
 
 module _ (k : Parameters) (table : List ℕ) {o : DeadlineOutcome} (e : o ≡ freshWith k) where
   pub fresh-refused : o .answer .code ≢ 0 → lentGave (o .answer) table ≡ lentFreshWith k table
@@ -41,5 +45,5 @@ module _ (k : Parameters) (table : List ℕ) {o : DeadlineOutcome} (e : o ≡ fr
         → lentGave (o .answer) (new ++ drop deadlineLength table) ≡ lentFreshWith k table
     unfolding lentFreshWith
     fresh-saved fits f =
-        lent-gave refl (front-over deadlineLength table f (ap length f ∙ table-length (o .state) (rw e (fresh-size k))))
+        lent-gave refl (front-over deadlineLength table f (ap length f ∙ table-length (o .state) (rw e (fresh-whole k))))
         ∙ rw e (simp (eq-eqb (freshWith k .answer .code) 0 (rw e at h), le-ltb _ _ fits))

@@ -3,15 +3,16 @@ use Prim.Native.Nat.{ℕ, zero, suc, _+_, _*_}
 use mathlib.Core.Path.{_≡_, refl, sym, ap, _∙_}
 use mathlib.Core.List.{List, [], _∷_, _++_}
 use native.Mathlib.Omega.{arith}
-use lib.ListN.{set}
-use Rattle.layout.specs.Encodings.{headerLength, parametersNumbers}
+use lib.ListN.{length, set}
+use Rattle.model.specs.declared.Parameters.{Parameters}
+use Rattle.layout.specs.Encodings.{headerNumbers}
 use Rattle.layout.specs.Places.{clocked}
-use Rattle.layout.proofs.Lists.{set-behind}
+use Rattle.layout.proofs.Numbers.{stored-behind}
 use Rattle.deadlines.specs.declared.DeadlineLocation.{DeadlineLocation}
 use Rattle.deadlines.specs.declared.DeadlineProcess.{DeadlineProcess}
 use Rattle.deadlines.specs.declared.DeadlineState.{DeadlineState}
 use Rattle.deadlines.specs.Deadlines.{stageWith, firstOf, lastOf, entryWith, changedWith}
-use Rattle.deadline_layout.specs.Encodings.{deadlineStride, firstPlace, lastPlace, deadlineNumbers, stateNumbersWith}
+use Rattle.deadline_layout.specs.Encodings.{deadlineStride, stagePlaceWith, firstPlace, lastPlace, deadlineNumbers, stateNumbersWith}
 use Rattle.deadline_layout.specs.Places.{placedWith}
 
 -- an entry among the processes is its three numbers among theirs
@@ -28,28 +29,30 @@ entries-set (r ∷ qs) (suc i) q =
     let g : deadlineStride * suc i + 2 ≡ suc (suc (suc (deadlineStride * i + 2))) = omega arith in
     rw (g, f, e, entries-set qs i q)
 
--- the numbers before the entries
-abbrev headerOf : DeadlineState → List ℕ
-headerOf d = parametersNumbers (d .parameters) ++ (d .clock ∷ d .word ∷ [])
+module _ (k : Parameters) (size : length (k .a) ≡ 96) (clock word : ℕ) where
+  abbrev header : List ℕ
+  header = headerNumbers k clock word
 
--- an entry stored behind them is stored among the entries
-placed-behind : (d : DeadlineState) (i : ℕ) (to : DeadlineLocation)
-    → placedWith (headerOf d ++ deadlineNumbers (d .processes)) i to ≡ headerOf d ++ deadlineNumbers (set (d .processes) i (entryWith to))
-placed-behind d i to =
-    let ns = deadlineNumbers (d .processes) in
-    let staged = set ns (deadlineStride * i) (stageWith to) in
-    let opened = set staged (deadlineStride * i + 1) (firstOf to) in
-    let e : firstPlace i ≡ headerLength + (deadlineStride * i + 1) = omega arith in
-    let f : lastPlace i ≡ headerLength + (deadlineStride * i + 2) = omega arith in
-    rw (f, e, set-behind (headerOf d) ns (deadlineStride * i) (stageWith to), set-behind (headerOf d) staged (deadlineStride * i + 1) (firstOf to))
-    (set-behind (headerOf d) opened (deadlineStride * i + 2) (lastOf to)
-    ∙ ap (λ (l : List ℕ). headerOf d ++ l) (sym (entries-set (d .processes) i (entryWith to))))
+  -- an entry stored behind what stands before the entries is stored among them
+  placed-behind : (qs : List DeadlineProcess) (i : ℕ) (to : DeadlineLocation)
+      → placedWith (header ++ deadlineNumbers qs) i to ≡ header ++ deadlineNumbers (set qs i (entryWith to))
+  placed-behind qs i to =
+      let ns = deadlineNumbers qs in
+      let staged = set ns (deadlineStride * i) (stageWith to) in
+      let opened = set staged (deadlineStride * i + 1) (firstOf to) in
+      ap (λ (l : List ℕ). set (set l (firstPlace i) (firstOf to)) (lastPlace i) (lastOf to))
+      (stored-behind k size clock word ns (stagePlaceWith i) (deadlineStride * i) (stageWith to) refl)
+      ∙ ap (λ (l : List ℕ). set l (lastPlace i) (lastOf to))
+      (stored-behind k size clock word staged (firstPlace i) (deadlineStride * i + 1) (firstOf to) (omega arith))
+      ∙ stored-behind k size clock word opened (lastPlace i) (deadlineStride * i + 2) (lastOf to) (omega arith)
+      ∙ ap (λ (l : List ℕ). header ++ l) (sym (entries-set qs i (entryWith to)))
 
 -- at another time, with another word and entry i in another location
-pub moved-stored : (d : DeadlineState) (m word i : ℕ) (to : DeadlineLocation)
-    → stateNumbersWith (changedWith d m word (set (d .processes) i (entryWith to))) ≡ placedWith (clocked (stateNumbersWith d) m word) i to
+pub moved-stored : (d : DeadlineState) → length (d .parameters .a) ≡ 96 → (m word i : ℕ) (to : DeadlineLocation)
+    → stateNumbersWith (changedWith d m word (set (d .processes) i (entryWith to))) ≡ clocked (placedWith (stateNumbersWith d) i to) m word
 unfolding stateNumbersWith
-moved-stored d m word i to = sym (placed-behind (changedWith d m word (d .processes)) i to)
+moved-stored d size m word i to =
+    sym (ap (λ (l : List ℕ). clocked l m word) (placed-behind (d .parameters) size (d .clock) (d .word) (d .processes) i to))
 
 -- after a wait
 pub waited-stored : (d : DeadlineState) (m : ℕ)

@@ -10,19 +10,19 @@ use lib.Dec.{eqb}
 use lib.ListN.{length, getD, take, drop, length-drop}
 use lib.Seq.{getD-drop, length-take-le}
 use borrow.Author.Tests.{eqb-true, eqb-false, eq-eqb, ne-eqb, not-true, not-false}
-use Rattle.model.specs.declared.Parameters.{Parameters}
 use Rattle.model.specs.Stages.{remainder}
-use Rattle.model.specs.States.{limitIn}
+use Rattle.model.specs.States.{limitAt}
 use Rattle.model.proofs.Lists.{part-is}
 use Rattle.model.proofs.Tests.{by-test, by-cond}
 use Rattle.rules.specs.declared.survey.Scene.{Scene}
 use Rattle.rules.specs.declared.survey.Survey.{Survey}
-use Rattle.rules.specs.Survey.{numbersStand, sceneOf, nothing, unsound}
+use Rattle.rules.specs.Survey.{numbersStand, nothing, unsound}
 use Rattle.rules.proofs.Pass.{Whole}
-use Rattle.layout.specs.Encodings.{headerLength, tableParameters, clockIn, wordIn}
-use Rattle.layout.specs.Places.{areZero}
+use Rattle.values.specs.Bits.{areZero}
+use Rattle.layout.specs.Encodings.{headerLength, countIn, bIn, limitsTold, tableParameters, clockIn, wordIn}
 use Rattle.layout.specs.Steps.{sceneIn}
 use Rattle.layout.proofs.Entries.{zero-at}
+use Rattle.layout.proofs.Numbers.{limits-size}
 use Rattle.deadlines.specs.declared.DeadlineLocation.{DeadlineLocation}
 use Rattle.deadlines.specs.declared.DeadlineProcess.{DeadlineProcess}
 use Rattle.deadlines.specs.declared.DeadlineState.{DeadlineState}
@@ -52,7 +52,7 @@ module _ (l : List ℕ) (long : length l ≡ deadlineLength) (acting : ℕ) wher
   d = stateWithIn l
 
   abbrev n : ℕ
-  n = tableParameters l .n
+  n = countIn l
 
   unsound-found : tellSound l ≡ false → Found l acting unsound
   unsound-found e = faulty e (λ z. omega arith)
@@ -71,8 +71,8 @@ module _ (l : List ℕ) (long : length l ≡ deadlineLength) (acting : ℕ) wher
   module _ (i : ℕ) (f : Survey) (along : Along i f) (more : i < 96) where
     abbrev next : Survey
     next =
-        numbersNotedWith (tableParameters l) (sceneIn l acting) (i + 1) (getD l (stagePlaceWith i) 0) (getD l (firstPlace i) 0)
-        (getD l (lastPlace i) 0) f
+        numbersNotedWith (sceneIn l acting) (i + 1) (getD l (stagePlaceWith i) 0) (getD l (firstPlace i) 0) (getD l (lastPlace i) 0) (bIn l)
+        (limitAt (limitsTold l) (i + 1)) f
 
     -- it tells no location
     module _ (e : tellsAt l i ≡ false) where
@@ -88,7 +88,7 @@ module _ (l : List ℕ) (long : length l ≡ deadlineLength) (acting : ℕ) wher
 
     -- it tells the location that the state has there
     abbrev looked : DeadlineLocation → Survey
-    looked q = locationNoted (sceneIn l acting) (i + 1) q (tableParameters l .b) (limitIn (tableParameters l) (i + 1)) f
+    looked q = locationNoted (sceneIn l acting) (i + 1) q (bIn l) (limitAt (limitsTold l) (i + 1)) f
 
     module _ (e : tellsAt l i ≡ true) where
       is-noted : next ≡ looked (getD (d .processes) i idleWith .location)
@@ -114,7 +114,7 @@ module _ (l : List ℕ) (long : length l ≡ deadlineLength) (acting : ℕ) wher
     along : {f : Survey} → Along n f → Ends f
 
   pass-ends : (j i : ℕ) (f : Survey) → i + j ≡ n → n ≤ 96 → Along i f
-      → Ends (entriesNotedWith (tableParameters l) (sceneIn l acting) (i + 1) (firstEntries j (entriesFrom l i)) f)
+      → Ends (entriesNotedWith (bIn l) (limitsTold l) (sceneIn l acting) (i + 1) (firstEntries j (entriesFrom l i)) f)
   unfolding entriesNotedWith
   pass-ends zero i f e few a = along (subst (λ (k : ℕ). Along k f) (omega arith) a)
   pass-ends (suc j) i f e few a =
@@ -190,32 +190,34 @@ survey-found l long acting =
 -- Of the function: what it gives back, from what the functions that it calls ensure
 
 -- the part that is lent is the entries up to n, and of numbers that stand no sum wraps
-pub pass-ready : (l : List ℕ) → length l ≡ deadlineLength → {q : Parameters} {x : Scene} {clock acting end : ℕ} (word : ℕ)
-    → numbersStand q clock word ≡ true → x ≡ sceneOf q clock acting → end ≡ stagePlaceWith (q .n)
-    → Ready (take (end - headerLength) (drop headerLength l)) q x
-pass-ready l long {q} {x} {clock} {acting} {end} word stand x-is end-is =
-    let h = small (record { parameters = q; clock = clock; word = word; processes = [] }) stand in
+pub pass-ready : (l : List ℕ) → length l ≡ deadlineLength → {x : Scene} {acting end : ℕ}
+    → numbersStand (tableParameters l) (clockIn l) (wordIn l) ≡ true → x ≡ sceneIn l acting → end ≡ stagePlaceWith (countIn l)
+    → Ready (take (end - headerLength) (drop headerLength l)) (limitsTold l) (bIn l) x
+pass-ready l long {x} {acting} {end} stand x-is end-is =
+    let h = small (record { parameters = tableParameters l; clock = clockIn l; word = wordIn l; processes = [] }) stand in
     rw x-is (record {
+      few = h .few;
       long = length-take-le (end - headerLength) (drop headerLength l) (rw (length-drop headerLength l) (omega (arith, h .few))) ∙ omega arith;
+      own = omega (arith, h .few, limits-size l (omega arith));
       opens = omega (arith, h .clock, h .opens);
       closes = omega (arith, h .closes);
       limit = λ k. omega (arith, h .limit k);
     })
 
 module _ (l : List ℕ) (acting : ℕ) where
-  pub pass-is : {q : Parameters} {x : Scene} {clock end : ℕ} {f : Survey} → q ≡ tableParameters l → clock ≡ clockIn l → x ≡ sceneOf q clock acting
-      → end ≡ stagePlaceWith (q .n) → f ≡ entriesNotedWith q x 1 (take (end - headerLength) (drop headerLength l)) nothing → f ≡ passWith l acting
-  pass-is {q} {end = end} q-is clock-is x-is end-is f-is =
-      let e : end - headerLength ≡ deadlineStride * q .n = omega arith in
-      rw (q-is, clock-is) at (rw (x-is, e) at f-is)
+  pub pass-is : {x : Scene} {end : ℕ} {f : Survey} → x ≡ sceneIn l acting → end ≡ stagePlaceWith (countIn l)
+      → f ≡ entriesNotedWith (bIn l) (limitsTold l) x 1 (take (end - headerLength) (drop headerLength l)) nothing → f ≡ passWith l acting
+  pass-is {end = end} x-is end-is f-is =
+      let e : end - headerLength ≡ deadlineStride * countIn l = omega arith in
+      rw (x-is, e) at f-is
 
   -- and the other part those above
-  pub above-is : {q : Parameters} {end : ℕ} (bits : ℕ) → length l ≡ deadlineLength → q ≡ tableParameters l → end ≡ stagePlaceWith (q .n)
-      → eqb bits 0 ≡ areZero (take (deadlineLength - end) (drop end l)) → eqb bits 0 ≡ areZero (entriesFrom l (tableParameters l .n))
-  above-is {end = end} bits long q-is end-is t-is =
+  pub above-is : {end : ℕ} (bits : ℕ) → length l ≡ deadlineLength → end ≡ stagePlaceWith (countIn l)
+      → eqb bits 0 ≡ areZero (take (deadlineLength - end) (drop end l)) → eqb bits 0 ≡ areZero (entriesFrom l (countIn l))
+  above-is {end = end} bits long end-is t-is =
       let whole : take (deadlineLength - end) (drop end l) ≡ drop end l =
       ap (λ (k : ℕ). take (k - end) (drop end l)) (sym long) ∙ part-is l end in
-      t-is ∙ ap areZero (whole ∙ ap (λ (k : ℕ). drop k l) (end-is ∙ ap (λ (k : Parameters). stagePlaceWith (k .n)) q-is))
+      t-is ∙ ap areZero (whole ∙ ap (λ (k : ℕ). drop k l) end-is)
 
   pub standing-not : numbersStand (tableParameters l) (clockIn l) (wordIn l) ≡ false → unsound ≡ surveyWith l acting
   unfolding surveyWith
@@ -227,10 +229,10 @@ module _ (l : List ℕ) (acting : ℕ) where
     pass-faulty z = rw (stand, ← is, ne-eqb (f .faulty) 0 z)
 
     module _ (z : f .faulty ≡ 0) where
-      pub above-not : areZero (entriesFrom l (tableParameters l .n)) ≡ false → unsound ≡ surveyWith l acting
+      pub above-not : areZero (entriesFrom l (countIn l)) ≡ false → unsound ≡ surveyWith l acting
       unfolding surveyWith
       above-not e = rw (stand, ← is, eq-eqb (f .faulty) 0 z, e)
 
-      pub all-sound : areZero (entriesFrom l (tableParameters l .n)) ≡ true → f ≡ surveyWith l acting
+      pub all-sound : areZero (entriesFrom l (countIn l)) ≡ true → f ≡ surveyWith l acting
       unfolding surveyWith
       all-sound e = rw (stand, ← is, eq-eqb (f .faulty) 0 z, e)

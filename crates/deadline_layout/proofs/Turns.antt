@@ -1,19 +1,19 @@
--- The pass over the numbers of entries, turn by turn: the next entry, one that is skipped, and the end. Assumes nothing.
-use Prim.Native.Nat.{ℕ, _+_, _%_, _≤_, _<_}
-use mathlib.Core.Path.{_≡_, refl, _∙_}
-use mathlib.Core.Bool.{cond}
+-- The pass over the numbers of entries, turn by turn: the next entry, whose numbers stand or not, and the end. Assumes nothing.
+use Prim.Native.Nat.{ℕ, _+_, _*_, _<_}
+use mathlib.Core.Path.{_≡_, sym, _∙_}
+use mathlib.Core.Logic.{_≢_}
+use mathlib.Core.Bool.{Bool, true, false, cond}
 use mathlib.Core.List.{List, _∷_}
 use native.Mathlib.Omega.{arith}
 use lib.Dec.{eqb}
 use lib.ListN.{length, getD, drop}
-use borrow.Author.Tests.{eq-eqb}
-use Rattle.model.specs.declared.Parameters.{Parameters}
+use borrow.Author.Tests.{eq-eqb, ne-eqb}
 use Rattle.model.proofs.Lists.{drop-at, drop-end}
 use Rattle.rules.specs.declared.survey.Scene.{Scene}
 use Rattle.rules.specs.declared.survey.Survey.{Survey}
 use Rattle.rules.specs.Survey.{unsound}
 use Rattle.deadline_layout.specs.Encodings.{deadlineStride}
-use Rattle.deadline_layout.specs.Steps.{numbersNotedWith, entriesNotedWith, processAt, Quiet, Skipped}
+use Rattle.deadline_layout.specs.Steps.{entriesNotedWith, lookIn, standingNoted, Ready, Stands}
 
 -- a list from place i on is its three numbers there and the list after them
 pub three-at : {A : Type 0} (l : List A) (i : ℕ) (d : A) → i + 2 < length l
@@ -23,46 +23,37 @@ three-at l i d h =
     let f : i + 3 ≡ i + 1 + 1 + 1 = omega arith in
     rw (drop-at l i d (omega arith), drop-at l (i + 1) d (omega arith), drop-at l (i + 1 + 1) d (omega arith), e, f)
 
-module _ (ns : List ℕ) (q : Parameters) (x : Scene) where
-  -- the entry whose numbers start at i, of which g is found
-  pub noted-next : (i : ℕ) (f g : Survey) → i + deadlineStride ≤ length ns
-      → g ≡ numbersNotedWith q x (processAt i) (getD ns i 0) (getD ns (i + 1) 0) (getD ns (i + 2) 0) f
-      → entriesNotedWith q x (processAt i) (drop i ns) f
-      ≡ cond (eqb (g .faulty) 0) (entriesNotedWith q x (processAt (i + deadlineStride)) (drop (i + deadlineStride) ns) g) unsound
-  unfolding entriesNotedWith
-  noted-next i f g h e =
-      let next : processAt (i + deadlineStride) ≡ processAt i + 1 = omega arith in
-      rw (next, e, three-at ns i 0 (omega arith))
+module _ (ns a : List ℕ) (b : ℕ) (x : Scene) where
+  -- what the entries from i on give, after f was found
+  abbrev pub left : ℕ → Survey → Survey
+  left i f = entriesNotedWith b a x (i + 1) (drop (deadlineStride * i) ns) f
 
-  pub noted-end : (i : ℕ) (f : Survey) → length ns ≤ i → i ≤ length ns → entriesNotedWith q x (processAt i) (drop i ns) f ≡ f
-  unfolding entriesNotedWith
-  noted-end i f h g = rw (drop-end ns i h g)
+  module _ (ready : Ready ns a b x) where
+    -- entry i, of which g is found
+    noted-next : (i j : ℕ) → j ≡ i + 1 → i < x .n → (f g : Survey) → g ≡ lookIn ns a b x i f → left i f ≡ cond (eqb (g .faulty) 0) (left j g) unsound
+    unfolding entriesNotedWith
+    noted-next i j next here f g e =
+        let on : deadlineStride * (i + 1) ≡ deadlineStride * i + 3 = omega arith in
+        rw (next, e, on, three-at ns (deadlineStride * i) 0 (omega (arith, ready .long)))
 
-  -- Skipping
+    pub noted-end : (i : ℕ) (f : Survey) → i ≡ x .n → left i f ≡ f
+    unfolding entriesNotedWith
+    noted-end i f e = rw (drop-end ns (deadlineStride * i) (omega (arith, ready .long)) (omega (arith, ready .long)))
 
-  module _ (due i : ℕ) where
-    pub none-skipped : i ≤ length ns → i % deadlineStride ≡ 0 → Skipped ns q x due i i
-    none-skipped h e = record { from = omega arith; most = h; whole = e; same = λ f d z. refl }
+    module _ (i : ℕ) (here : i < x .n) (f : Survey) {r : Bool} (stands : Stands ns a b x i r) where
+      -- its numbers do not stand
+      pub turn-fault : r ≡ false → unsound ≡ left i f
+      turn-fault e =
+          let is : unsound ≡ lookIn ns a b x i f = sym (rw e at (stands .look f)) in
+          sym (noted-next i (i + 1) (omega arith) here f unsound is)
 
-    pub one-skipped : (j : ℕ) → Skipped ns q x due i j → j + deadlineStride ≤ length ns → Quiet ns q x due j
-        → Skipped ns q x due i (j + deadlineStride)
-    one-skipped j s h quiet = record {
-      from = omega (arith, s .from);
-      most = h;
-      whole = omega (arith, s .whole);
-      same = λ f d z.
-          s .same f d z
-          ∙ noted-next j f (numbersNotedWith q x (processAt j) (getD ns j 0) (getD ns (j + 1) 0) (getD ns (j + 2) 0) f) h refl
-          ∙ rw (quiet f d, eq-eqb (f .faulty) 0 z);
-    }
+      module _ (e : r ≡ true) {g : Survey} (noted : g ≡ standingNoted ns x i f) where
+        is-look : g ≡ lookIn ns a b x i f
+        is-look = noted ∙ sym (rw e at (stands .look f))
 
-    pub four-skipped : (j : ℕ) → Skipped ns q x due i j → j + 12 ≤ length ns → Quiet ns q x due j → Quiet ns q x due (j + 3)
-        → Quiet ns q x due (j + 6) → Quiet ns q x due (j + 9) → Skipped ns q x due i (j + 12)
-    four-skipped j s h a b c d =
-        let e : j + 6 ≡ j + 3 + 3 = omega arith in
-        let f : j + 9 ≡ j + 3 + 3 + 3 = omega arith in
-        let g : j + 12 ≡ j + 3 + 3 + 3 + 3 = omega arith in
-        rw g
-        (one-skipped (j + 3 + 3 + 3)
-        (one-skipped (j + 3 + 3) (one-skipped (j + 3) (one-skipped j s (omega arith) a) (omega arith) b) (omega arith) (rw e at c))
-        (omega arith) (rw f at d))
+        -- its last time is before the clock
+        pub turn-late : g .faulty ≢ 0 → unsound ≡ left i f
+        turn-late n = sym (noted-next i (i + 1) (omega arith) here f g is-look ∙ rw (ne-eqb (g .faulty) 0 n))
+
+        pub turn-on : (j : ℕ) → j ≡ i + 1 → g .faulty ≡ 0 → left i f ≡ left j g
+        turn-on j next z = noted-next i j next here f g is-look ∙ rw (eq-eqb (g .faulty) 0 z)

@@ -9,8 +9,8 @@ use lib.Bits.{bitOr}
 use lib.Dec.{eqb}
 use lib.ListN.{length, getD, drop}
 use Rattle.model.proofs.Lists.{drop-at, drop-end}
-use Rattle.layout.specs.Places.{areZero}
-use Rattle.layout.proofs.Zeros.{or-zero}
+use Rattle.values.specs.Bits.{areZero}
+use Rattle.values.proofs.Zeros.{or-zero}
 
 -- the bits so far are 0, and the numbers from i on
 abbrev pub zeroFrom : List ℕ → ℕ → ℕ → ℕ → Bool

@@ -6,7 +6,7 @@ use mathlib.Core.List.{List, [], _∷_, _++_}
 use lib.ListN.{length, take, drop}
 use lib.Dec.{leb, eqb}
 use Rattle.model.specs.Stages.{leaving}
-use Rattle.layout.specs.Encodings.{headerLength, parametersNumbers, tableParameters, clockIn, wordIn}
+use Rattle.layout.specs.Encodings.{headerLength, headerNumbers, tableParameters, clockIn, wordIn}
 use Rattle.deadlines.specs.declared.DeadlineProcess.{DeadlineProcess}
 use Rattle.deadlines.specs.declared.DeadlineState.{DeadlineState}
 use Rattle.deadlines.specs.Deadlines.{stageWith, firstOf, lastOf, deadlineAt, entryWith, soundWith}
@@ -40,7 +40,7 @@ deadlineNumbers (q ∷ qs) = stageWith (q .location) ∷ firstOf (q .location) �
 
 -- [12.110]
 unfoldable pub stateNumbersWith : DeadlineState → List ℕ
-stateNumbersWith d = parametersNumbers (d .parameters) ++ (d .clock ∷ d .word ∷ deadlineNumbers (d .processes))
+stateNumbersWith d = headerNumbers (d .parameters) (d .clock) (d .word) ++ deadlineNumbers (d .processes)
 
 -- The state of deadlines that numbers tell
 

@@ -1,23 +1,24 @@
 -- What is found of a lent deadline table, and what an action makes of it, on the numbers themselves. For the proofs only. `proofs/` relates these
 -- definitions to the step of the second engine. Assumes nothing.
-use Prim.Native.Nat.{ℕ, _+_, _*_, _/_, _%_, _^_, _≤_, _<_}
+use Prim.Native.Nat.{ℕ, _+_, _*_, _^_, _≤_, _<_}
 use mathlib.Core.Path.{_≡_}
 use mathlib.Core.Bool.{Bool, cond, not}
 use mathlib.Core.List.{List, [], _∷_}
 use lib.Dec.{eqb}
-use lib.ListN.{length, getD, drop}
-use Rattle.model.specs.declared.Parameters.{Parameters}
+use lib.ListN.{length, getD}
 use Rattle.model.specs.declared.Transition.{Transition}
 use Rattle.model.specs.declared.Answer.{Answer}
 use Rattle.model.specs.Acts.{waitAct}
-use Rattle.model.specs.States.{limitIn}
+use Rattle.model.specs.Stages.{remainder, critical}
+use Rattle.model.specs.States.{limitAt}
+use Rattle.values.specs.Bits.{areZero}
 use Rattle.rules.specs.declared.survey.Scene.{Scene}
 use Rattle.rules.specs.declared.survey.Survey.{Survey}
-use Rattle.rules.specs.Survey.{numbersStand, nothing, unsound}
+use Rattle.rules.specs.Survey.{numbersStand, nothing, unsound, criticalNoted, dueNoted}
 use Rattle.rules.specs.Judging.{slotOf, judged}
-use Rattle.layout.specs.Encodings.{tableParameters, clockIn, wordIn}
+use Rattle.layout.specs.Encodings.{limitPlace, countIn, bIn, cIn, limitsTold, tableParameters, clockIn, wordIn}
 use Rattle.layout.specs.Interface.{Lent, lentGave}
-use Rattle.layout.specs.Places.{areZero, clocked}
+use Rattle.layout.specs.Places.{clocked}
 use Rattle.layout.specs.Steps.{sceneIn, rowIn}
 use Rattle.deadlines.specs.Deadlines.{deadlineAt}
 use Rattle.deadlines.specs.Looks.{datedWith, locationNoted, settledBy}
@@ -26,69 +27,84 @@ use Rattle.deadline_layout.specs.Places.{entriesFrom, firstEntries, plac
 
 -- What is found
 
--- a look at the numbers of the entry of process k, after f was found: at the location that they tell, or there is a fault
-unfoldable pub numbersNotedWith : Parameters → Scene → ℕ → ℕ → ℕ → ℕ → Survey → Survey
-numbersNotedWith q x k stage first last f =
-    cond (tellsTimes stage first last) (locationNoted x k (deadlineAt stage first last) (q .b) (limitIn q k) f) unsound
+-- a look at the numbers of the entry of process k, whose a is `limit`, after f was found: at the location that they tell, or there is a fault
+unfoldable pub numbersNotedWith : Scene → ℕ → ℕ → ℕ → ℕ → ℕ → ℕ → Survey → Survey
+numbersNotedWith x k stage first last b limit f =
+    cond (tellsTimes stage first last) (locationNoted x k (deadlineAt stage first last) b limit f) unsound
 
--- the entries from process k on, after f was found; a fault ends the pass
-unfoldable pub entriesNotedWith : Parameters → Scene → ℕ → List ℕ → Survey → Survey
-entriesNotedWith q x k [] f = f
-entriesNotedWith q x k (stage ∷ []) f = f
-entriesNotedWith q x k (stage ∷ first ∷ []) f = f
-entriesNotedWith q x k (stage ∷ first ∷ last ∷ rest) f =
-    cond (eqb (numbersNotedWith q x k stage first last f .faulty) 0)
-    (entriesNotedWith q x (k + 1) rest (numbersNotedWith q x k stage first last f))
+-- the entries from process k on, after f was found, with the values of a from process 1 on; a fault ends the pass
+unfoldable pub entriesNotedWith : ℕ → List ℕ → Scene → ℕ → List ℕ → Survey → Survey
+entriesNotedWith b a x k [] f = f
+entriesNotedWith b a x k (stage ∷ []) f = f
+entriesNotedWith b a x k (stage ∷ first ∷ []) f = f
+entriesNotedWith b a x k (stage ∷ first ∷ last ∷ rest) f =
+    cond (eqb (numbersNotedWith x k stage first last b (limitAt a k) f .faulty) 0)
+    (entriesNotedWith b a x (k + 1) rest (numbersNotedWith x k stage first last b (limitAt a k) f))
     unsound
 
--- the process whose numbers start at a place in a list of entries
-abbrev pub processAt : ℕ → ℕ
-processAt i = i / deadlineStride + 1
+-- Entry i of a list of entries, from process 1 on
 
--- the entries are those of the processes from 1 to n, and no sum that a look takes wraps
-pub record Ready (ns : List ℕ) (q : Parameters) (x : Scene) : Type 0 where
+-- its stage
+abbrev pub stageIn : List ℕ → ℕ → ℕ
+stageIn ns i = getD ns (deadlineStride * i) 0
+
+-- its first time
+abbrev pub firstIn : List ℕ → ℕ → ℕ
+firstIn ns i = getD ns (deadlineStride * i + 1) 0
+
+-- its last time
+abbrev pub lastIn : List ℕ → ℕ → ℕ
+lastIn ns i = getD ns (deadlineStride * i + 2) 0
+
+-- a look at its numbers
+abbrev pub lookIn : List ℕ → List ℕ → ℕ → Scene → ℕ → Survey → Survey
+lookIn ns a b x i f = numbersNotedWith x (i + 1) (stageIn ns i) (firstIn ns i) (lastIn ns i) b (limitAt a (i + 1)) f
+
+-- the same, where they tell a location and the times of one arrival up to the clock
+unfoldable pub standingNoted : List ℕ → Scene → ℕ → Survey → Survey
+standingNoted ns x i f =
+    cond (eqb (stageIn ns i) remainder) f
+    (cond (eqb (stageIn ns i) critical) (criticalNoted (x .acting) (i + 1) f) (dueNoted (x .clock) (i + 1) (lastIn ns i) f))
+
+-- the entries are those of the processes from 1 to n, with their values of a, and no sum that a look takes wraps
+pub record Ready (ns a : List ℕ) (b : ℕ) (x : Scene) : Type 0 where
+  pub few : x .n ≤ 96
   pub long : length ns ≡ deadlineStride * x .n
-  pub opens : x .clock + q .b < 2 ^ 64
+  pub own : x .n ≤ length a
+  pub opens : x .clock + b < 2 ^ 64
   pub closes : x .c < 2 ^ 64
-  pub limit : (k : ℕ) → limitIn q k < 2 ^ 64
+  pub limit : (k : ℕ) → limitAt a k < 2 ^ 64
 
--- whether the two times of the entry whose numbers start at a place are settled, of which the last is a number of 64 bits
-pub record SettledAt (ns : List ℕ) (i clock due opens closes : ℕ) (r : Bool) : Type 0 where
-  pub is : r ≡ settledBy due clock (getD ns (i + 1) 0) (getD ns (i + 2) 0) opens closes
-  pub fits : getD ns (i + 2) 0 < 2 ^ 64
+-- whether the two times of the entry whose numbers start at a place are of one arrival up to the clock; the last is a number of 64 bits
+pub record OfArrival (ns : List ℕ) (at clock opens closes : ℕ) (r : Bool) : Type 0 where
+  pub is : r ≡ settledBy 0 clock (getD ns (at + 1) 0) (getD ns (at + 2) 0) opens closes
+  pub fits : getD ns (at + 2) 0 < 2 ^ 64
 
--- a look at the entry whose numbers start at a place leaves whatever was found with this first deadline
-abbrev pub Quiet : List ℕ → Parameters → Scene → ℕ → ℕ → Type 0
-Quiet ns q x due i =
-    (f : Survey) → f .due ≡ due → numbersNotedWith q x (processAt i) (getD ns i 0) (getD ns (i + 1) 0) (getD ns (i + 2) 0) f ≡ f
+-- whether the numbers of entry i are such, so that there is no fault in a look at them but that of a last time before the clock
+pub record Stands (ns a : List ℕ) (b : ℕ) (x : Scene) (i : ℕ) (r : Bool) : Type 0 where
+  pub look : (f : Survey) → lookIn ns a b x i f ≡ cond r (standingNoted ns x i f) unsound
 
--- the looks from the place i on give what those from j on give, of whatever was found with this first deadline
-pub record Skipped (ns : List ℕ) (q : Parameters) (x : Scene) (due i j : ℕ) : Type 0 where
-  pub from : i ≤ j
-  pub most : j ≤ length ns
-  pub whole : j % deadlineStride ≡ 0
-  pub same : (f : Survey) → f .due ≡ due → f .faulty ≡ 0
-      → entriesNotedWith q x (processAt i) (drop i ns) f ≡ entriesNotedWith q x (processAt j) (drop j ns) f
+-- The whole table
 
 -- what the pass over the entries up to n finds
 abbrev pub passWith : List ℕ → ℕ → Survey
 passWith l acting =
-    entriesNotedWith (tableParameters l) (sceneIn l acting) 1 (firstEntries (tableParameters l .n) (entriesFrom l 0)) nothing
+    entriesNotedWith (bIn l) (limitsTold l) (sceneIn l acting) 1 (firstEntries (countIn l) (entriesFrom l 0)) nothing
 
 -- of just the numbers of a deadline table
 unfoldable pub surveyWith : List ℕ → ℕ → Survey
 surveyWith l acting =
     cond (not (numbersStand (tableParameters l) (clockIn l) (wordIn l))) unsound
     (cond (not (eqb (passWith l acting .faulty) 0)) unsound
-    (cond (not (areZero (entriesFrom l (tableParameters l .n)))) unsound
+    (cond (not (areZero (entriesFrom l (countIn l)))) unsound
     (passWith l acting)))
 
 -- What an action makes of it
 
--- what is written of an accepted action of process p with the row t
-unfoldable pub actionPutWith : List ℕ → ℕ → Parameters → ℕ → ℕ → Transition → ℕ → List ℕ
-actionPutWith l slot q act p t m =
-    cond (eqb act waitAct) (clocked l m (t .word)) (placedWith (clocked l m (t .word)) slot (datedWith q p (t .to)))
+-- what is written of an accepted action with the row t
+unfoldable pub actionPutWith : List ℕ → ℕ → ℕ → Transition → ℕ → List ℕ
+actionPutWith l slot act t m =
+    clocked (cond (eqb act waitAct) l (placedWith l slot (datedWith (bIn l) (cIn l) (getD l (limitPlace slot) 0) (t .to)))) m (t .word)
 
 -- the answer, from what was found
 abbrev pub answerIn : List ℕ → Survey → ℕ → ℕ → ℕ → Answer
@@ -99,4 +115,4 @@ answerIn l f act p m =
 unfoldable pub actedWith : List ℕ → Survey → ℕ → ℕ → ℕ → Lent
 actedWith l f act p m =
     lentGave (answerIn l f act p m)
-    (cond (eqb (answerIn l f act p m .code) 0) (actionPutWith l (slotOf p) (tableParameters l) act p (rowIn l act p m) m) l)
+    (cond (eqb (answerIn l f act p m .code) 0) (actionPutWith l (slotOf p) act (rowIn l act p m) m) l)

@@ -9,7 +9,6 @@ use deadlines::locations::dated;
 use deadlines::locations::less;
 use layout::tables::B;
 use layout::tables::C;
-use layout::tables::HEADER;
 use layout::tables::LIMITS;
 use layout::tables::copy;
 use model::Location;
@@ -32,7 +31,7 @@ pub(crate) fn put_dated(out: &mut [u64], table: &[u64])
     requires { ⌜ soundOf (stateIn (now table)) ≡ true ⌝ }
     ensures { λ _. ⌜ now (out .exit) ≡ stateNumbersWith (matched (stateIn (now (table .entry)))) ⌝ }
 {
-    copy(&mut out[..HEADER], &table[..HEADER]);
+    copy(out, table);
     let b = table[B];
     let c = table[C];
     let mut i: usize = 0;
@@ -65,7 +64,7 @@ pub(crate) fn put_arrived(out: &mut [u64], deadlines: &[u64])
     requires { ⌜ entriesTold (now deadlines) ≡ true ⌝ }
     ensures { λ _. ⌜ now (out .exit) ≡ stateNumbers (arrived (stateWithIn (now (deadlines .entry)))) ⌝ }
 {
-    copy(&mut out[..HEADER], &deadlines[..HEADER]);
+    copy(out, deadlines);
     let b = deadlines[B];
     let mut i: usize = 0;
     while i < 96 {

@@ -9,7 +9,6 @@ use crate::tables::put_entry;
 use crate::tables::stage_at;
 use deadlines::bounds::are_zero;
 use deadlines::bounds::is_settled;
-use deadlines::bounds::note_bounds;
 use deadlines::locations::dated;
 use layout::tables::B;
 use layout::tables::C;
@@ -34,200 +33,153 @@ use rules::survey::Survey;
 use rules::survey::empty;
 use rules::survey::fault;
 use rules::survey::note_critical;
+use rules::survey::note_due;
 use rules::survey::scene_of;
 ghost use mathlib.Core.Path.{_≡_};
-ghost use mathlib.Core.Bool.{true};
 ghost use Prim.Native.Nat.{_+_, _*_, _%_, _<_, _≤_};
 ghost use lib.Dec.{eqb};
 ghost use lib.ListN.{length};
-ghost use Rattle.model.specs.Stages.{checking};
+ghost use Rattle.values.specs.Bits.{areZero};
 ghost use Rattle.layout.specs.Interface.{lentGave};
-ghost use Rattle.layout.specs.Places.{areZero};
 ghost use Rattle.rules.specs.Survey.{nothing};
 ghost use Rattle.deadline_layout.specs.Encodings.{deadlineStride, deadlineLength};
-ghost use Rattle.deadline_layout.specs.Steps.{numbersNotedWith, entriesNotedWith, processAt, surveyWith, actionPutWith, actedWith};
-ghost use Rattle.deadline_layout.specs.Steps.{Ready, SettledAt, Quiet, Skipped};
+ghost use Rattle.deadline_layout.specs.Steps.{entriesNotedWith, surveyWith, actionPutWith, actedWith};
+ghost use Rattle.deadline_layout.specs.Steps.{Ready, OfArrival, Stands, standingNoted};
 
 // Looks at one entry
 
-// Of a stage from checking on. A stage past leaving tells no entry, nor does a time of a critical process.
-fn note_later(
-    found: Survey,
-    scene: Scene,
-    process: u64,
-    stage: u64,
-    first: u64,
-    last: u64,
-    b: u64,
-    limit: u64,
-) -> Survey
-    requires { ⌜ process ≤ scene .n ⌝ }
-    requires { ⌜ checking ≤ stage ⌝ }
-    ensures { λ r. ⌜ r ≡ numbersNotedWith scene process stage first last b limit found ⌝ }
-{
-    if LEAVING < stage {
-        return fault();
-    }
-    if stage == CRITICAL {
-        if !are_zero(0, first, last) {
-            return fault();
-        }
-        return note_critical(found, scene.acting, process);
-    }
-    if stage == CHECKING {
-        return note_bounds(found, scene.clock, process, first, last, b, scene.c);
-    }
-    note_bounds(found, scene.clock, process, first, last, 0, limit)
-}
-
-// What is found once an entry is looked at too, that of a process from 1 to n. Most are in the remainder, and most of the others are testing:
-// these are looked at first.
-fn note_numbers(
-    found: Survey,
-    scene: Scene,
-    process: u64,
-    stage: u64,
-    first: u64,
-    last: u64,
-    b: u64,
-    limit: u64,
-) -> Survey
-    requires { ⌜ process ≤ scene .n ⌝ }
-    ensures { λ r. ⌜ r ≡ numbersNotedWith scene process stage first last b limit found ⌝ }
-{
-    if stage == REMAINDER {
-        if !are_zero(0, first, last) {
-            return fault();
-        }
-        return found;
-    }
-    if stage < CHECKING {
-        return note_bounds(found, scene.clock, process, first, last, 0, limit);
-    }
-    note_later(found, scene, process, stage, first, last, b, limit)
-}
-
-// The process whose numbers start at a place in a list of entries, from process 1 on.
-fn process_at(i: usize) -> u64
-    ensures { λ r. ⌜ r ≡ processAt i ⌝ }
-{
-    ((i / STRIDE) as u64) + 1
-}
-
-// Whether the two times of the entry whose numbers start at a place are settled: a look at them would find nothing new.
-fn is_settled_at(entries: &[u64], i: usize, clock: u64, due: u64, opens: u64, closes: u64) -> bool
-    requires { ⌜ i + deadlineStride ≤ length (now entries) ⌝ }
-    ensures { λ r. ⌜ SettledAt (now (entries .entry)) i clock due opens closes r ⌝ }
+// Whether the two times of the entry whose numbers start at a place come `opens` and `closes` after one arrival, and it is not after the clock:
+// no last time is sooner than 0.
+fn are_of_arrival(entries: &[u64], at: usize, clock: u64, opens: u64, closes: u64) -> bool
+    requires { ⌜ at + deadlineStride ≤ length (now entries) ⌝ }
+    ensures { λ r. ⌜ OfArrival (now (entries .entry)) at clock opens closes r ⌝ }
 {
     is_settled(
-        due,
+        0,
         clock,
-        first_at(entries, i),
-        last_at(entries, i),
+        first_at(entries, at),
+        last_at(entries, at),
         opens,
         closes,
     )
 }
 
-// Whether a look at that entry is known to find nothing new, with `due` as the first deadline so far. The times are read where they are needed:
-// read before the tests on the stage they cost each entry an instruction more.
-fn is_quiet_at(entries: &[u64], limits: &[u64], i: usize, b: u64, scene: Scene, due: u64) -> bool
+// Whether the numbers of entry i stand: a look at it finds a fault where they do not, and where they do what `note_at` finds. The times are read
+// where they are needed: read before the tests on the stage they cost each entry an instruction more. Most entries are in the remainder, and most
+// of the others are testing.
+fn stands_at(entries: &[u64], limits: &[u64], i: usize, b: u64, scene: Scene) -> bool
     requires { ⌜ Ready (now entries) (now limits) b scene ⌝ }
-    requires { ⌜ i + deadlineStride ≤ length (now entries) ⌝ }
-    ensures { λ r. ⌜ (r ≡ true → Quiet (now (entries .entry)) (now (limits .entry)) b scene due i) ⌝ }
+    requires { ⌜ i < scene .n ⌝ }
+    ensures { λ r. ⌜ Stands (now (entries .entry)) (now (limits .entry)) b scene i r ⌝ }
 {
-    let stage = stage_at(entries, i);
+    let at = STRIDE * i;
+    let stage = stage_at(entries, at);
     if stage == REMAINDER {
-        return are_zero(0, first_at(entries, i), last_at(entries, i));
+        return are_zero(0, first_at(entries, at), last_at(entries, at));
     }
-    let limit = limits[i / STRIDE];
     if stage < CHECKING {
-        return is_settled_at(entries, i, scene.clock, due, 0, limit);
+        return are_of_arrival(entries, at, scene.clock, 0, limits[i]);
     }
     if stage == CHECKING {
-        return is_settled_at(entries, i, scene.clock, due, b, scene.c);
+        return are_of_arrival(entries, at, scene.clock, b, scene.c);
     }
     if stage == CRITICAL {
-        return false;
+        return are_zero(0, first_at(entries, at), last_at(entries, at));
     }
     if LEAVING < stage {
         return false;
     }
-    is_settled_at(entries, i, scene.clock, due, 0, limit)
+    are_of_arrival(entries, at, scene.clock, 0, limits[i])
+}
+
+// What is found once entry i is looked at too, whose numbers stand.
+fn note_at(found: Survey, entries: &[u64], i: usize, scene: Scene) -> Survey
+    requires { ⌜ length (now entries) ≡ deadlineStride * scene .n ⌝ }
+    requires { ⌜ i < scene .n ⌝ }
+    ensures { λ r. ⌜ r ≡ standingNoted (now (entries .entry)) scene i found ⌝ }
+{
+    let at = STRIDE * i;
+    let stage = stage_at(entries, at);
+    if stage == REMAINDER {
+        return found;
+    }
+    let process = (i as u64) + 1;
+    if stage == CRITICAL {
+        return note_critical(found, scene.acting, process);
+    }
+    note_due(found, scene.clock, process, last_at(entries, at))
 }
 
 // The pass
 
-// Where the entries end that are passed from a place on, four at a time, with nothing new found: then nothing is kept of them, and most are such.
-fn skip(entries: &[u64], limits: &[u64], start: usize, b: u64, scene: Scene, due: u64) -> usize
-    requires { ⌜ Ready (now entries) (now limits) b scene ⌝ }
-    requires { ⌜ start % deadlineStride ≡ 0 ⌝ }
-    requires { ⌜ start ≤ length (now entries) ⌝ }
-    ensures { λ r. ⌜ Skipped (now (entries .entry)) (now (limits .entry)) b scene due start r ⌝ }
-{
-    let end = entries.len();
-    let mut i = start;
-    while i + STRIDE * 4 <= end {
-        if !is_quiet_at(entries, limits, i, b, scene, due) {
-            break;
-        }
-        if !is_quiet_at(entries, limits, i + STRIDE, b, scene, due) {
-            break;
-        }
-        if !is_quiet_at(entries, limits, i + STRIDE * 2, b, scene, due) {
-            break;
-        }
-        if !is_quiet_at(entries, limits, i + STRIDE * 3, b, scene, due) {
-            break;
-        }
-        i += STRIDE * 4;
-    }
-    i
-}
-
-// What a pass over entries finds, those of the processes from 1 on. The entry at which the skip stops is looked at in full, and then it goes on.
+// What a pass over entries finds, those of the processes from 1 on, four of them a turn. The two calls for an entry stand here one by one, as the
+// compiler sets no function into the loop that makes both: then what was found is not kept in registers. A fault is another value for the same reason.
 fn survey_entries(entries: &[u64], limits: &[u64], b: u64, scene: Scene) -> Survey
     requires { ⌜ Ready (now entries) (now limits) b scene ⌝ }
     ensures { λ r. ⌜ r ≡ entriesNotedWith b (now (limits .entry)) scene 1 (now (entries .entry)) nothing ⌝ }
 {
-    let end = entries.len();
+    let end = scene.n as usize;
     let mut found = empty();
     let mut i: usize = 0;
-    loop {
-        i = skip(entries, limits, i, b, scene, found.due);
-        if end <= i {
-            break;
-        }
-        found = note_numbers(
-            found,
-            scene,
-            process_at(i),
-            stage_at(entries, i),
-            first_at(entries, i),
-            last_at(entries, i),
-            b,
-            limits[i / STRIDE],
-        );
-        // another value is returned, not what was found: so that stays in registers
-        if found.faulty != 0 {
+    while i + 4 <= end {
+        if !stands_at(entries, limits, i, b, scene) {
             return fault();
         }
-        i += STRIDE;
+        let one = note_at(found, entries, i, scene);
+        if one.faulty != 0 {
+            return fault();
+        }
+        if !stands_at(entries, limits, i + 1, b, scene) {
+            return fault();
+        }
+        let two = note_at(one, entries, i + 1, scene);
+        if two.faulty != 0 {
+            return fault();
+        }
+        if !stands_at(entries, limits, i + 2, b, scene) {
+            return fault();
+        }
+        let three = note_at(two, entries, i + 2, scene);
+        if three.faulty != 0 {
+            return fault();
+        }
+        if !stands_at(entries, limits, i + 3, b, scene) {
+            return fault();
+        }
+        let four = note_at(three, entries, i + 3, scene);
+        if four.faulty != 0 {
+            return fault();
+        }
+        found = four;
+        i += 4;
+    }
+    while i < end {
+        if !stands_at(entries, limits, i, b, scene) {
+            return fault();
+        }
+        let next = note_at(found, entries, i, scene);
+        if next.faulty != 0 {
+            return fault();
+        }
+        found = next;
+        i += 1;
     }
     found
 }
 
 // The bits of the numbers of whole entries together: 0 just where all are 0. Two sums take every other number, and an inner loop of a fixed length
-// is written out by the compiler: so it takes two numbers by one instruction. Fewer than 24 are left for the last loop.
+// is written out by the compiler: so it takes two numbers by one instruction. Fewer than 24 are left for the last loop. With i + 24 held against
+// the end a turn takes two instructions more.
 fn bits(numbers: &[u64]) -> u64
     requires { ⌜ length (now numbers) % deadlineStride ≡ 0 ⌝ }
     ensures { λ r. ⌜ eqb r 0 ≡ areZero (now (numbers .entry)) ⌝ }
 {
     let end = numbers.len();
+    let whole = end - end % 24;
     let mut even: u64 = 0;
     let mut odd: u64 = 0;
     let mut i: usize = 0;
-    while i + 24 <= end {
+    while i < whole {
         let mut j: usize = 0;
         while j < 24 {
             even = even | numbers[i + j];
@@ -236,7 +188,7 @@ fn bits(numbers: &[u64]) -> u64
         }
         i += 24;
     }
-    while i + STRIDE <= end {
+    while i < end {
         even = even | numbers[i] | numbers[i + 1] | numbers[i + 2];
         i += STRIDE;
     }
@@ -277,7 +229,8 @@ fn put_action(table: &mut [u64], slot: usize, action: u64, transition: Transitio
 {
     if action != WAIT {
         let to = transition.to;
-        put_entry(table, slot, dated(table[B], table[C], table[LIMITS + slot], to));
+        let reached = dated(table[B], table[C], table[LIMITS + slot], to);
+        put_entry(table, slot, reached);
     }
     table[CLOCK] = time;
     table[WORD] = transition.word;

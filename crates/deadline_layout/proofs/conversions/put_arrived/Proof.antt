@@ -9,37 +9,21 @@ use Rattle.deadline_layout.proofs.conversions.put_arrived.Statement.{st
 use Rattle.deadline_layout.proofs.conversions.put_arrived.Tie as tie
 
 abbrev Inv-loop : tie.InvT-loop
-Inv-loop out₀ deadlines parameters i₀ out i = EntriesWritten (arrived (stateWithIn deadlines)) out i
+Inv-loop out₀ deadlines b i₀ out i = EntriesWritten (arrived (stateWithIn deadlines)) out i
 
 abbrev μ-loop : tie.MeasureT-loop
-μ-loop out₀ deadlines parameters i₀ out i = 96 - i
+μ-loop out₀ deadlines b i₀ out i = 96 - i
 
-parameters-in-requires : tie.Need-parameters-in-requires Inv-loop μ-loop
-parameters-in-requires c κs = search needs
+copy-requires : tie.Need-copy-requires Inv-loop μ-loop
+copy-requires c κs = search needs
 
-put-parameters-requires : tie.Need-put-parameters-requires Inv-loop μ-loop
-put-parameters-requires c κs = search needs
-
-clock-in-requires : tie.Need-clock-in-requires Inv-loop μ-loop
-clock-in-requires c κs = search needs
-
-word-in-requires : tie.Need-word-in-requires Inv-loop μ-loop
-word-in-requires c κs = search needs
-
-put-clock-requires : tie.Need-put-clock-requires Inv-loop μ-loop
-put-clock-requires c κs = search needs
+shared-slice-read-b : tie.Need-shared-slice-read-b Inv-loop μ-loop
+shared-slice-read-b c = search needs
 
 loop-holds : tie.Need-loop-holds Inv-loop μ-loop
 loop-holds c =
-    let read = c .before .before .before .before .before .before .before .before .before .before in
-    let a = read .before .before .before in
-    rw (
-      c .before .before .put-clock .ensures,
-      c .before .before .before .before .before .before .before .before .put-parameters .ensures,
-      c .before .before .before .word-in .ensures,
-      c .before .before .before .before .clock-in .ensures,
-      read .parameters-in .ensures,
-    )
+    let a = c .before .before .before .before .before .before .before in
+    rw (c .before .before .before .copy .ensures)
     (arrived-start (a .args .deadlines .now) (a .pre .1 .0) (a .pre .1 .1) (a .args .out .now) (a .pre .0))
 
 arrived-in-requires : tie.Need-arrived-in-requires Inv-loop μ-loop
@@ -56,13 +40,12 @@ loop-less c = search needs
 
 loop-again : tie.Need-loop-again Inv-loop μ-loop
 loop-again c =
-    let met = c .before .before .before .before in
-    let v = met .before .before .loop in
-    let read = met .before .before .before .before .before .before .before .before .before .before .before .before .before in
-    let a = read .before .before .before in
+    let v = c .before .before .before .before .before .before .loop in
+    let a = c .before .before .before .before .before .before .before .before .before .before .before .before .before .before in
     rw (c .before .before .put-entry .ensures)
-    (arrived-written (a .args .deadlines .now) (a .pre .1 .0) (a .pre .1 .1) (v .out) (v .i) (v .inv) (met .before .loop-test .taken)
-    (rw (read .parameters-in .ensures) at (met .arrived-in .ensures)))
+    (arrived-written (a .args .deadlines .now) (a .pre .1 .0) (a .pre .1 .1) (v .out) (v .i) (v .inv)
+    (c .before .before .before .before .before .loop-test .taken)
+    (c .before .before .before .before .arrived-in .ensures))
 
 same-length : tie.Need-same-length Inv-loop μ-loop
 same-length c = search needs
@@ -76,11 +59,8 @@ put-arrived-spec =
     (tie.spec
     Inv-loop
     μ-loop
-    parameters-in-requires
-    put-parameters-requires
-    clock-in-requires
-    word-in-requires
-    put-clock-requires
+    copy-requires
+    shared-slice-read-b
     loop-holds
     arrived-in-requires
     put-entry-requires

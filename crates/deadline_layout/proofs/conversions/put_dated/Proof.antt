@@ -9,37 +9,24 @@ use Rattle.deadline_layout.proofs.conversions.put_dated.Statement.{stat
 use Rattle.deadline_layout.proofs.conversions.put_dated.Tie as tie
 
 abbrev Inv-loop : tie.InvT-loop
-Inv-loop out₀ table parameters i₀ out i = EntriesWritten (matched (stateIn table)) out i
+Inv-loop out₀ table b c i₀ out i = EntriesWritten (matched (stateIn table)) out i
 
 abbrev μ-loop : tie.MeasureT-loop
-μ-loop out₀ table parameters i₀ out i = 96 - i
+μ-loop out₀ table b c i₀ out i = 96 - i
 
-parameters-in-requires : tie.Need-parameters-in-requires Inv-loop μ-loop
-parameters-in-requires c κs = search needs
+copy-requires : tie.Need-copy-requires Inv-loop μ-loop
+copy-requires c κs = search needs
 
-put-parameters-requires : tie.Need-put-parameters-requires Inv-loop μ-loop
-put-parameters-requires c κs = search needs
+shared-slice-read-b : tie.Need-shared-slice-read-b Inv-loop μ-loop
+shared-slice-read-b c = search needs
 
-clock-in-requires : tie.Need-clock-in-requires Inv-loop μ-loop
-clock-in-requires c κs = search needs
-
-word-in-requires : tie.Need-word-in-requires Inv-loop μ-loop
-word-in-requires c κs = search needs
-
-put-clock-requires : tie.Need-put-clock-requires Inv-loop μ-loop
-put-clock-requires c κs = search needs
+shared-slice-read-c : tie.Need-shared-slice-read-c Inv-loop μ-loop
+shared-slice-read-c c = search needs
 
 loop-holds : tie.Need-loop-holds Inv-loop μ-loop
 loop-holds c =
-    let read = c .before .before .before .before .before .before .before .before .before .before in
-    let a = read .before .before .before in
-    rw (
-      c .before .before .put-clock .ensures,
-      c .before .before .before .before .before .before .before .before .put-parameters .ensures,
-      c .before .before .before .word-in .ensures,
-      c .before .before .before .before .clock-in .ensures,
-      read .parameters-in .ensures,
-    )
+    let a = c .before .before .before .before .before .before .before .before in
+    rw (c .before .before .before .before .copy .ensures)
     (dated-start (a .args .table .now) (a .pre .1 .0) (a .pre .1 .1) (a .args .out .now) (a .pre .0))
 
 location-in-requires : tie.Need-location-in-requires Inv-loop μ-loop
@@ -47,6 +34,12 @@ location-in-requires c κs = search needs
 
 add-dated : tie.Need-add-dated Inv-loop μ-loop
 add-dated c = search needs
+
+mul-dated : tie.Need-mul-dated Inv-loop μ-loop
+mul-dated c = search needs
+
+shared-slice-read-dated : tie.Need-shared-slice-read-dated Inv-loop μ-loop
+shared-slice-read-dated c = search needs
 
 dated-requires : tie.Need-dated-requires Inv-loop μ-loop
 dated-requires c κs = search needs
@@ -62,13 +55,12 @@ loop-less c = search needs
 
 loop-again : tie.Need-loop-again Inv-loop μ-loop
 loop-again c =
-    let met = c .before .before .before .before .before in
-    let v = met .before .before .loop in
-    let read = met .before .before .before .before .before .before .before .before .before .before .before .before .before in
-    let a = read .before .before .before in
+    let v = c .before .before .before .before .before .before .before .before .loop in
+    let a = c .before .before .before .before .before .before .before .before .before .before .before .before .before .before .before .before .before in
     rw (c .before .before .put-entry .ensures)
-    (dated-written (a .args .table .now) (a .pre .1 .0) (a .pre .1 .1) (v .out) (v .i) (v .inv) (met .before .loop-test .taken)
-    (rw (met .location-in .ensures, read .parameters-in .ensures) at (c .before .before .before .dated .ensures)))
+    (dated-written (a .args .table .now) (a .pre .1 .0) (a .pre .1 .1) (v .out) (v .i) (v .inv)
+    (c .before .before .before .before .before .before .before .loop-test .taken)
+    (rw (c .before .before .before .before .before .before .location-in .ensures) at (c .before .before .before .dated .ensures)))
 
 same-length : tie.Need-same-length Inv-loop μ-loop
 same-length c = search needs
@@ -82,14 +74,14 @@ put-dated-spec =
     (tie.spec
     Inv-loop
     μ-loop
-    parameters-in-requires
-    put-parameters-requires
-    clock-in-requires
-    word-in-requires
-    put-clock-requires
+    copy-requires
+    shared-slice-read-b
+    shared-slice-read-c
     loop-holds
     location-in-requires
     add-dated
+    mul-dated
+    shared-slice-read-dated
     dated-requires
     put-entry-requires
     add-i

@@ -3,18 +3,15 @@
 use Prim.Native.Nat.{_+_, _<_, _≤_}
 use mathlib.Core.Path.{_≡_}
 use native.Mathlib.Omega.{arith}
+use borrow.Author.Needs.{needs}
 use lib.ListN.{getD}
 use Rattle.rules.specs.Judging.{judged}
 use Rattle.rules.proofs.Slots.{slot-fits}
-use Rattle.layout.specs.Steps.{sceneIn, rowIn}
+use Rattle.layout.specs.Steps.{sceneIn}
 use Rattle.deadline_layout.specs.Encodings.{deadlineStride, deadlineLength, stagePlaceWith, firstPlace}
 use Rattle.deadline_layout.proofs.Acts.{acted-accepted, acted-refused}
-use borrow.Author.Needs.{needs}
 use Rattle.deadline_layout.proofs.steps.act.Statement.{statement}
 use Rattle.deadline_layout.proofs.steps.act.Tie as tie
-
-parameters-in-requires : tie.Need-parameters-in-requires
-parameters-in-requires c κs = search needs
 
 slot-of-requires : tie.Need-slot-of-requires
 slot-of-requires c κs = search needs
@@ -29,27 +26,31 @@ own-place c = omega (arith, c .place-of .ensures, own-fits (c .before))
 place-of-requires : tie.Need-place-of-requires
 place-of-requires c κs = omega (arith, own-fits c)
 
-word-in-requires : tie.Need-word-in-requires
-word-in-requires c κs = search needs
+slice-read-transition-of : tie.Need-slice-read-transition-of
+slice-read-transition-of c = search needs
 
 transition-of-requires : tie.Need-transition-of-requires
 transition-of-requires c κs = search needs
 
-clock-in-requires : tie.Need-clock-in-requires
-clock-in-requires c κs = search needs
+slice-read-scene-of : tie.Need-slice-read-scene-of
+slice-read-scene-of c = search needs
+
+slice-read-scene-of-2 : tie.Need-slice-read-scene-of-2
+slice-read-scene-of-2 c = search needs
+
+slice-read-scene-of-3 : tie.Need-slice-read-scene-of-3
+slice-read-scene-of-3 c = search needs
 
 scene-of-requires : tie.Need-scene-of-requires
 scene-of-requires c κs = search needs
 
 stage-at-requires : tie.Need-stage-at-requires
-stage-at-requires c κs =
-    let own = c .before .before .before .before .before .before .before in
-    omega (arith, own-place own, own .before .before .before .before .before .pre)
+stage-at-requires c κs = let own = c .before .before .before .before .before .before .before in omega (arith, own-place own, own .before .before .before .pre)
 
 first-at-requires : tie.Need-first-at-requires
 first-at-requires c κs =
     let own = c .before .before .before .before .before .before .before .before .before in
-    omega (arith, own-place own, own .before .before .before .before .before .pre)
+    omega (arith, own-place own, own .before .before .before .pre)
 
 judge-requires : tie.Need-judge-requires
 judge-requires c κs = search needs
@@ -57,30 +58,23 @@ judge-requires c κs = search needs
 put-action-requires : tie.Need-put-action-requires
 put-action-requires c κs =
     let slot = c .before .before .before .before .before .before .before .before .before .before .before .before .before .before .before in
-    (slot .before .before .before .before .pre, own-fits slot)
-
-row-is : (c : tie.After-transition-of)
-    → (let a = c .before .before .before .before .before .before .before .before .args in
-    c .transition-of .result ≡ rowIn (a .table .now) (a .action) (a .process) (a .time))
-row-is c = rw (c .before .word-in .ensures) at (c .transition-of .ensures)
+    (slot .before .before .pre, own-fits slot)
 
 -- the answer, of the own entry and the row
 judged-is : (c : tie.After-judge)
     → (let own = c .before .before .before .before .before .before .before .before .before .before .before .before in
-    let a = own .before .before .before .before .args in
+    let a = own .before .before .args in
     let l = a .table .now in
     let slot = own .slot-of .result in
     c .judge .result
     ≡ judged (a .found) (sceneIn l (a .process)) (getD l (stagePlaceWith slot) 0) (getD l (firstPlace slot) 0)
-    (c .before .before .before .before .before .before .before .before .transition-of .result) (a .action) (a .time))
+    (c .before .before .before .before .before .before .before .before .before .transition-of .result) (a .action) (a .time))
 judged-is c =
     rw (
       c .before .first-at .ensures,
       c .before .before .before .stage-at .ensures,
       c .before .before .before .before .before .scene-of .ensures,
-      c .before .before .before .before .before .before .clock-in .ensures,
       c .before .before .before .before .before .before .before .before .before .before .before .place-of .ensures,
-      c .before .before .before .before .before .before .before .before .before .before .before .before .before .parameters-in .ensures,
     )
     at (c .judge .ensures)
 
@@ -91,10 +85,10 @@ returns : tie.Need-returns
 returns c =
     let met = c .before .before .before .before .before .before in
     let slot = met .before .before .before .before .before .before .before .before .before .before .before .before in
-    let a = slot .before .before .before .before .args in
+    let a = slot .before .before .args in
     acted-accepted (a .table .now) (a .found) (a .action) (a .process) (a .time) (slot .slot-of .result) (slot .slot-of .ensures)
-    (row-is (met .before .before .before .before .before .before .before .before)) (judged-is met) (c .before .before .before .before .if1 .taken)
-    (rw (slot .before .parameters-in .ensures) at (c .before .before .put-action .ensures))
+    (met .before .before .before .before .before .before .before .before .before .transition-of .ensures) (judged-is met)
+    (c .before .before .before .before .if1 .taken) (c .before .before .put-action .ensures)
 
 same-length-2 : tie.Need-same-length-2
 same-length-2 c = search needs
@@ -103,20 +97,21 @@ returns-2 : tie.Need-returns-2
 returns-2 c =
     let met = c .before .before in
     let slot = met .before .before .before .before .before .before .before .before .before .before .before .before in
-    let a = slot .before .before .before .before .args in
+    let a = slot .before .before .args in
     acted-refused (a .table .now) (a .found) (a .action) (a .process) (a .time) (slot .slot-of .result) (slot .slot-of .ensures)
-    (row-is (met .before .before .before .before .before .before .before .before)) (judged-is met) (c .if1 .left)
+    (met .before .before .before .before .before .before .before .before .before .transition-of .ensures) (judged-is met) (c .if1 .left)
 
 pub act-spec : {M : Type 1} → statement M
 act-spec =
     tie.close
     (tie.spec
-    parameters-in-requires
     slot-of-requires
     place-of-requires
-    word-in-requires
+    slice-read-transition-of
     transition-of-requires
-    clock-in-requires
+    slice-read-scene-of
+    slice-read-scene-of-2
+    slice-read-scene-of-3
     scene-of-requires
     stage-at-requires
     first-at-requires

@@ -5,44 +5,44 @@ use mathlib.Core.Path.{_≡_, refl, _∙_}
 use native.Mathlib.Omega.{arith}
 use borrow.Author.Needs.{needs}
 use lib.ListN.{length}
-use Rattle.layout.specs.Places.{areZero}
+use Rattle.values.specs.Bits.{areZero}
 use Rattle.deadline_layout.specs.Encodings.{deadlineStride}
 use Rattle.deadline_layout.proofs.Zeros.{zeroFrom, two-next, three-next, zero-end}
 use Rattle.deadline_layout.proofs.steps.bits.Statement.{statement}
 use Rattle.deadline_layout.proofs.steps.bits.Tie as tie
 
 abbrev Inv-loop2 : tie.InvT-loop2
-Inv-loop2 numbers end even₀ odd₀ i j₀ even odd j =
-    (j ≤ 24) × (j % 2 ≡ 0) × (i + 24 ≤ length numbers) × (i % deadlineStride ≡ 0) × (zeroFrom numbers even odd (i + j) ≡ areZero numbers)
+Inv-loop2 numbers end whole even₀ odd₀ i j₀ even odd j =
+    (j ≤ 24) × (j % 2 ≡ 0) × (i + 24 ≤ whole) × (whole ≤ length numbers) × (zeroFrom numbers even odd (i + j) ≡ areZero numbers)
 
 abbrev μ-loop2 : tie.MeasureT-loop2
-μ-loop2 numbers end even₀ odd₀ i j₀ even odd j = 24 - j
+μ-loop2 numbers end whole even₀ odd₀ i j₀ even odd j = 24 - j
 
 abbrev Inv-loop : tie.InvT-loop
-Inv-loop numbers end even₀ odd₀ i₀ even odd i =
-    (i ≤ length numbers) × (i % deadlineStride ≡ 0) × (zeroFrom numbers even odd i ≡ areZero numbers)
+Inv-loop numbers end whole even₀ odd₀ i₀ even odd i =
+    (i ≤ whole) × (whole ≤ length numbers) × (whole % 24 ≡ 0) × (i % 24 ≡ 0) × (zeroFrom numbers even odd i ≡ areZero numbers)
 
 abbrev μ-loop : tie.MeasureT-loop
-μ-loop numbers end even₀ odd₀ i₀ even odd i = length numbers - i
+μ-loop numbers end whole even₀ odd₀ i₀ even odd i = length numbers - i
 
 abbrev Inv-loop3 : tie.InvT-loop3
-Inv-loop3 numbers end even₀ odd i₀ even i =
+Inv-loop3 numbers end whole even₀ odd i₀ even i =
     (i ≤ length numbers) × (i % deadlineStride ≡ 0) × (zeroFrom numbers even odd i ≡ areZero numbers)
 
 abbrev μ-loop3 : tie.MeasureT-loop3
-μ-loop3 numbers end even₀ odd i₀ even i = length numbers - i
+μ-loop3 numbers end whole even₀ odd i₀ even i = length numbers - i
+
+sub-whole : tie.Need-sub-whole Inv-loop2 μ-loop2 Inv-loop μ-loop Inv-loop3 μ-loop3
+sub-whole c = search needs
 
 loop-holds : tie.Need-loop-holds Inv-loop2 μ-loop2 Inv-loop μ-loop Inv-loop3 μ-loop3
-loop-holds c = (omega arith, refl, refl)
-
-add-loop : tie.Need-add-loop Inv-loop2 μ-loop2 Inv-loop μ-loop Inv-loop3 μ-loop3
-add-loop c = search needs
+loop-holds c = (omega arith, omega arith, omega arith, refl, refl)
 
 loop2-holds : tie.Need-loop2-holds Inv-loop2 μ-loop2 Inv-loop μ-loop Inv-loop3 μ-loop3
 loop2-holds c =
     let v = c .before .loop in
     let e : v .i + 0 ≡ v .i = omega arith in
-    (omega arith, refl, omega arith, v .inv .1, rw e (v .inv .2))
+    (omega arith, refl, omega arith, v .inv .1, rw e (v .inv .4))
 
 add-even : tie.Need-add-even Inv-loop2 μ-loop2 Inv-loop μ-loop Inv-loop3 μ-loop3
 add-even c = search needs
@@ -90,14 +90,12 @@ loop-less c = search needs
 loop-again : tie.Need-loop-again Inv-loop2 μ-loop2 Inv-loop μ-loop Inv-loop3 μ-loop3
 loop-again c =
     let v = c .before .loop2 in
+    let l = c .before .before .before .loop .inv in
     let e : v .j ≡ 24 = omega arith in
-    (v .inv .2, omega arith, rw e at (v .inv .4))
+    (v .inv .2, v .inv .3, l .2, omega arith, rw e at (v .inv .4))
 
 loop3-holds : tie.Need-loop3-holds Inv-loop2 μ-loop2 Inv-loop μ-loop Inv-loop3 μ-loop3
-loop3-holds c = c .before .loop .inv
-
-add-loop3 : tie.Need-add-loop3 Inv-loop2 μ-loop2 Inv-loop μ-loop Inv-loop3 μ-loop3
-add-loop3 c = search needs
+loop3-holds c = let v = c .before .loop .inv in (omega arith, omega arith, v .4)
 
 mul-even-2 : tie.Need-mul-even-2 Inv-loop2 μ-loop2 Inv-loop μ-loop Inv-loop3 μ-loop3
 mul-even-2 c = search needs
@@ -154,8 +152,8 @@ bits-spec =
     μ-loop
     Inv-loop3
     μ-loop3
+    sub-whole
     loop-holds
-    add-loop
     loop2-holds
     add-even
     mul-even
@@ -171,7 +169,6 @@ bits-spec =
     loop-less
     loop-again
     loop3-holds
-    add-loop3
     mul-even-2
     shared-slice-read-even-2
     add-even-2

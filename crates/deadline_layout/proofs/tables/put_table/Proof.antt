@@ -1,7 +1,11 @@
--- `deadline_layout::tables::put_table` meets its contract: the parameters, the clock and the word, and then the entries one by one. Assumes nothing.
-use borrow.Author.Needs.{needs}
+-- `deadline_layout::tables::put_table` meets its contract: what stands before the entries, and then these one by one. Assumes nothing.
 use Prim.Native.Nat.{_-_}
+use mathlib.Core.Path.{_≡_, _∙_}
+use native.Mathlib.Omega.{arith}
+use borrow.Author.Needs.{needs}
+use lib.ListN.{length}
 use Rattle.model.proofs.Lists.{length-mapped}
+use Rattle.layout.proofs.Saving.{header-put, put-long}
 use Rattle.deadline_layout.proofs.Saving.{EntriesWritten, header-written, entry-written, all-written}
 use Rattle.deadline_layout.proofs.tables.put_table.Statement.{statement}
 use Rattle.deadline_layout.proofs.tables.put_table.Tie as tie
@@ -12,17 +16,21 @@ Inv-loop table₀ state i₀ table i = EntriesWritten state table i
 abbrev μ-loop : tie.MeasureT-loop
 μ-loop table₀ state i₀ table i = 96 - i
 
-put-parameters-requires : tie.Need-put-parameters-requires Inv-loop μ-loop
-put-parameters-requires c κs = search needs
+put-header-requires : tie.Need-put-header-requires Inv-loop μ-loop
+put-header-requires c κs = search needs
 
-put-clock-requires : tie.Need-put-clock-requires Inv-loop μ-loop
-put-clock-requires c κs = search needs
+-- the array has 96 values
+limits : (c : tie.After-slice-known2 Inv-loop μ-loop) → length (c .before .before .before .before .before .before .args .t2 .parameters .a) ≡ 96
+limits c = search needs
 
 loop-holds : tie.Need-loop-holds Inv-loop μ-loop
 loop-holds c =
-    let a = c .before .before .before .before .before .before .before .before .before .before in
-    rw (c .before .before .put-clock .ensures, c .before .before .before .before .before .before .put-parameters .ensures)
-    (header-written (a .args .t2) (a .args .table .now) (search (needs, length-mapped)) (a .pre))
+    let a = c .before .before .before .before .before .before in
+    let d = a .args .t2 in
+    let l = a .args .table .now in
+    rw (c .before .before .put-header .ensures)
+    (header-written d _ (search (needs, length-mapped)) (put-long l (d .parameters) (limits c) (d .clock) (d .word) (omega (arith, a .pre)) ∙ a .pre)
+    (header-put l (d .parameters) (limits c) (d .clock) (d .word) (omega (arith, a .pre))))
 
 mul-entry : tie.Need-mul-entry Inv-loop μ-loop
 mul-entry c = search needs
@@ -57,8 +65,7 @@ put-table-spec =
     (tie.spec
     Inv-loop
     μ-loop
-    put-parameters-requires
-    put-clock-requires
+    put-header-requires
     loop-holds
     mul-entry
     element-copy-out-entry
