@@ -277,7 +277,11 @@ fn put_action(table: &mut [u64], slot: usize, action: u64, transition: Transitio
 {
     if action != WAIT {
         let to = transition.to;
-        put_entry(table, slot, dated(table[B], table[C], table[LIMITS + slot], to));
+        put_entry(
+            table,
+            slot,
+            dated(table[B], table[C], table[LIMITS + slot], to),
+        );
     }
     table[CLOCK] = time;
     table[WORD] = transition.word;
