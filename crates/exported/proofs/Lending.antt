@@ -1,13 +1,12 @@
 -- One result alone is allowed by the contract of each exported function, that of its definition; and lists can be lent for it. Assumes
 -- nothing.
-use Prim.Native.Nat.{ℕ, _-_}
-use mathlib.Core.Path.{_≡_, refl, ap, _∙_}
-use mathlib.Core.List.{List, _++_, append-nil}
-use native.Mathlib.Omega.{arith}
-use lib.ListN.{length, take, replicate}
-use lib.Seq.{take-all}
+use Prim.Native.Nat.{ℕ}
+use mathlib.Core.Path.{_≡_, refl, sym, ap, _∙_}
+use mathlib.Core.List.{List, [], append-nil}
+use lib.ListN.{length}
 use Rattle.model.specs.declared.Parameters.{Parameters}
 use Rattle.model.specs.States.{limitsIn}
+use Rattle.model.proofs.OwnLimits.{limits-whole}
 use Rattle.layout.specs.Interface.{Lent, lentFresh, lentStep, LentSummary, lentSummary, LentBoth, lentRecord}
 use Rattle.recent.specs.Encodings.{LentBoard, lentSetUp, lentAdd, lentShow}
 use Rattle.recent.specs.Tellings.{LentTold, lentTell}
@@ -55,8 +54,7 @@ lending before after = record {
 
 -- 96 values of a may be lent as they are
 pub whole : (a : List ℕ) → length a ≡ 96 → limitsIn a ≡ a
-unfolding limitsIn
-whole a size = ap (λ (k : ℕ). take 96 a ++ replicate k 0) {x = 96 - length a} {y = 0} (omega arith) ∙ append-nil (take 96 a) ∙ take-all 96 a (omega arith)
+whole a size = ap limitsIn (sym (append-nil a)) ∙ limits-whole a [] size
 
 abbrev pub lending-limits : (a : List ℕ) → length a ≡ 96 → LendsLimits a
 lending-limits a size = record { values = a; told = whole a size; list = lending a a }

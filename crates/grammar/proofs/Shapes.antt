@@ -11,8 +11,8 @@ use Rattle.model.specs.declared.Parameters.{Parameters}
 use Rattle.model.specs.States.{parametersOf, limitsIn, countStands, limitsStand, parametersStand}
 use Rattle.model.specs.Texts.{valueNames, valuesText, limitNames, limitsText, eventNames, headText, firstLine}
 use Rattle.model.specs.Texts.{formerNames, formerParameters, formerValuesText, formerHeadText}
-use Rattle.model.proofs.Tests.{if-lt, and-true-iff, tests}
-use Rattle.model.proofs.OwnLimits.{LimitsParts, limits-parts, own-at, past-end}
+use Rattle.model.proofs.Tests.{and-true-iff, tests}
+use Rattle.model.proofs.OwnLimits.{LimitsParts, limits-parts, limit-within, limit-zero}
 use Rattle.grammar.specs.Digits.{digitsOf, Few}
 use Rattle.grammar.specs.Exact.{FirstLines}
 use Rattle.grammar.specs.Faults.{LimitLines}
@@ -37,26 +37,18 @@ module _ (k : Parameters) (e : parametersStand k ≡ true) where
   pub stand-count : CountParts (k .n)
   stand-count = count-parts (k .n) (and-true-iff (countStands (k .n)) (limitsStand k) .0 e .0)
 
+  limits-stand : limitsStand k ≡ true
+  limits-stand = and-true-iff (countStands (k .n)) (limitsStand k) .0 e .1
+
   pub stand-limits : LimitsParts k
-  stand-limits = limits-parts k (and-true-iff (countStands (k .n)) (limitsStand k) .0 e .1)
+  stand-limits = limits-parts k limits-stand
 
   stand-below : (j : ℕ) → j < k .n → getD (k .a) j 0 < k .b
-  stand-below j h =
-      let c = stand-count in
-      let l = stand-limits in
-      let own = simp tests at (own-at (k .n) (k .b) 1 (k .a) j (1 + j) refl (omega arith) (l .own)) in
-      own .0 (omega arith) .1
-
-  stand-zero : (j : ℕ) → k .n ≤ j → getD (k .a) j 0 ≡ 0
-  stand-zero j h =
-      let l = stand-limits in
-      if-lt j 96
-      (λ g. let own = simp tests at (own-at (k .n) (k .b) 1 (k .a) j (1 + j) refl (omega arith) (l .own)) in own .1 (omega arith))
-      (λ g. past-end (k .a) j (omega arith))
+  stand-below j h = let c = stand-count in limit-within k limits-stand j h (omega arith) .1
 
   -- their values are those of the first n
   pub stand-back : limitsIn (take (k .n) (k .a)) ≡ k .a
-  stand-back = limits-back (k .n) (k .a) (stand-limits .size) (stand-count .most) stand-zero
+  stand-back = limits-back (k .n) (k .a) (stand-limits .size) (stand-count .most) (limit-zero k limits-stand)
 
   pub stand-many : length (take (k .n) (k .a)) ≡ k .n
   stand-many = let c = stand-count in let l = stand-limits in length-take-le (k .n) (k .a) (omega arith)

@@ -14,9 +14,9 @@ use Rattle.model.specs.States.{stageOf, sinceOf}
 use Rattle.model.specs.Readings.{over}
 use Rattle.layout.specs.Encodings.{countPlace, bPlace, cPlace, clockPlace, wordPlace, limitsPlace, headerLength, stride, tableLength, headerPut}
 use Rattle.layout.specs.Encodings.{processNumbers, headerNumbers, stateNumbers}
-use Rattle.model.proofs.Lists.{drop-at, drop-end}
+use Rattle.model.proofs.Lists.{drop-at, drop-end, copied-whole}
 use Rattle.layout.specs.Places.{placedAt}
-use Rattle.layout.proofs.Lists.{fill-pair, copied-whole}
+use Rattle.layout.proofs.Lists.{fill-pair}
 use Rattle.layout.proofs.Numbers.{header-long}
 
 -- the numbers before the entries are written, and i entries: the numbers of those that are left complete them

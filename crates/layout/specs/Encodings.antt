@@ -47,7 +47,7 @@ limitPlace i = limitsPlace + i
 
 -- [9.10] the numbers before the entries
 abbrev pub headerLength : ℕ
-headerLength = limitPlace 96
+headerLength = limitsPlace + 96
 
 -- [9.10] the numbers of an entry
 abbrev pub stride : ℕ

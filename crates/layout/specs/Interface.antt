@@ -1,5 +1,6 @@
 -- Section 9 of the specification: what the exported functions that are lent a table or a summary give back, the lent numbers included.
--- The others are lent texts and lists of steps, and give back what `readOf`, `writeOf` and `reportOf` of the model say. Assumes nothing.
+-- The others are lent texts and lists of steps, and give back what `readToOf` of `trace`, and `writeOf` and `reportOf` of the model say. Assumes
+-- nothing.
 use Prim.Native.Nat.{ℕ}
 use mathlib.Core.Bool.{cond, not}
 use mathlib.Core.List.{List}

@@ -5,11 +5,10 @@ use model::State;
 use rules::stages::location_at;
 use rules::stages::since_of;
 use rules::stages::stage_of;
-use values::least;
+use values::copy;
 ghost use mathlib.Core.Path.{_≡_};
 ghost use Prim.Native.Nat.{_+_, _<_, _≤_};
-ghost use lib.ListN.{length, take};
-ghost use Rattle.model.specs.Readings.{over};
+ghost use lib.ListN.{length};
 ghost use Rattle.layout.specs.Encodings.{stride, tableLength, stagePlace, stateNumbers, headerPut};
 ghost use Rattle.layout.specs.Places.{numbersAt, locationIn, placedAt};
 
@@ -85,18 +84,6 @@ pub(crate) fn put_entry(table: &mut [u64], i: usize, location: Location)
     let at = place_of(i);
     table[at] = stage_of(location);
     table[at + 1] = since_of(location);
-}
-
-// The numbers of a list over those of another, from the first on, as many as both have.
-pub fn copy(to: &mut [u64], from: &[u64])
-    ensures { λ _. ⌜ now (to .exit) ≡ over (take (length (now (to .entry))) (now (from .entry))) (now (to .entry)) ⌝ }
-{
-    let end = least(to.len(), from.len());
-    let mut i: usize = 0;
-    while i < end {
-        to[i] = from[i];
-        i += 1;
-    }
 }
 
 // [9.10] [12.110] What stands before the entries, in a table and in a deadline table alike. A list that has no room for it stays.

@@ -95,13 +95,8 @@ pub fn step(mut state: State, action: u64, process: u64, time: u64) -> Outcome
     while at <= 96 {
         let entry = state.processes[(at - 1) as usize];
         let location = entry.location;
-        found = note(
-            found,
-            scene,
-            at,
-            location,
-            limit_of(&state.parameters.a, at),
-        );
+        let limit = limit_of(&state.parameters.a, at);
+        found = note(found, scene, at, location, limit);
         if found.faulty != 0 {
             break;
         }

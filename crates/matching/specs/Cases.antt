@@ -2,14 +2,15 @@
 -- computation. Assumes nothing.
 use Prim.Native.Nat.{ℕ}
 use mathlib.Core.Path.{_≡_}
-use mathlib.Core.List.{List, [], _∷_, map}
+use mathlib.Core.List.{[], _∷_, map}
 use lib.ListN.{replicate}
 use Rattle.model.specs.declared.Parameters.{Parameters}
-use Rattle.model.specs.Acts.{waitAct, tryAct, testAct, withdrawAct}
+use Rattle.model.specs.Acts.{waitAct, testAct, withdrawAct}
 use Rattle.model.specs.States.{limitsIn, equalLimits, parametersOf, initial}
 use Rattle.model.specs.Answers.{answerOf}
-use Rattle.model.specs.Texts.{Event, event}
+use Rattle.model.specs.Texts.{event}
 use Rattle.model.specs.Executions.{stateFrom}
+use Rattle.theory.specs.OwnDeadlines.{bothTry}
 use Rattle.deadlines.specs.declared.DeadlineLocation.{DeadlineLocation}
 use Rattle.deadlines.specs.declared.DeadlineLocation.the-variants.{Testing, Checking}
 use Rattle.deadlines.specs.declared.DeadlineState.{DeadlineState}
@@ -37,18 +38,14 @@ pub record DeadlineCases : Type 0 where
 
 -- Two values of a that lie far apart
 
--- [20.270] of two processes with these values of a
-abbrev pub withOwn : ℕ → ℕ → Parameters
-withOwn a₁ a₂ = parametersOf 2 8_000 12_000 (limitsIn (a₁ ∷ a₂ ∷ []))
-
--- helper: both processes try at 0
-abbrev pub bothTry : List Event
-bothTry = event 0 1 tryAct ∷ event 0 2 tryAct ∷ []
+-- helper: the parameters of two processes with these values of a
+abbrev pub ownParameters : ℕ → ℕ → Parameters
+ownParameters a₁ a₂ = parametersOf 2 8_000 12_000 (limitsIn (a₁ ∷ a₂ ∷ []))
 
 -- [12.60] they did: the last time of each is by its own a
 abbrev pub bothTesting : ℕ → ℕ → DeadlineState
 bothTesting a₁ a₂ = record {
-  parameters = withOwn a₁ a₂;
+  parameters = ownParameters a₁ a₂;
   clock = 0;
   word = 0;
   processes = entryWith (Testing 0 a₁) ∷ entryWith (Testing 0 a₂) ∷ replicate 94 idleWith;
@@ -57,11 +54,11 @@ bothTesting a₁ a₂ = record {
 -- [2.90] [12.20] [20.270] the process `quick` has the a 5, and `slow` has 5,000
 pub record OwnLastTimes (a₁ a₂ quick slow : ℕ) : Type 0 where
   -- [12.40]
-  pub fresh : freshWith (withOwn a₁ a₂) ≡ answersWith 0 0 0 (initialWith (withOwn a₁ a₂))
+  pub fresh : freshWith (ownParameters a₁ a₂) ≡ answersWith 0 0 0 (initialWith (ownParameters a₁ a₂))
   -- [12.60]
-  pub written : runWith (initialWith (withOwn a₁ a₂)) bothTry ≡ bothTesting a₁ a₂
+  pub written : runWith (initialWith (ownParameters a₁ a₂)) bothTry ≡ bothTesting a₁ a₂
   -- [12.100] of the arrivals that the same steps of the first engine leave
-  pub turned : toDeadlines (stateFrom (initial (withOwn a₁ a₂)) bothTry) ≡ answersWith 0 0 0 (bothTesting a₁ a₂)
+  pub turned : toDeadlines (stateFrom (initial (ownParameters a₁ a₂)) bothTry) ≡ answersWith 0 0 0 (bothTesting a₁ a₂)
   -- [12.50]
   pub quick-late : stepWith (bothTesting a₁ a₂) waitAct 0 6 ≡ answersWith 8 quick 5 (bothTesting a₁ a₂)
   -- [12.50] once the quick one has withdrawn

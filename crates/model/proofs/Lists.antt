@@ -1,13 +1,14 @@
 -- Laws of lists and of their parts. Assumes nothing.
-use Prim.Native.Nat.{ℕ, zero, suc, _+_, _-_, _≤_, _<_}
-use mathlib.Core.Path.{_≡_, refl, sym, _∙_}
-use mathlib.Core.List.{List, [], _∷_, _++_, map, map-append, append-assoc}
+use Prim.Native.Nat.{ℕ, zero, suc, _+_, _-_, _≤_, _<_, min}
+use mathlib.Core.Path.{_≡_, refl, sym, ap, _∙_}
+use mathlib.Core.List.{List, [], _∷_, _++_, map, map-append, append-assoc, append-nil}
 use native.Mathlib.Omega.{arith}
 use native.Mathlib.Numerals.{add-one}
 use lib.ListN.{length, getD, take, drop, set, length-drop, length-append, length-set, length-map, take-append-drop}
-use lib.Seq.{drop-cons, drop-length, take-all, length-take-le, set-append-left, set-at, getD-at}
+use lib.Seq.{drop-cons, drop-length, take-suc, take-all, length-take-le, set-append-left, set-at, getD-at}
 use lib.Seq.{drop-at as seam-at}
 use Rattle.model.specs.Readings.{over}
+use Rattle.model.proofs.Tests.{if-lt}
 
 -- Parts
 
@@ -77,3 +78,24 @@ module _ {A B : Type 0} (f : A → B) (rs : List A) (l : List B) (i : ℕ) (made
 -- a list is as long as any map of it: `search (needs, length-mapped)` finds the length of an array of structs
 pub length-mapped : (X Y : Type 0) (f : X → Y) (l : List X) (n : ℕ) → length (map f l) ≡ n → length l ≡ n
 length-mapped X Y f l n e = sym (length-map l f) ∙ e
+
+-- Copying
+
+-- the first i of a list are stored over another
+module _ {A : Type 0} (from to : List A) (i : ℕ) where
+  pub copied-next : (d : A) → i < length from → i < length to → set (over (take i from) to) i (getD from i d) ≡ over (take (i + 1) from) to
+  copied-next d h g =
+      over-snoc (take i from) to i (length-take-le i from (omega arith)) g (getD from i d)
+      ∙ ap (λ (l : List A). over l to) (sym (take-suc from i d h) ∙ ap (λ (k : ℕ). take k from) (sym (add-one i)))
+
+  -- no more are left of one of the two
+  pub copied-all : i ≡ min (length to) (length from) → over (take i from) to ≡ over (take (length to) from) to
+  copied-all e = if-lt (length to) (length from)
+      (λ h. ap (λ (k : ℕ). over (take k from) to) {x = i} {y = length to} (omega arith))
+      (λ h. ap (λ (l : List A). over l to) (take-all i from (omega arith) ∙ sym (take-all (length to) from h)))
+
+-- as many as there were take the place of all
+pub copied-whole : {A : Type 0} (from to : List A) → length to ≡ length from → over (take (length to) from) to ≡ from
+copied-whole from to e =
+    let all = take-all (length to) from (omega arith) in
+    ap (λ (l : List _). over l to) all ∙ ap (λ (l : List _). from ++ l) (drop-end to (length from) (omega arith) (omega arith)) ∙ append-nil from

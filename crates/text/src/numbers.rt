@@ -7,9 +7,9 @@ use model::Line;
 use values::least;
 ghost use mathlib.Core.Path.{_≡_};
 ghost use Prim.Native.Nat.{_+_, _*_, _≤_};
-ghost use lib.ListN.{length, set, take, replicate};
+ghost use lib.ListN.{length, set, take};
 ghost use Rattle.model.specs.Texts.{numbersText};
-ghost use Rattle.model.specs.Readings.{numbersAt};
+ghost use Rattle.model.specs.Readings.{lineFails, numbersAt};
 ghost use Rattle.text.specs.Puts.{mostNumbers, Put};
 
 // So many numbers at most follow the first of a line that is put: then no sum of places overflows.
@@ -25,12 +25,12 @@ fn with_number(mut numbers: [u64; 4], i: usize, v: u64) -> [u64; 4]
     numbers
 }
 
-// [6.80] A refusal's code and line.
-pub fn line_fails(code: u64, line: u64) -> Line
-    ensures { λ r. ⌜ r ≡ record { code = code; line = line; numbers = replicate 4 0; size = 0 } ⌝ }
+// [4.14] [6.80] A line that fails.
+pub fn line_fails(line: u64) -> Line
+    ensures { λ r. ⌜ r ≡ lineFails line ⌝ }
 {
     Line {
-        code: code,
+        code: 14,
         line: line,
         numbers: [0; 4],
         size: 0,
@@ -47,7 +47,7 @@ pub fn numbers_at(s: &[u8], more: usize, line: u64) -> Line
     while i < more {
         let field = number_at(&s[at..], b',');
         let Field::Value(v, k) = field else {
-            return line_fails(14, line);
+            return line_fails(line);
         };
         let next = with_number(numbers, i, v);
         numbers = next;
@@ -56,7 +56,7 @@ pub fn numbers_at(s: &[u8], more: usize, line: u64) -> Line
     }
     let last = number_at(&s[at..], b'\n');
     let Field::Value(v, k) = last else {
-        return line_fails(14, line);
+        return line_fails(line);
     };
     let all = with_number(numbers, i, v);
     let size = at + k;

@@ -9,10 +9,10 @@ use native.Mathlib.Omega.{arith}
 use lib.ListN.{length, getD, take}
 use lib.Seq.{getD-take, length-take-le}
 use Rattle.model.specs.declared.Parameters.{Parameters}
-use Rattle.model.specs.States.{limitStands, limitsStand, greatest, largestLimit}
+use Rattle.model.specs.States.{limitsStand, greatest, largestLimit}
 use Rattle.theory.specs.Soundness.{CountStands, LimitsStand, ParametersStand, LargestIsPlain}
 use Rattle.model.proofs.Tests.{if-lt, tests}
-use Rattle.model.proofs.OwnLimits.{limits-parts, parts-limits, own-at, own-all, past-end, greatest-bounds}
+use Rattle.model.proofs.OwnLimits.{limits-parts, parts-limits, own-all, limit-within, limit-zero, greatest-bounds}
 
 -- Which stand
 
@@ -20,15 +20,11 @@ module _ (k : Parameters) (count : CountStands (k .n)) where
   limits-plain : limitsStand k ≡ true → LimitsStand k
   limits-plain e =
       let h = limits-parts k e in
-      let own : (i : ℕ) → 1 ≤ i → i ≤ 96 → limitStands (k .n) (k .b) i (getD (k .a) (i - 1) 0) ≡ true =
-      λ i some most. own-at (k .n) (k .b) 1 (k .a) (i - 1) i (omega arith) (omega arith) (h .own) in
       record {
         size = h .size;
-        some = λ i some most. (simp tests at (own i some (omega arith))) .0 (omega arith) .0;
-        apart = λ i some most. (simp tests at (own i some (omega arith))) .0 (omega arith) .1;
-        above = λ i past. if-lt 96 i
-            (λ end. past-end (k .a) (i - 1) (omega arith))
-            (λ most. (simp tests at (own i (omega arith) most)) .1 (omega arith));
+        some = λ i some most. limit-within k e (i - 1) (omega arith) (omega arith) .0;
+        apart = λ i some most. limit-within k e (i - 1) (omega arith) (omega arith) .1;
+        above = λ i past. limit-zero k e (i - 1) (omega arith);
         order = h .order;
         most = h .most;
       }

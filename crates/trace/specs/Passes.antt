@@ -27,7 +27,7 @@ abbrev pub scanFound : ℕ → Parameters → Counted → Scan
 scanFound first k (Steps count) = scanOf first k count
 scanFound first k (Fault code line) = scanFails code line
 
--- [9.90] the answer to a text where the values of a have no room: its own refusal, or 16. Read without room for a step, a text without a fault
+-- helper: the answer to a text where the values of a have no room: its own refusal, or 16. Read without room for a step, a text without a fault
 -- is answered with 0 or 16
 abbrev pub answerWithoutRoom : List ℕ → Answer
 answerWithoutRoom text =

@@ -18,19 +18,19 @@ use model::Parameters;
 use model::Reading;
 use model::Scan;
 use values::answer_with;
+use values::copy;
 use values::least;
 use values::limits::count_stands;
 use values::limits::parameters_stand;
 use values::no_parameters;
 ghost use mathlib.Core.Path.{_≡_};
-ghost use Prim.Native.Nat.{_≤_};
-ghost use lib.ListN.{length};
-ghost use Rattle.model.specs.Readings.{lent, over, scanGave, scannedOf, lineTold, readingFrom, readGave, readOf};
+ghost use Rattle.model.specs.Readings.{lent, scanGave, scannedOf, lineTold, readingFrom, readGave, readOf};
 ghost use Rattle.model.specs.Writings.{eventsOf, writeGave, writeOf};
 ghost use Rattle.trace.specs.Passes.{answerWithoutRoom};
 ghost use Rattle.trace.specs.ReadingTo.{readingToOf, readToGave, readToOf};
 
-// [6.145] [6.90] [6.130] [6.133] [6.136] [6.140] [21.110] Scans a recording: its steps go to the three lists. A refused scan stores nothing.
+// [6.145] [6.90] [6.130] [6.133] [6.136] [6.140] [21.110] Scans a recording: its steps go to the three lists. A refused scan stores nothing,
+// and keeps the line that the refusal is reported at, that of 11 and 12 too.
 pub fn scan(text: &[u8], times: &mut [u64], processes: &mut [u64], actions: &mut [u64]) -> Scan
     ensures { λ r. ⌜ scanGave r (lent (times .exit) (processes .exit) (actions .exit))
         ≡ scannedOf (now (text .entry)) (lent (times .entry) (processes .entry) (actions .entry)) ⌝ }
@@ -89,7 +89,8 @@ fn reading_from(found: Scan) -> Reading
     }
 }
 
-// [6.90] [6.110] [6.130] [6.133] [6.136] [6.140] [21.110] Reads a recording: a scan of it, and what is told of that.
+// [6.90] [6.110] [6.130] [6.133] [6.136] [6.140] [21.110] Reads a recording: a scan of it, and what is told of that. The line of 11 and of 12
+// is dropped: 0 is told.
 pub fn read(text: &[u8], times: &mut [u64], processes: &mut [u64], actions: &mut [u64]) -> Reading
     ensures { λ r. ⌜ readGave r (lent (times .exit) (processes .exit) (actions .exit))
         ≡ readOf (now (text .entry)) (lent (times .entry) (processes .entry) (actions .entry)) ⌝ }
@@ -134,19 +135,8 @@ fn answer_without_room(text: &[u8]) -> Answer
     answer
 }
 
-// [9.90] The values of a, to the first places of a list.
-fn store_limits(list: &mut [u64], a: &[u64])
-    requires { ⌜ length (now a) ≤ length (now list) ⌝ }
-    ensures { λ _. ⌜ now (list .exit) ≡ over (now (a .entry)) (now (list .entry)) ⌝ }
-{
-    let mut i: usize = 0;
-    while i < a.len() {
-        list[i] = a[i];
-        i += 1;
-    }
-}
-
-// [9.90] [6.130] [6.140] [21.110] Reads a recording as `read` does; its values of a go to the first 96 places of a list.
+// [9.90] [6.130] [6.140] [21.110] Reads a recording as `read` does, and drops the line of 11 and of 12 as it does; its values of a go to the
+// first 96 places of a list.
 pub fn read_to(
     text: &[u8],
     a: &mut [u64],
@@ -166,7 +156,7 @@ pub fn read_to(
         return unread_to(answer);
     }
     let parameters = reading.parameters;
-    store_limits(a, &parameters.a);
+    copy(a, &parameters.a);
     ReadingTo {
         answer: answer,
         n: parameters.n,

@@ -68,7 +68,7 @@ fn limit_line(s: &[u8], process: u64) -> Line
     }
     let numbers = line.numbers;
     if numbers[0] != process {
-        return line_fails(14, process + 3);
+        return line_fails(process + 3);
     }
     line
 }

@@ -3,7 +3,7 @@
 use Prim.Native.Nat.{ℕ, zero, suc, _+_, _-_, _%_, _^_, _≤_, _<_}
 use mathlib.Core.Path.{_≡_, refl, sym, ap, _∙_}
 use mathlib.Core.Logic.{_↔_}
-use mathlib.Core.Bool.{Bool, true, false, cond, _&&_, and-assoc}
+use mathlib.Core.Bool.{Bool, true, false, _&&_, and-assoc, and-true}
 use mathlib.Core.List.{List, [], _∷_, _++_}
 use native.Mathlib.Omega.{arith}
 use lib.Bits.{bitOr, or-add-and, and-le-l, and-le-r, or-lt}
@@ -64,11 +64,7 @@ within-next b bits fault a i h e =
 
 pub within-end : (b bits : ℕ) (a : List ℕ) (i : ℕ) → length a ≡ i → (ltb bits topBit && within b (drop i a)) ≡ ltb bits topBit
 unfolding within
-within-end b bits a i e = rw (drop-end a i (omega arith) (omega arith)) (and-true-r (ltb bits topBit))
-  where
-    and-true-r : (t : Bool) → (t && true) ≡ t
-    and-true-r true = refl
-    and-true-r false = refl
+within-end b bits a i e = rw (drop-end a i (omega arith) (omega arith)) (and-true (ltb bits topBit))
 
 -- Up to n, and past it
 

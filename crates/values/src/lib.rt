@@ -1,13 +1,15 @@
 // Small values that the step machine and the recordings share: an answer, parameters and which of them stand, the lesser of two sizes,
-// the greater of two numbers, the bits of many.
+// the greater of two numbers, the bits of many, a list copied over another.
 pub mod limits;
 
 use model::Answer;
 use model::Parameters;
 ghost use mathlib.Core.Path.{_≡_};
 ghost use Prim.Native.Nat.{min, max};
+ghost use lib.ListN.{length, take};
 ghost use Rattle.model.specs.States.{noParameters};
 ghost use Rattle.model.specs.Answers.{answerOf, answerNumbers};
+ghost use Rattle.model.specs.Readings.{over};
 ghost use Rattle.values.specs.Bits.{bitsOf, areZero};
 
 // [4.50] An answer of three numbers.
@@ -71,4 +73,16 @@ pub fn are_zero(numbers: &[u64]) -> bool
     ensures { λ r. ⌜ r ≡ areZero (now (numbers .entry)) ⌝ }
 {
     bits_of(numbers) == 0
+}
+
+// The numbers of a list over those of another, from the first on, as many as both have.
+pub fn copy(to: &mut [u64], from: &[u64])
+    ensures { λ _. ⌜ now (to .exit) ≡ over (take (length (now (to .entry))) (now (from .entry))) (now (to .entry)) ⌝ }
+{
+    let end = least(to.len(), from.len());
+    let mut i: usize = 0;
+    while i < end {
+        to[i] = from[i];
+        i += 1;
+    }
 }

@@ -145,8 +145,8 @@ judge-requires c κs = search needs
 entry-at-requires : tie.Need-entry-at-requires Inv-loop μ-loop
 entry-at-requires c κs = search needs
 
-mul-t44 : tie.Need-mul-t44 Inv-loop μ-loop
-mul-t44 c = search (needs, own-fits (c .before .before .before .before .before .before .before .before))
+mul-t45 : tie.Need-mul-t45 Inv-loop μ-loop
+mul-t45 c = search (needs, own-fits (c .before .before .before .before .before .before .before .before))
 
 element-set-from-state : tie.Need-element-set-from-state Inv-loop μ-loop
 element-set-from-state c = search (needs, own-fits (c .before .before .before .before .before .before .before .before))
@@ -168,10 +168,10 @@ answered c =
 
 returns-2 : tie.Need-returns-2 Inv-loop μ-loop
 returns-2 c =
-    let a = c .before .before .before .before .before .before .before .before .before .before .before .before .before .before .before .before .before .before .before .args in
+    let judged = c .before .before .before .before in
+    let a = judged .before .before .before .before .before .before .before .before .before .before .before .before .before .before .before .args in
     let slot = c .before .before .before .before .before .before .before .before .slot-of in
     let met = c .before .before .before .before .before .before .before .before .before in
-    let judged = c .before .before .before .before in
     rw (c .entry-at .ensures)
     (exit-moved (a .t1) (a .action) (a .process) (a .time) (slot .result) (met .transition-of .result)
     (stepOf (a .t1) (a .action) (a .process) (a .time)) (judged .judge .result)
@@ -180,15 +180,17 @@ returns-2 c =
 
 returns-3 : tie.Need-returns-3 Inv-loop μ-loop
 returns-3 c =
-    let a = c .before .before .before .before .before .before .before .before .before .before .before .before .before .before .before .before .before .before .args in
-    exit-waited (a .t1) (a .action) (a .process) (a .time) (stepOf (a .t1) (a .action) (a .process) (a .time)) (c .before .before .before .judge .result)
-    (answered (c .before .before .before)) (c .before .if3 .taken) (c .if4 .left)
+    let judged = c .before .before .before in
+    let a = judged .before .before .before .before .before .before .before .before .before .before .before .before .before .before .before .args in
+    exit-waited (a .t1) (a .action) (a .process) (a .time) (stepOf (a .t1) (a .action) (a .process) (a .time)) (judged .judge .result)
+    (answered judged) (c .before .if3 .taken) (c .if4 .left)
 
 returns-4 : tie.Need-returns-4 Inv-loop μ-loop
 returns-4 c =
-    let a = c .before .before .before .before .before .before .before .before .before .before .before .before .before .before .before .before .before .args in
-    exit-refused (a .t1) (a .action) (a .process) (a .time) (stepOf (a .t1) (a .action) (a .process) (a .time)) (c .before .before .judge .result)
-    (answered (c .before .before)) (c .if3 .left)
+    let judged = c .before .before in
+    let a = judged .before .before .before .before .before .before .before .before .before .before .before .before .before .before .before .args in
+    exit-refused (a .t1) (a .action) (a .process) (a .time) (stepOf (a .t1) (a .action) (a .process) (a .time)) (judged .judge .result)
+    (answered judged) (c .if3 .left)
 
 pub step-spec : {M : Type 1} → statement M
 step-spec =
@@ -218,7 +220,7 @@ step-spec =
     check-from-requires
     judge-requires
     entry-at-requires
-    mul-t44
+    mul-t45
     element-set-from-state
     returns-2
     returns-3

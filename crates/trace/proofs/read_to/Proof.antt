@@ -1,7 +1,10 @@
 -- `trace::read_to` meets its contract: each way out is a law of `ReadingsTo`. Assumes nothing.
+use Prim.Native.Nat.{ℕ, _≤_}
 use mathlib.Core.Path.{_≡_}
 use mathlib.Core.List.{List}
-use Prim.Native.Nat.{ℕ}
+use native.Mathlib.Omega.{arith}
+use lib.ListN.{length, take}
+use lib.Seq.{take-all}
 use Rattle.model.specs.Readings.{Lists, lists, Read, readGave, readOf}
 use Rattle.trace.proofs.ReadingsTo.{to-refused, to-stored, to-full}
 use borrow.Author.Needs.{needs}
@@ -60,8 +63,8 @@ returns-2 c =
     let k = c .before .before .before .before .before .before .before .before .before .before in
     rw (c .unread-to2 .ensures) (to-refused (text k) (limits k) (to k) (given k) (was-read k) (c .before .if2 .taken))
 
-store-limits-requires : tie.Need-store-limits-requires
-store-limits-requires c κs = search needs
+copy-requires : tie.Need-copy-requires
+copy-requires c κs = search needs
 
 same-length-4 : tie.Need-same-length-4
 same-length-4 c = search needs
@@ -75,11 +78,15 @@ same-length-6 c = search needs
 same-length-7 : tie.Need-same-length-7
 same-length-7 c = search needs
 
+-- the values of a, of which there are 96, have room
+all-fit : (c : tie.After-read) → 96 ≤ length (limits c) → take (length (limits c)) (given c .reading .parameters .a) ≡ given c .reading .parameters .a
+all-fit c room = let size : length (given c .reading .parameters .a) ≡ 96 = search needs in take-all (length (limits c)) _ (omega arith)
+
 returns-3 : tie.Need-returns-3
 returns-3 c =
     let e = c .before .before .before .before .before .before .before .before in
     let k = e .before .before .before .before .before .before .before .before .before in
-    rw (c .before .before .store-limits .ensures)
+    rw (c .before .before .copy .ensures, all-fit k (k .before .before .before .before .if1 .left))
     (to-stored (text k) (limits k) (to k) (given k) (was-read k) (k .before .before .before .before .if1 .left) (e .if2 .left))
 
 pub read-to-spec : {M : Type 1} → statement M
@@ -95,7 +102,7 @@ read-to-spec =
     same-length-2
     same-length-3
     returns-2
-    store-limits-requires
+    copy-requires
     same-length-4
     same-length-5
     same-length-6

@@ -38,7 +38,8 @@ loop-again : tie.Need-loop-again Inv-loop μ-loop
 loop-again c =
     let v = c .before .before .loop in
     let args = c .before .before .before .args in
-    (omega arith, omega arith, ap (λ (a : List ℕ). set a (v .i) (args .limit)) (v .inv .2) ∙ equal-next (args .n) (args .limit) (v .i) (omega arith) (omega arith))
+    let next = equal-next (args .n) (args .limit) (v .i) (omega arith) (omega arith) in
+    (omega arith, omega arith, ap (λ (a : List ℕ). set a (v .i) (args .limit)) (v .inv .2) ∙ next)
 
 returns : tie.Need-returns Inv-loop μ-loop
 returns c =

@@ -41,7 +41,8 @@ loop-again : tie.Need-loop-again Inv-loop μ-loop
 loop-again c =
     let v = c .before .before .before .loop in
     let l = c .before .before .before .before .args .list .now in
-    (omega arith, omega arith, ap (λ (a : List ℕ). set a (v .i) (getD l (v .i) 0)) (v .inv .2) ∙ filled-next l (v .i) (getD l (v .i) 0) (omega arith) (omega arith) refl)
+    let next = filled-next l (v .i) (getD l (v .i) 0) (omega arith) (omega arith) refl in
+    (omega arith, omega arith, ap (λ (a : List ℕ). set a (v .i) (getD l (v .i) 0)) (v .inv .2) ∙ next)
 
 returns : tie.Need-returns Inv-loop μ-loop
 returns c =

@@ -1,12 +1,12 @@
 -- `values::limits::number_at` meets its contract: past the end there is 0. Assumes nothing.
 use mathlib.Core.Path.{sym}
 use borrow.Author.Needs.{needs}
-use Rattle.model.proofs.OwnLimits.{past-end}
+use lib.ListN.{List·getD-eq-default}
 use Rattle.values.proofs.limits.number_at.Statement.{statement}
 use Rattle.values.proofs.limits.number_at.Tie as tie
 
 returns : tie.Need-returns
-returns c = sym (past-end (c .before .args .numbers .now) _ (c .if1 .taken))
+returns c = sym (List·getD-eq-default (c .before .args .numbers .now) 0 (c .if1 .taken))
 
 mul-result : tie.Need-mul-result
 mul-result c = search needs

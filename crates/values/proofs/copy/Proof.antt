@@ -1,4 +1,4 @@
--- `layout::tables::copy` meets its contract: after i turns the first i numbers are stored. Assumes nothing.
+-- `values::copy` meets its contract: after i turns the first i numbers are stored. Assumes nothing.
 use Prim.Native.Nat.{ℕ, _-_, _≤_, min}
 use mathlib.Core.Path.{_≡_, refl, ap, _∙_}
 use mathlib.Core.List.{List}
@@ -6,9 +6,9 @@ use native.Mathlib.Omega.{arith}
 use borrow.Author.Needs.{needs}
 use lib.ListN.{length, getD, take, set, length-set}
 use Rattle.model.specs.Readings.{over}
-use Rattle.layout.proofs.Lists.{copied-next, copied-all}
-use Rattle.layout.proofs.tables.copy.Statement.{statement}
-use Rattle.layout.proofs.tables.copy.Tie as tie
+use Rattle.model.proofs.Lists.{copied-next, copied-all}
+use Rattle.values.proofs.copy.Statement.{statement}
+use Rattle.values.proofs.copy.Tie as tie
 
 abbrev Inv-loop : tie.InvT-loop
 Inv-loop to₀ from end i₀ to i = (i ≤ end) × (end ≡ min (length to₀) (length from)) × (length to ≡ length to₀) × (to ≡ over (take i from) to₀)
