@@ -48,8 +48,8 @@ ghost use Rattle.deadline_layout.specs.Steps.{Ready, OfArrival, Stands, 
 
 // Looks at one entry
 
-// Whether the two times of the entry whose numbers start at a place come `opens` and `closes` after one arrival, and it is not after the clock:
-// no last time is sooner than 0.
+// Whether the two times of the entry whose numbers start at a place come `opens` and `closes` after one arrival, and it is not after the clock.
+// With 0 as the first deadline so far nothing else is asked: no last time is sooner.
 fn are_of_arrival(entries: &[u64], at: usize, clock: u64, opens: u64, closes: u64) -> bool
     requires { ⌜ at + deadlineStride ≤ length (now entries) ⌝ }
     ensures { λ r. ⌜ OfArrival (now (entries .entry)) at clock opens closes r ⌝ }
@@ -64,7 +64,7 @@ fn are_of_arrival(entries: &[u64], at: usize, clock: u64, opens: u64, closes: u6
     )
 }
 
-// Whether the numbers of entry i stand: a look at it finds a fault where they do not, and where they do what `note_at` finds. The times are read
+// Whether the numbers of entry i stand: where they do not, a look at it finds a fault, and where they do, what `note_at` finds. The times are read
 // where they are needed: read before the tests on the stage they cost each entry an instruction more. Most entries are in the remainder, and most
 // of the others are testing.
 fn stands_at(entries: &[u64], limits: &[u64], i: usize, b: u64, scene: Scene) -> bool
@@ -112,8 +112,8 @@ fn note_at(found: Survey, entries: &[u64], i: usize, scene: Scene) -> Survey
 
 // The pass
 
-// What a pass over entries finds, those of the processes from 1 on, four of them a turn. The two calls for an entry stand here one by one, as the
-// compiler sets no function into the loop that makes both: then what was found is not kept in registers. A fault is another value for the same reason.
+// What a pass over entries finds, those of the processes from 1 on, four of them a turn. Both calls for an entry stand here: a function that makes
+// them is not set into the loop by the compiler, and what was found is then not kept in registers. For the same reason a fault is another value.
 fn survey_entries(entries: &[u64], limits: &[u64], b: u64, scene: Scene) -> Survey
     requires { ⌜ Ready (now entries) (now limits) b scene ⌝ }
     ensures { λ r. ⌜ r ≡ entriesNotedWith b (now (limits .entry)) scene 1 (now (entries .entry)) nothing ⌝ }

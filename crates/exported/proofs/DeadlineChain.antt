@@ -17,6 +17,7 @@ use Rattle.model.specs.Readings.{over}
 use Rattle.model.specs.Texts.{Event}
 use Rattle.layout.specs.Encodings.{tableLength, stateNumbers, tableIn, isSoundTable}
 use Rattle.layout.specs.Interface.{Lent, lentGave}
+use Rattle.layout.specs.Numbers.{IsWhole}
 use Rattle.deadlines.specs.declared.DeadlineState.{DeadlineState}
 use Rattle.deadlines.specs.declared.DeadlineOutcome.{DeadlineOutcome}
 use Rattle.deadlines.specs.Deadlines.{soundWith, stepWith, freshWith}
@@ -24,6 +25,7 @@ use Rattle.deadlines.specs.Matching.{matched, arrived, toDeadlines, toArrivals}
 use Rattle.matching.specs.Facts.{AcceptedWith}
 use Rattle.matching.specs.Lists.{stepByDeadlines, stepsWith, runWith, Demand3With}
 use Rattle.deadline_layout.specs.Encodings.{deadlineLength, stateNumbersWith, deadlineTableIn, isSoundDeadlineTable}
+use Rattle.deadline_layout.specs.Numbers.{IsWholeWith}
 use Rattle.deadline_layout.specs.Interface.{lentFreshWith, lentStepWith, lentToDeadlines, lentToArrivals}
 use Rattle.model.proofs.Tests.{by-test}
 use Rattle.model.proofs.Lists.{over-seam}
@@ -34,7 +36,7 @@ use Rattle.layout.proofs.Encodings as tables
 use Rattle.deadlines.proofs.Judging.{exit-unsound-with}
 use Rattle.deadlines.proofs.Matched.{length-dated, length-arrived, sound-same, sound-matched, arrived-matched}
 use Rattle.deadline_layout.proofs.Encodings.{table-length, deadlines-come-back, deadlines-are-whole, sound-is-table, table-is-sound}
-use Rattle.deadline_layout.proofs.Starting.{fresh-size}
+use Rattle.deadline_layout.proofs.Starting.{fresh-whole}
 use Rattle.matching.proofs.Matchings.{matches-matched}
 use Rattle.matching.proofs.Engines.{fresh-match, arrived-matches, arrived-sound}
 use Rattle.matching.proofs.Acceptance.{next-is-changed-with, refused-stays-with}
@@ -60,16 +62,16 @@ fro-is deadlines out r s = rw (s .1 .entry, s .2 .entry, s .2 .exit) at (s .3)
 
 -- A step in numbers
 
-abbrev Whole : DeadlineState → Type 0
-Whole d = length (d .processes) ≡ 96
-
-step-whole : (d : DeadlineState) (act p m : ℕ) → Whole d → Whole (stepWith d act p m .state)
+step-whole : (d : DeadlineState) (act p m : ℕ) → IsWholeWith d → IsWholeWith (stepWith d act p m .state)
 step-whole d act p m size =
     by-test (eqb (stepWith d act p m .answer .code) 0)
-    (λ e. next-is-changed-with d size act p m (eqb-true _ 0 e) .size-stays ∙ size)
+    (λ e. let changed = next-is-changed-with d (size .entries) act p m (eqb-true _ 0 e) in record {
+      limits = ap (λ (k : Parameters). length (k .a)) (changed .parameters-stay) ∙ size .limits;
+      entries = changed .size-stays ∙ size .entries;
+    })
     (λ e. rw (refused-stays-with d act p m (eqb-false _ 0 e)) size)
 
-step-numbers : (d : DeadlineState) → Whole d → (rest : List ℕ) (act p m : ℕ)
+step-numbers : (d : DeadlineState) → IsWholeWith d → (rest : List ℕ) (act p m : ℕ)
     → lentStepWith (stateNumbersWith d ++ rest) act p m ≡ inNumbersWith rest (stepWith d act p m)
 unfolding lentStepWith isSoundDeadlineTable
 step-numbers d size rest act p m =
@@ -94,7 +96,7 @@ record InNumbers (d : DeadlineState) (rest : List ℕ) (es : List Event) : Type 
   results : resultsBy lentBy numbersAfter (stateNumbersWith d ++ rest) es ≡ map (inNumbersWith rest) (stepsWith d es)
   last : endBy lentBy numbersAfter (stateNumbersWith d ++ rest) es ≡ stateNumbersWith (runWith d es) ++ rest
 
-list-numbers : (d : DeadlineState) → Whole d → (rest : List ℕ) (es : List Event) → InNumbers d rest es
+list-numbers : (d : DeadlineState) → IsWholeWith d → (rest : List ℕ) (es : List Event) → InNumbers d rest es
 unfolding resultsBy endBy
 list-numbers d size rest [] = record { results = refl; last = refl }
 list-numbers d size rest (e ∷ es) =
@@ -118,19 +120,19 @@ began k table e =
     by-test (eqb (freshWith k .answer .code) 0)
     (λ t. by-test (ltb (length table) deadlineLength)
     (λ s. absurd (omega (arith, rw (t, s) at e)))
-    (λ s. record { accepted = eqb-true _ 0 t; numbers = rw (t, s, table-length (freshWith k .state) (fresh-size k)) }))
+    (λ s. record { accepted = eqb-true _ 0 t; numbers = rw (t, s, table-length (freshWith k .state) (fresh-whole k)) }))
     (λ t. absurd (eqb-false _ 0 t (rw t at e)))
 
 -- Demand 3
 
-not-stuck-on : {k : Parameters} {es : List Event} {rs : List DeadlineOutcome} (t : DeadlineState) → Whole t → (rest : List ℕ)
+not-stuck-on : {k : Parameters} {es : List Event} {rs : List DeadlineOutcome} (t : DeadlineState) → IsWholeWith t → (rest : List ℕ)
     → Demand3With k es rs t → NotStuckOnDeadlines t (stateNumbersWith t ++ rest)
 not-stuck-on t size rest h = record {
   waits = λ b g a. rw (steps-is _ _ _ _ g a ∙ step-numbers t size rest _ _ _) (h .waits b);
   acts = λ i f due. let may = h .acts i f due in (may .0, may .1, λ g a. rw (steps-is _ _ _ _ g a ∙ step-numbers t size rest _ _ _) (may .2));
 }
 
-run-whole : (d : DeadlineState) → Whole d → (es : List Event) → Whole (runWith d es)
+run-whole : (d : DeadlineState) → IsWholeWith d → (es : List Event) → IsWholeWith (runWith d es)
 unfolding endBy
 run-whole d size [] = size
 run-whole d size (e ∷ es) = run-whole (stepByDeadlines d e .state) (step-whole d (e .action) (e .process) (e .time) size) es
@@ -143,7 +145,7 @@ every-deadline-table-chain k table f es rs s e ch =
     let d = freshWith k .state in
     let holds = every-list-with k (start .accepted) es in
     let from : f .table ≡ stateNumbersWith d ++ rest = ap (λ (r : Lent). r .table) fresh ∙ start .numbers in
-    let lists = list-numbers d (fresh-size k) rest es in
+    let lists = list-numbers d (fresh-whole k) rest es in
     let left = chain-last numbersAfter made-is ch ∙ ap (λ (l : List ℕ). endBy lentBy numbersAfter l es) from ∙ lists .last in
     record {
       results = stepsWith d es;
@@ -151,7 +153,7 @@ every-deadline-table-chain k table f es rs s e ch =
       results-are = chain-results numbersAfter made-is ch ∙ ap (λ (l : List ℕ). resultsBy lentBy numbersAfter l es) from ∙ lists .results;
       last-is = left;
       demand3 = holds;
-      not-stuck = rw left (not-stuck-on (runWith d es) (run-whole d (fresh-size k) es) rest holds);
+      not-stuck = rw left (not-stuck-on (runWith d es) (run-whole d (fresh-whole k) es) rest holds);
     }
 
 -- Every list has a chain
@@ -188,8 +190,10 @@ module _ (table : List ℕ) (sound : isSoundTable table ≡ true) where
   s-sound : soundOf s ≡ true
   s-sound = tables.table-is-sound table sound
 
-  matched-whole : Whole (matched s)
-  matched-whole = length-dated (s .parameters) 1 (s .processes) ∙ tables.table-is-whole table (tables.sound-is-table table sound)
+  matched-whole : IsWholeWith (matched s)
+  matched-whole =
+      let all = tables.table-is-whole table (tables.sound-is-table table sound) in
+      record { limits = all .limits; entries = length-dated (s .parameters) 1 (s .processes) ∙ all .entries }
 
   -- what stands after the numbers of the deadline table
   goes-to : (deadlines : List ℕ) → deadlineLength ≤ length deadlines
@@ -229,8 +233,10 @@ module _ (deadlines : List ℕ) (sound : isSoundDeadlineTable deadlines ≡ true
   d-sound : soundWith d ≡ true
   d-sound = table-is-sound deadlines sound
 
-  arrived-whole : length (arrived d .processes) ≡ 96
-  arrived-whole = length-arrived (d .parameters) (d .processes) ∙ deadlines-are-whole deadlines (sound-is-table deadlines sound)
+  arrived-whole : IsWhole (arrived d)
+  arrived-whole =
+      let all = deadlines-are-whole deadlines (sound-is-table deadlines sound) in
+      record { limits = all .limits; entries = length-arrived (d .parameters) (d .processes) ∙ all .entries }
 
   -- what stands after the numbers of the table
   goes-fro : (table : List ℕ) → tableLength ≤ length table

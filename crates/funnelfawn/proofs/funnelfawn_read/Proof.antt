@@ -15,8 +15,11 @@ same-length-2 c = search needs
 same-length-3 : tie.Need-same-length-3
 same-length-3 c = search needs
 
+same-length-4 : tie.Need-same-length-4
+same-length-4 c = search needs
+
 returns : tie.Need-returns
-returns c = c .before .before .before .before .before .before .read-to .ensures
+returns c = c .before .before .before .before .before .before .before .before .read-to .ensures
 
 pub funnelfawn-read-spec : {M : Type 1} → statement M
-funnelfawn-read-spec = tie.close (tie.spec read-to-requires same-length same-length-2 same-length-3 returns)
+funnelfawn-read-spec = tie.close (tie.spec read-to-requires same-length same-length-2 same-length-3 same-length-4 returns)
