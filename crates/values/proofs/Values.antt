@@ -2,17 +2,16 @@
 -- first on. Assumes nothing.
 use Prim.Native.Nat.{ℕ, zero, suc, _+_, _-_, _%_, _^_, _≤_, _<_}
 use mathlib.Core.Path.{_≡_, refl, sym, ap, _∙_}
-use mathlib.Core.Logic.{_↔_}
 use mathlib.Core.Bool.{Bool, true, false, _&&_, and-assoc, and-true}
 use mathlib.Core.List.{List, [], _∷_, _++_}
 use native.Mathlib.Omega.{arith}
 use lib.Bits.{bitOr, or-add-and, and-le-l, and-le-r, or-lt}
-use lib.Dec.{leb, ltb, eqb}
-use lib.ListN.{length, getD, take, drop, set, replicate, length-replicate, getD-replicate}
+use lib.Dec.{leb, ltb}
+use lib.ListN.{length, getD, take, drop, set, replicate}
 use lib.Seq.{take-suc, take-all, length-take-le, set-append-seam, append-snoc}
 use borrow.Author.Tests.{lt-ltb, le-ltb, le-leb, lt-leb, eq-eqb}
 use Rattle.model.specs.declared.Parameters.{Parameters}
-use Rattle.model.specs.States.{parametersOf, countStands, limitStands, ownStand, limitsStand, parametersStand, limitsIn}
+use Rattle.model.specs.States.{parametersOf, countStands, ownStand, limitsStand, parametersStand, limitsIn}
 use Rattle.values.specs.Bits.{areZero}
 use Rattle.values.specs.Within.{topBit, within}
 use Rattle.model.proofs.Tests.{by-test, if-lt, clash}

@@ -4,7 +4,7 @@ use mathlib.Core.Path.{_≡_, refl, sym, ap, _∙_}
 use mathlib.Core.List.{List}
 use native.Mathlib.Omega.{arith}
 use borrow.Author.Needs.{needs}
-use lib.ListN.{length, getD, set, replicate, length-replicate, getD-replicate}
+use lib.ListN.{set, replicate, length-replicate, getD-replicate}
 use Rattle.values.proofs.Values.{filled, filled-next, filled-all, filled-short}
 use Rattle.values.proofs.limits.equal_limits.Statement.{statement}
 use Rattle.values.proofs.limits.equal_limits.Tie as tie

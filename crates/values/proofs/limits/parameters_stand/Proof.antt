@@ -7,7 +7,6 @@ use native.Mathlib.Omega.{arith}
 use borrow.Author.Needs.{needs}
 use borrow.Author.Tests.{not-true, not-false, lt-ltb, le-ltb, leb-true}
 use lib.Dec.{leb}
-use lib.ListN.{length}
 use lib.Seq.{length-take-le}
 use Rattle.model.specs.States.{parametersOf, countStands}
 use Rattle.model.proofs.Tests.{clash, and-true-iff}
