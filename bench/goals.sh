@@ -23,8 +23,7 @@ goals() {
         $2 ~ /^([14][123]|73|11[123]|123|153)$/ { note($1 " accepted") }
         $2 ~ /^([12][123]|83)$/ { note($1 " idle") }
         $2 ~ /^([456][123]|73)$/ { note($1 " busy") }
-        $2 ~ /^(43|73|153)$/ { note($1 " busy 96") }
-        $1 == "deadlines" && $2 != 42 { note("deadlines but one") }
+        $2 ~ /^(43|73)$/ { note($1 " busy 96") }
         $1 == "board" && ($2 == 201 || $2 == 205) { empty++; if ($3 / $5 > dearest) dearest = $3 / $5 }
         function note(goal) { rows[goal]++; if ($3 / $4 > most[goal]) most[goal] = $3 / $4 }
         function met(goal, expected, bound) { return rows[goal] == expected && most[goal] <= bound }
@@ -41,19 +40,23 @@ goals() {
             judge("inlined 11", 1, 0.47, "a step within Rattle, inlined, accepted on an idle table, n = 2, of the twin")
             judge("inlined 12", 1, 0.46, "the same, n = 24")
             judge("inlined 13", 1, 0.55, "the same, n = 96")
-            judge("inlined busy 96", 3, 0.75, "the same on busy tables, n = 96")
+            judge("inlined busy 96", 2, 0.75, "the same on busy tables, n = 96")
+            judge("inlined 153", 1, 0.75, "the same where each a is lower than the one before, so that each deadline is the first so far, n = 96")
             tell("inlined", 30, 1.0, "the same in every row")
             judge("inlined", 30, 1.45, "the same in every row, as it is")
             judge("called 11", 1, 0.57, "a step within Rattle, called, accepted on an idle table, n = 2, of the twin")
             judge("called 12", 1, 0.56, "the same, n = 24")
             judge("called 13", 1, 0.55, "the same, n = 96")
-            judge("called busy 96", 3, 0.75, "the same on busy tables, n = 96")
+            judge("called busy 96", 2, 0.75, "the same on busy tables, n = 96")
+            tell("called 153", 1, 0.75, "the same where each a is lower than the one before, n = 96")
+            judge("called 153", 1, 0.78, "the same, as it is")
             tell("called", 30, 1.0, "the same in every row")
             judge("library 11", 1, 0.25, "a step through the C library, accepted on an idle table, n = 2, of the twin")
             judge("library 12", 1, 0.29, "the same, n = 24")
             judge("library 13", 1, 0.45, "the same, n = 96")
             judge("library 42", 1, 0.35, "the same on a busy table, n = 24")
-            judge("library busy 96", 3, 0.70, "the same on busy tables, n = 96")
+            judge("library busy 96", 2, 0.70, "the same on busy tables, n = 96")
+            judge("library 153", 1, 0.70, "the same where each a is lower than the one before, n = 96")
             tell("library", 30, 1.0, "the same in every row")
             judge("library", 30, 1.15, "the same in every row, as it is")
             # a table that is refused with 1 is no such table: those rows are in the last of the three
@@ -67,9 +70,7 @@ goals() {
             judge("spans_beside_replay", 4, 1.05, "spans, of replay on the same recording")
             # it is 1.5 where the steps are run twice, in one byte less
             judge("spans_call", 2, 1.05, "funnelfawn_spans in as many bytes as the recording has, of funnelfawn_replay")
-            judge("deadlines but one", 29, 1.0, "a step of the second engine through the C library, of the first, in every row but one")
-            tell("deadlines", 30, 1.0, "the same in every row")
-            judge("deadlines", 30, 1.03, "the same in every row, as it is")
+            judge("deadlines", 30, 1.0, "a step of the second engine through the C library, of the first, in every row")
             judge("deadlines_within idle", 7, 1.0, "a step of the second engine within Rattle, inlined, on an idle table that is sound, of the first")
             tell("deadlines_within", 30, 1.0, "the same in every row")
             judge("deadlines_within", 30, 1.42, "the same in every row, as it is")
