@@ -64,7 +64,8 @@ goals() {
             judge("recorded busy", 10, 0.70, "the same on busy tables, sound or not, every n")
             judge("recorded", 30, 1.0, "the same in every row")
             judge("recorded accepted", 12, 0.60, "the same where it accepts and nobody sells, the clock moving or not, every n")
-            judge("recorded_within accepted", 12, 0.60, "a recorded step within Rattle, accepted while nobody sells, every n, of the reference")
+            tell("recorded_within accepted", 12, 0.60, "a recorded step within Rattle, accepted while nobody sells, every n, of the reference")
+            judge("recorded_within accepted", 12, 0.65, "the same, as it is")
             judge("replay", 4, 0.6, "replay, of the reference")
             judge("spans", 4, 0.8, "spans, of the reference")
             judge("spans_beside_replay", 4, 1.05, "spans, of replay on the same recording")
@@ -76,8 +77,8 @@ goals() {
             judge("deadlines_within", 30, 1.42, "the same in every row, as it is")
             judge("board", 8, 1.0, "a board through the C library, in every row, of the reference")
             judge_number(dearest, empty == 2 && dearest < 200, "an empty board, adding or showing: less than 200 instructions")
-            # 16,374 before the second engine came
-            judge_number(archive, archive > 0 && archive <= 20500, "the archive: at most 20,500 bytes of code and constants")
+            # 20,147 before each window had an a of its own
+            judge_number(archive, archive > 0 && archive <= 26500, "the archive: at most 26,500 bytes of code and constants")
             for (k = 1; k <= 3; k++) judge_number(stack[k], stack[k] > 0 && stack[k] < 1024, called[k] ": less than 1,024 bytes of stack")
             exit missed
         }' "$work/rows"
