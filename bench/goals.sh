@@ -74,7 +74,7 @@ goals() {
             judge("deadlines", 30, 1.0, "a step of the second engine through the C library, of the first, in every row")
             judge("deadlines_within idle", 7, 1.0, "a step of the second engine within Rattle, inlined, on an idle table that is sound, of the first")
             tell("deadlines_within", 30, 1.0, "the same in every row")
-            judge("deadlines_within", 30, 1.42, "the same in every row, as it is")
+            judge("deadlines_within", 30, 1.38, "the same in every row, as it is")
             judge("board", 8, 1.0, "a board through the C library, in every row, of the reference")
             judge_number(dearest, empty == 2 && dearest < 200, "an empty board, adding or showing: less than 200 instructions")
             # 20,147 before each window had an a of its own
