@@ -1,4 +1,4 @@
-//! What a call for a fresh table, or a writing, is handed: n, b, c, and a list of values of a, of any length and with any numbers.
+//! What is handed to the calls that make a table or write a recording: n, b, c, and a list of values of a, of any length and with any numbers.
 
 use crate::acts::any_number;
 use crate::sights::{Sight, Sights};

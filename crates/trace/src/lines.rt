@@ -1,4 +1,4 @@
-// The lines of a recording, taken apart field by field, and the first lines as a whole: what fails is the last that is looked at, and
+// The fields of a recording's lines, read one after the other, and the first lines as a whole: what fails is the last that is looked at, and
 // what is left of the text goes to the next reader.
 use model::Field;
 use model::Limits;
