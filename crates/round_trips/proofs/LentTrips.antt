@@ -6,14 +6,19 @@ use mathlib.Core.List.{List}
 use native.Mathlib.Omega.{arith}
 use lib.Dec.{ltb, eqb}
 use lib.ListN.{length, drop}
-use borrow.Author.Tests.{eq-eqb, not-true}
+use borrow.Author.Tests.{eq-eqb, eqb-false, not-true}
 use Rattle.model.specs.declared.Parameters.{Parameters}
+use Rattle.model.specs.declared.Answer.{Answer}
+use Rattle.model.specs.declared.Scan.{Scan}
+use Rattle.model.specs.declared.Reading.{Reading}
 use Rattle.model.specs.States.{parametersOf, limitsIn, countStands, limitsStand}
-use Rattle.model.specs.Readings.{Lists, over, Read, readOf}
+use Rattle.model.specs.Readings.{Lists, over, scannedOf, Read, readingFrom, readOf}
+use Rattle.model.specs.Answers.{freshOf}
+use Rattle.model.specs.Executions.{startedOf}
 use Rattle.model.specs.Writings.{eventsOf, writeOf}
 use Rattle.grammar.specs.RoundTrips.{firstOf}
 use Rattle.trace.specs.ReadingTo.{ReadTo, readToOf}
-use Rattle.round_trips.specs.LentTrips.{parametersTold, eventsTold, TellsRead, ReadToTells, ReadToThenWrite}
+use Rattle.round_trips.specs.LentTrips.{parametersTold, eventsTold, TellsRead, ReadToTells, ReadToThenWrite, ReadToThenFresh}
 use Rattle.model.proofs.Tests.{by-cond, clash, and-true-iff}
 use Rattle.model.proofs.OwnLimits.{limits-parts, limits-whole}
 use Rattle.grammar.proofs.Answers.{read-tells, read-iff}
@@ -53,3 +58,17 @@ pub read-to-then-write : ReadToThenWrite
 read-to-then-write text a l out s z h =
     let t = read-to-tells text a l z in
     same-written out t ∙ read-then-write text l out s (ap (λ x. x .code) (sym (t .answer)) ∙ z) h
+
+-- what a reading tells of a scan that found a trace
+parameters-kept : (r : Scan) → readingFrom r .answer .code ≡ 0 → readingFrom r .parameters ≡ r .parameters
+parameters-kept r =
+    by-cond (λ (x : Reading). x .answer .code ≡ 0 → x .parameters ≡ r .parameters) (eqb (r .code) 0)
+    (λ _ _. refl)
+    (λ e z. absurd (eqb-false (r .code) 0 e z))
+
+pub read-to-then-fresh : ReadToThenFresh
+unfolding readOf startedOf
+read-to-then-fresh text a l z =
+    let t = read-to-tells text a l z in
+    ap (λ (k : Parameters). freshOf k .state)
+    (t .parameters ∙ parameters-kept (scannedOf text l .scan) (ap (λ (x : Answer). x .code) (sym (t .answer)) ∙ z))
