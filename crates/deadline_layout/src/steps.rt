@@ -83,6 +83,9 @@ fn stands_at(entries: &[u64], limits: &[u64], i: usize, b: u64, scene: Scene) ->
     if stage == CHECKING {
         return are_of_arrival(entries, at, scene.clock, b, scene.c);
     }
+    if stage < CRITICAL {
+        return are_of_arrival(entries, at, scene.clock, 0, limits[i]);
+    }
     if stage == CRITICAL {
         return are_zero(0, first_at(entries, at), last_at(entries, at));
     }

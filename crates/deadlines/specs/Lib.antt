@@ -1,3 +1,4 @@
 pub mod Deadlines
 pub mod Matching
 pub mod Looks
+pub mod Search

@@ -17,6 +17,7 @@ use rules::answers::judge;
 use rules::answers::slot_of;
 use rules::limits::numbers_stand;
 use rules::stages::REMAINDER;
+use rules::survey::due_so_far;
 use rules::survey::empty;
 use rules::survey::scene_of;
 use values::answer_with;
@@ -150,7 +151,7 @@ pub fn step(mut state: DeadlineState, action: u64, process: u64, time: u64) -> D
         let here = (at as u64) + 1;
         let limit = limit_of(&state.parameters.a, here);
         if here <= n {
-            if is_settled_at(location, found.due, clock, limit) {
+            if is_settled_at(location, due_so_far(found, clock), clock, limit) {
                 at += 1;
                 continue;
             }

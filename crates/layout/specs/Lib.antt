@@ -5,3 +5,4 @@ pub mod Interface
 pub mod Places
 pub mod Steps
 pub mod Countings
+pub mod Search

@@ -61,14 +61,18 @@ module _ (k : Parameters) (e : limitsStand k ≡ true) where
   pub limit-zero : (j : ℕ) → k .n ≤ j → getD (k .a) j 0 ≡ 0
   limit-zero j h = if-lt j 96 (λ g. (simp tests at (stands-at j g)) .1 (omega arith)) (past-end j)
 
-  -- whichever process has it, no a is past what a check may take
-  pub limit-fits : (i : ℕ) → limitIn k i ≤ 10_000_000
+  -- whichever process has it, no a is past c
+  pub limit-held : (i : ℕ) → limitIn k i ≤ k .c
   unfolding limitAt
-  limit-fits i =
+  limit-held i =
       let parts = limits-parts k e in
       if-lt (i - 1) (k .n)
       (λ h. if-lt (i - 1) 96 (λ g. omega (arith, limit-within (i - 1) h g)) (λ g. omega (arith, past-end (i - 1) g)))
       (λ h. omega (arith, limit-zero (i - 1) h))
+
+  -- nor past the most that c may be
+  pub limit-fits : (i : ℕ) → limitIn k i ≤ 10_000_000
+  limit-fits i = omega (arith, limit-held i, limits-parts k e .most)
 
 -- The largest
 

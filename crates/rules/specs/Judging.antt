@@ -16,6 +16,7 @@ use Rattle.model.specs.Actions.{row, transitionOf}
 use Rattle.model.specs.Answers.{answerOf, beyond, unknown, misnamed}
 use Rattle.rules.specs.declared.survey.Scene.{Scene}
 use Rattle.rules.specs.declared.survey.Survey.{Survey}
+use Rattle.rules.specs.Survey.{dueSoFar}
 
 -- The row of an action
 
@@ -60,6 +61,10 @@ turnJudged others p place release t act m =
     (cond (eqb act checkAct && ltb m release) (answerOf 10 p release)
     (answerOf 0 (lowestOf others p (t .to)) m))
 
+-- [4.8] [4.85] there is a first deadline, and a time from the clock on is past it
+abbrev pub overdue : Survey → ℕ → ℕ → Bool
+overdue f clock m = not (eqb (f .process) 0) && ltb (f .left) (m - clock)
+
 -- helper: any action, from what the pass found
 unfoldable pub judged : Survey → Scene → ℕ → ℕ → Transition → ℕ → ℕ → Answer
 judged f x place release t act m =
@@ -68,6 +73,6 @@ judged f x place release t act m =
     (cond (beyond m) (answerOf 5 0 0)
     (cond (unknown act) (answerOf 6 0 0)
     (cond (misnamed (x .n) act (x .acting)) (answerOf 7 0 0)
-    (cond (ltb (f .due) m) (answerOf 8 (f .process) (f .due))
+    (cond (overdue f (x .clock) m) (answerOf 8 (f .process) (dueSoFar (x .clock) f))
     (cond (eqb act waitAct) (answerOf 0 (f .critical) m)
     (turnJudged (f .critical) (x .acting) place release t act m)))))))

@@ -1,6 +1,6 @@
 -- What a look at each of the entries finds, one after the other. `proofs/` relates these definitions, which hand over no state, to those
 -- of the model, and `layout/proofs/Looks` those of an entry in numbers to those of its location. Assumes nothing.
-use Prim.Native.Nat.{ℕ, _+_, _%_, _^_}
+use Prim.Native.Nat.{ℕ, _+_, _-_, _%_, _^_}
 use mathlib.Core.Bool.{Bool, cond, not, _&&_}
 use lib.Dec.{leb, ltb, eqb}
 use Rattle.model.specs.declared.Location.{Location}
@@ -22,19 +22,19 @@ sceneWith n c clock acting = record { n = n; c = c; clock = clock; acting = acti
 abbrev pub sceneOf : Parameters → ℕ → ℕ → Scene
 sceneOf k clock acting = sceneWith (k .n) (k .c) clock acting
 
--- helper: the deadline where there is none: after all times
+-- helper: the time left where there is no deadline: more than any stay has, and the most that 32 bits hold
 abbrev pub endless : ℕ
-endless = 18446744073709551615
+endless = 4294967295
 
 -- helper: before the first entry
 abbrev pub nothing : Survey
-nothing = record { faulty = 0; process = 0; due = endless; critical = 0 }
+nothing = record { faulty = 0; left = endless; process = 0; critical = 0 }
 
 -- One entry more, that of process k
 
 -- helper: it is not sound
 abbrev pub faulted : Survey → Survey
-faulted f = record { faulty = 1; process = f .process; due = f .due; critical = f .critical }
+faulted f = record { faulty = 1; left = f .left; process = f .process; critical = f .critical }
 
 -- helper: the table is not sound, whatever was seen of its entries
 abbrev pub unsound : Survey
@@ -42,11 +42,11 @@ unsound = faulted nothing
 
 -- helper: it is critical, and the lowest so far
 abbrev pub criticalAt : ℕ → Survey → Survey
-criticalAt k f = record { faulty = f .faulty; process = f .process; due = f .due; critical = k }
+criticalAt k f = record { faulty = f .faulty; left = f .left; process = f .process; critical = k }
 
--- helper: its deadline comes first so far
+-- [4.85] its deadline comes first so far, and so long after the clock
 abbrev pub firstAt : ℕ → ℕ → Survey → Survey
-firstAt k due f = record { faulty = f .faulty; process = k; due = due; critical = f .critical }
+firstAt k left f = record { faulty = f .faulty; left = left; process = k; critical = f .critical }
 
 -- helper: it is critical; the acting process is left out
 abbrev pub criticalNoted : ℕ → ℕ → Survey → Survey
@@ -56,9 +56,13 @@ criticalNoted acting k f = cond (eqb k acting) f (cond (not (eqb (f .critical) 0
 abbrev pub dueFrom : ℕ → ℕ → ℕ
 dueFrom since limit = (since + limit) % 2 ^ 64
 
--- helper: it has a deadline, which is held against the first so far
+-- [4.85] the first deadline so far, or where there is none a time that no stay reaches; the sum of a clock that does not stand may wrap
+abbrev pub dueSoFar : ℕ → Survey → ℕ
+dueSoFar clock f = dueFrom clock (f .left)
+
+-- [4.85] it has a deadline, which is held against the first so far
 abbrev pub dueNoted : ℕ → ℕ → ℕ → Survey → Survey
-dueNoted clock k due f = cond (leb (f .due) due) f (cond (ltb due clock) unsound (firstAt k due f))
+dueNoted clock k due f = cond (leb (dueSoFar clock f) due) f (cond (ltb due clock) unsound (firstAt k (due - clock) f))
 
 -- helper: it came at `since` and may stay for `limit`
 abbrev pub timedNoted : ℕ → ℕ → ℕ → ℕ → Survey → Survey

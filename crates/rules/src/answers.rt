@@ -9,6 +9,7 @@ use crate::stages::since_of;
 use crate::stages::stage_of;
 use crate::survey::Scene;
 use crate::survey::Survey;
+use crate::survey::due_so_far;
 use model::Answer;
 use model::Location;
 use model::Transition;
@@ -119,8 +120,10 @@ pub fn judge(
     if is_misnamed(scene.n, action, scene.acting) {
         return answer_with(7, 0, 0);
     }
-    if found.due < time {
-        return answer_with(8, found.process, found.due);
+    if found.process != 0 {
+        if (found.left as u64) < time - scene.clock {
+            return answer_with(8, found.process, due_so_far(found, scene.clock));
+        }
     }
     if action == WAIT {
         return answer_with(0, found.critical, time);

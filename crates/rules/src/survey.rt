@@ -8,7 +8,8 @@ use crate::stages::stage_of;
 use model::Location;
 use std::num::wrapping_add_u64;
 ghost use mathlib.Core.Path.{_≡_};
-ghost use Rattle.rules.specs.Survey.{sceneWith, nothing, unsound, faulted, criticalNoted, dueNoted, timedNoted, noted, laterNoted, numbersNoted};
+ghost use Rattle.rules.specs.Survey.{sceneWith, nothing, unsound, faulted, criticalNoted, dueSoFar, dueNoted, timedNoted};
+ghost use Rattle.rules.specs.Survey.{noted, laterNoted, numbersNoted};
 
 // What a look at an entry, and the judgement after all of them, need besides: the numbers that all entries share, and who acts.
 pub struct Scene {
@@ -29,25 +30,27 @@ pub fn scene_of(n: u64, c: u64, clock: u64, acting: u64) -> Scene
     }
 }
 
-// The fields are numbers only: a bool leaves padding, which each turn of the pass would copy.
+// The two numbers of 32 bits stand side by side, before those of 64: where padding is left between fields, each turn of the pass copies it, and
+// a busy entry costs two thirds more.
 pub struct Survey {
     // 0 where the entries up to here are sound, else 1
-    pub faulty: u64,
-    // the process whose deadline comes first, the lowest of equals, and that deadline
+    pub faulty: u32,
+    // [4.85] how long after the clock the first deadline comes
+    pub left: u32,
+    // the process whose deadline that is, the lowest of equals
     pub process: u64,
-    pub due: u64,
     // the lowest critical process besides the acting one, 0 where there is none
     pub critical: u64,
 }
 
-// Before the first entry: no process, and a deadline after all times.
+// Before the first entry: no process, and more time left than any stay has.
 pub fn empty() -> Survey
     ensures { λ r. ⌜ r ≡ nothing ⌝ }
 {
     Survey {
         faulty: 0,
+        left: 4294967295,
         process: 0,
-        due: 18446744073709551615,
         critical: 0,
     }
 }
@@ -57,8 +60,8 @@ fn with_fault(found: Survey) -> Survey
 {
     Survey {
         faulty: 1,
+        left: found.left,
         process: found.process,
-        due: found.due,
         critical: found.critical,
     }
 }
@@ -70,30 +73,40 @@ pub fn fault() -> Survey
     with_fault(empty())
 }
 
-// A critical process: the lowest of them counts, besides the acting one.
+// A critical process: the lowest of them counts, besides the acting one. The acting one is held against the lowest and not against the process
+// itself: else the pass by value works out their difference at each busy entry.
 pub fn note_critical(found: Survey, acting: u64, process: u64) -> Survey
     ensures { λ r. ⌜ r ≡ criticalNoted acting process found ⌝ }
 {
-    if process == acting {
-        return found;
+    let mut lowest = found.critical;
+    if lowest == 0 {
+        lowest = process;
     }
-    if found.critical != 0 {
+    if lowest == acting {
         return found;
     }
     Survey {
         faulty: found.faulty,
+        left: found.left,
         process: found.process,
-        due: found.due,
-        critical: process,
+        critical: lowest,
     }
 }
 
-// [4.8] The search for the first deadline: one that is not sooner than the first so far is done with after one test, as the first is not
-// before the clock, so neither is this one. A fault is another value than what was found: so that stays in registers.
+// [4.8] [4.85] The first deadline so far, from the time that is left; the sum may wrap where the clock does not stand.
+pub fn due_so_far(found: Survey, clock: u64) -> u64
+    ensures { λ r. ⌜ r ≡ dueSoFar clock found ⌝ }
+{
+    wrapping_add_u64(clock, found.left as u64)
+}
+
+// [4.8] [4.85] The search for the first deadline: one that is not sooner than the first so far is done with after one test, as the first is not
+// before the clock, so neither is this one. What is left past both tests is less than the time left so far: so it fits, whatever the limits
+// are. A fault is another value than what was found: so that stays in registers.
 pub fn note_due(found: Survey, clock: u64, process: u64, due: u64) -> Survey
     ensures { λ r. ⌜ r ≡ dueNoted clock process due found ⌝ }
 {
-    if found.due <= due {
+    if due_so_far(found, clock) <= due {
         return found;
     }
     if due < clock {
@@ -101,8 +114,8 @@ pub fn note_due(found: Survey, clock: u64, process: u64, due: u64) -> Survey
     }
     Survey {
         faulty: found.faulty,
+        left: (due - clock) as u32,
         process: process,
-        due: due,
         critical: found.critical,
     }
 }

@@ -1,0 +1,17 @@
+-- The search for the first deadline over a lent deadline table, [4.85]: what `survey_table` finds of one that tells a sound state of deadlines.
+-- Assumes nothing.
+use Prim.Native.Nat.{ℕ}
+use mathlib.Core.Path.{_≡_}
+use mathlib.Core.Bool.{true}
+use mathlib.Core.List.{List}
+use lib.ListN.{take}
+use Rattle.rules.specs.Search.{TellsFirst}
+use Rattle.deadlines.specs.Deadlines.{firstLast}
+use Rattle.deadline_layout.specs.Encodings.{deadlineLength, deadlineTableIn, isSoundDeadlineTable}
+use Rattle.deadline_layout.specs.Steps.{surveyWith}
+
+-- [4.85] [12.130]
+abbrev pub DeadlineTableSearchTellsFirst : Type 0
+DeadlineTableSearchTellsFirst = (l : List ℕ) (acting : ℕ) → isSoundDeadlineTable l ≡ true
+    → TellsFirst (deadlineTableIn l .clock) (deadlineTableIn l .parameters .c) (firstLast (deadlineTableIn l))
+    (surveyWith (take deadlineLength l) acting)
