@@ -16,6 +16,7 @@ use Rattle.model.proofs.Locations.{stage-location}
 pub record SoundNumbers (s : State) : Type 0 where
   pub count : s .parameters .n ≤ 96
   pub limit : s .parameters .b ≤ 10_000_000
+  pub check : s .parameters .c ≤ 10_000_000
   pub clock : s .clock ≤ lastTime
 
 pub sound-numbers : (s : State) → soundOf s ≡ true → SoundNumbers s

@@ -1,6 +1,6 @@
 -- The step of the model goes with the answer that the code judges on numbers, condition by condition; and the exits of the function
 -- give that step. Assumes nothing.
-use Prim.Native.Nat.{ℕ, _+_, _-_, _≤_}
+use Prim.Native.Nat.{ℕ, _+_, _-_, _^_, _≤_, _<_}
 use mathlib.Core.Path.{_≡_, refl, sym, ap, _∙_}
 use mathlib.Core.Logic.{_≢_}
 use mathlib.Core.Bool.{Bool, true, false, cond, not, _&&_, _||_}
@@ -8,7 +8,7 @@ use native.Mathlib.Omega.{arith}
 use native.Mathlib.Nat.{mod-eq-of-lt}
 use lib.Dec.{ltb, eqb}
 use lib.ListN.{length, set}
-use borrow.Author.Tests.{ltb-true, ltb-false, le-ltb, eq-eqb, ne-eqb, eqb-true, not-false}
+use borrow.Author.Tests.{ltb-false, lt-ltb, le-ltb, eq-eqb, ne-eqb, eqb-true, not-false}
 use Rattle.model.specs.declared.Location.{Location}
 use Rattle.model.specs.declared.State.{State}
 use Rattle.model.specs.declared.Transition.{Transition}
@@ -22,10 +22,10 @@ use Rattle.model.specs.Answers.{answerOf, answers, backward, beyond, unknown, m
 use Rattle.model.specs.Answers.{criticalOf, accepts, stepOf}
 use Rattle.rules.specs.declared.survey.Scene.{Scene}
 use Rattle.rules.specs.declared.survey.Survey.{Survey}
-use Rattle.rules.specs.Survey.{sceneOf}
-use Rattle.rules.specs.Judging.{lowestOf, checkFrom, turnJudged, judged}
+use Rattle.rules.specs.Survey.{sceneOf, dueSoFar}
+use Rattle.rules.specs.Judging.{lowestOf, checkFrom, turnJudged, overdue, judged}
 use Rattle.model.proofs.Soundness.{sound-numbers, sound-past}
-use Rattle.model.proofs.Tests.{by-test, if-eq, tests}
+use Rattle.model.proofs.Tests.{by-test, if-eq, if-lt, tests}
 use Rattle.model.proofs.Rows.{row-leaves}
 use Rattle.rules.proofs.Critical.{others-all, others-moved}
 use Rattle.rules.proofs.Notes.{Finds, none, one}
@@ -54,15 +54,20 @@ refusal n = refuses refl n
 
 -- The first deadline against the time
 
-module _ {process time m : ℕ} (h : m ≤ lastTime) where
-  missed-is : {d : Due} → Finds process time d → missed d m ≡ ltb time m
-  missed-is (none z e) = sym (le-ltb time m (omega (arith, e)))
-  missed-is (one n) = rw (ne-eqb process 0 n)
+module _ (s : State) (m : ℕ) (f : Survey) (from : s .clock ≤ m) where
+  past-is : ltb (s .clock + f .left) m ≡ ltb (f .left) (m - s .clock)
+  past-is =
+      if-lt (s .clock + f .left) m (λ h. lt-ltb _ _ h ∙ sym (lt-ltb (f .left) (m - s .clock) (omega arith)))
+      (λ h. le-ltb _ _ h ∙ sym (le-ltb (f .left) (m - s .clock) (omega arith)))
 
-  missed-goes : {s : State} {act p : ℕ} {d : Due} → Finds process time d → ltb time m ≡ true
-      → Goes s act p m (answers 8 (d .process) (d .time) s) (answerOf 8 process time)
-  missed-goes (none z e) late = absurd (omega (arith, e, ltb-true time m late))
-  missed-goes (one n) late = refusal (λ z. omega arith)
+  missed-is : {d : Due} → Finds s (f .process) (f .left) d → missed d m ≡ overdue f (s .clock) m
+  missed-is (none z e) = simp (eq-eqb (f .process) 0 z)
+  missed-is (one n w) = rw past-is
+
+  missed-goes : s .clock + s .parameters .c < 2 ^ 64 → {act p : ℕ} {d : Due} → Finds s (f .process) (f .left) d → overdue f (s .clock) m ≡ true
+      → Goes s act p m (answers 8 (d .process) (d .time) s) (answerOf 8 (f .process) (dueSoFar (s .clock) f))
+  missed-goes fit (none z e) late = absurd ((simp tests at late) .0 z)
+  missed-goes fit (one n w) late = let e : dueSoFar (s .clock) f ≡ s .clock + f .left = mod-eq-of-lt (omega arith) in rw e (refusal (λ z. omega arith))
 
 -- A sound state
 
@@ -140,11 +145,12 @@ module _ (s : State) (act p m : ℕ) (f : Survey) (found : Whole s p f) (size : 
         by-both (not (soundOf s)) (not (eqb (f .faulty) 0)) (ap not (found .sound ∙ sym (eq-eqb _ 0 (found .faultless))))
         (λ _. refusal (λ z. omega arith))
         (λ _. by-both (backward (s .clock) m) _ refl (λ _. refusal (λ z. omega arith))
-        (λ _. by-both (beyond m) _ refl (λ _. refusal (λ z. omega arith))
-        (λ within. let h : m ≤ lastTime = ltb-false lastTime m within in
-        by-both (unknown act) _ refl (λ _. refusal (λ z. omega arith))
+        (λ onward. let from : s .clock ≤ m = ltb-false m (s .clock) onward in
+        by-both (beyond m) _ refl (λ _. refusal (λ z. omega arith))
+        (λ _. by-both (unknown act) _ refl (λ _. refusal (λ z. omega arith))
         (λ known. by-both (misnamed (s .parameters .n) act p) _ refl (λ _. refusal (λ z. omega arith))
-        (λ named. by-both (missed (firstDeadline s) m) _ (missed-is h (found .finds)) (missed-goes h (found .finds))
+        (λ named. by-both (missed (firstDeadline s) m) _ (missed-is s m f from (found .finds))
+        (missed-goes s m f from (omega (arith, sound-numbers s (found .sound))) (found .finds))
         (λ _. past-late (ltb-false lastAct act known) named))))))
 
 -- Any state

@@ -5,3 +5,4 @@ pub mod Rows
 pub mod Slots
 pub mod Pass
 pub mod Judged
+pub mod Search

@@ -1,6 +1,6 @@
--- One entry of the pass: what a note of it finds, in the terms of the model's searches. The first deadline so far is not before the
--- clock, and no turn finds one that is: so a deadline that is not sooner is not past either. Assumes nothing.
-use Prim.Native.Nat.{ℕ, _+_, _≤_, _<_}
+-- One entry of the pass: what a note of it finds, in the terms of the model's searches. The first deadline so far is held as the time left to
+-- it, so it is not before the clock: a deadline that is not sooner is not past either. Assumes nothing.
+use Prim.Native.Nat.{ℕ, _+_, _-_, _≤_, _<_}
 use mathlib.Core.Path.{_≡_, refl, _∙_}
 use mathlib.Core.Logic.{_≢_}
 use mathlib.Core.Bool.{true, false, cond, not}
@@ -13,23 +13,24 @@ use Rattle.model.specs.declared.Location.the-variants.{Remainder, Testing, Sett
 use Rattle.model.specs.declared.Process.{Process}
 use Rattle.model.specs.declared.State.{State}
 use Rattle.model.specs.Stages.{remainder, checking, critical}
-use Rattle.model.specs.States.{bounded, entry, stageOf, sinceOf, timed, limitOf, deadline, entrySound}
+use Rattle.model.specs.States.{lastTime, bounded, entry, stageOf, sinceOf, timed, limitOf, deadline, entrySound}
 use Rattle.model.specs.Answers.{Due, due, noneDue, sooner}
 use Rattle.rules.specs.declared.survey.Survey.{Survey}
-use Rattle.rules.specs.Survey.{sceneOf, endless, faulted, criticalAt, firstAt, dueFrom, dueNoted, timedNoted, criticalNoted, noted}
+use Rattle.rules.specs.Survey.{sceneOf, endless, faulted, criticalAt, firstAt, dueFrom, dueSoFar, dueNoted, timedNoted, criticalNoted, noted}
 use Rattle.model.proofs.Tests.{by-cond}
 use Rattle.rules.specs.Judging.{otherCritical}
 use Rattle.rules.proofs.Entries.{stayOf, idle-sound, past-unsound, critical-sound, timed-sound}
 
--- what a survey's process and deadline tell of the first deadline so far: there is none, or they are it
-pub data Finds (process time : ℕ) : Due → Type 0 where
-  none : process ≡ 0 → time ≡ endless → Finds process time noneDue
-  one : process ≢ 0 → Finds process time (due process time)
+-- what a survey's process and time left tell of the first deadline so far: there is none, or it comes so long after the clock
+pub data Finds (s : State) (process left : ℕ) : Due → Type 0 where
+  none : process ≡ 0 → left ≡ endless → Finds s process left noneDue
+  one : process ≢ 0 → left ≤ s .parameters .c → Finds s process left (due process (s .clock + left))
 
--- a stay of process k that began at no time after the clock ends before the deadline where there is none
+-- no stay of process k is past c, and c is so small that neither a time left nor a sum is too large
 pub record Ends (s : State) (k : ℕ) : Type 0 where
-  pub limit : s .clock + limitOf s k < endless
-  pub check : s .clock + s .parameters .c < endless
+  pub clock : s .clock ≤ lastTime
+  pub limit : limitOf s k ≤ s .parameters .c
+  pub check : s .parameters .c ≤ 10_000_000
 
 -- the first of two process numbers that is not 0
 abbrev pub first : ℕ → ℕ → ℕ
@@ -39,18 +40,21 @@ first x y = cond (eqb x 0) y x
 pub record Turn (s : State) (acting k : ℕ) (q : Process) (f g : Survey) : Type 0 where
   pub faultless : g .faulty ≡ 0
   pub sound : entrySound s k q ≡ true
-  pub ahead : s .clock ≤ g .due
-  pub due-next : {d : Due} → Finds (f .process) (f .due) d
-      → Finds (g .process) (g .due) (cond (sooner (bounded s q) (deadline s k q) d) (due k (deadline s k q)) d)
+  pub narrow : g .left ≤ endless
+  pub due-next : {d : Due} → Finds s (f .process) (f .left) d
+      → Finds s (g .process) (g .left) (cond (sooner (bounded s q) (deadline s k q) d) (due k (deadline s k q)) d)
   pub critical-next : (rest : ℕ) → first (f .critical) (cond (otherCritical acting k q) k rest) ≡ first (g .critical) rest
 
 pub data Noted (s : State) (acting k : ℕ) (q : Process) (f g : Survey) : Type 0 where
   fault : entrySound s k q ≡ false → g .faulty ≢ 0 → Noted s acting k q f g
   fine : Turn s acting k q f g → Noted s acting k q f g
 
-module _ (s : State) (acting k : ℕ) (f : Survey) (so-far : f .faulty ≡ 0) (ahead : s .clock ≤ f .due) (ends : Ends s k) (some : 1 ≤ k) where
+module _ (s : State) (acting k : ℕ) (f : Survey) (so-far : f .faulty ≡ 0) (narrow : f .left ≤ endless) (ends : Ends s k) (some : 1 ≤ k) where
   abbrev NotedAs : Location → Survey → Type 0
   NotedAs l g = Noted s acting k (entry l) f g
+
+  so-far-is : dueSoFar (s .clock) f ≡ s .clock + f .left
+  so-far-is = mod-eq-of-lt (omega (arith, ends .clock))
 
   -- A timed location
 
@@ -60,54 +64,62 @@ module _ (s : State) (acting k : ℕ) (f : Survey) (so-far : f .faulty ≡ 0) (a
 
     -- of a process up to n that came at no time after the clock
     module _ (h : k ≤ s .parameters .n) (came : sinceOf l ≤ s .clock) where
-      ends-below : time < endless
-      ends-below =
-          let e : s .clock + stayOf s k l < endless =
-          by-cond (λ (x : ℕ). s .clock + x < endless) (eqb (stageOf l) checking) (λ _. ends .check) (λ _. ends .limit) in
+      ends-within : time ≤ s .clock + s .parameters .c
+      ends-within =
+          let e : stayOf s k l ≤ s .parameters .c =
+          by-cond (λ (x : ℕ). x ≤ s .parameters .c) (eqb (stageOf l) checking) (λ _. omega arith) (λ _. ends .limit) in
           omega arith
 
       fits : dueFrom (sinceOf l) (stayOf s k l) ≡ time
-      fits = mod-eq-of-lt (omega (arith, ends-below))
+      fits = mod-eq-of-lt (omega (arith, ends-within, ends .clock, ends .check))
 
       on-time : s .clock ≤ time → entrySound s k (entry l) ≡ true
       on-time a = timed-sound s k h l t ∙ simp (le-leb (sinceOf l) (s .clock) came, le-ltb time (s .clock) a)
 
       -- its deadline is not sooner than the first so far
-      later : f .due ≤ time → NotedAs l f
+      later : s .clock + f .left ≤ time → NotedAs l f
       later a = fine (record {
         faultless = so-far;
         sound = on-time (omega arith);
-        ahead = ahead;
+        narrow = narrow;
         due-next = next;
         critical-next = λ rest. rw out;
       })
         where
-          next : {d : Due} → Finds (f .process) (f .due) d
-              → Finds (f .process) (f .due) (cond (sooner (bounded s (entry l)) (deadline s k (entry l)) d) (due k time) d)
-          next (none z e) = absurd (omega (arith, e, ends-below))
-          next (one n) = rw (t, ne-eqb (f .process) 0 n, le-ltb time (f .due) a) (one n)
+          next : {d : Due} → Finds s (f .process) (f .left) d
+              → Finds s (f .process) (f .left) (cond (sooner (bounded s (entry l)) (deadline s k (entry l)) d) (due k time) d)
+          next (none z e) = absurd (omega (arith, e, ends-within, ends .check))
+          next (one n w) = rw (t, ne-eqb (f .process) 0 n, le-ltb time (s .clock + f .left) a) (one n w)
 
       -- it is, and it is not past
-      first-so-far : time < f .due → s .clock ≤ time → NotedAs l (firstAt k time f)
+      first-so-far : time < s .clock + f .left → s .clock ≤ time → NotedAs l (firstAt k (time - s .clock) f)
       first-so-far a b = fine (record {
         faultless = so-far;
         sound = on-time b;
-        ahead = b;
+        narrow = omega (arith, narrow);
         due-next = next;
         critical-next = λ rest. rw out;
       })
         where
-          next : {d : Due} → Finds (f .process) (f .due) d → Finds k time (cond (sooner (bounded s (entry l)) (deadline s k (entry l)) d) (due k time) d)
-          next (none z e) = rw t (one (λ z. omega arith))
-          next (one n) = rw (t, ne-eqb (f .process) 0 n, lt-ltb time (f .due) a) (one (λ z. omega arith))
+          found : Finds s k (time - s .clock) (due k time)
+          found =
+              let e : s .clock + (time - s .clock) ≡ time = omega arith in
+              let g : Finds s k (time - s .clock) (due k (s .clock + (time - s .clock))) = one (λ z. omega arith) (omega (arith, ends-within)) in
+              rw e at g
+
+          next : {d : Due} → Finds s (f .process) (f .left) d
+              → Finds s k (time - s .clock) (cond (sooner (bounded s (entry l)) (deadline s k (entry l)) d) (due k time) d)
+          next (none z e) = rw t found
+          next (one n w) = rw (t, ne-eqb (f .process) 0 n, lt-ltb time (s .clock + f .left) a) found
 
       came-noted : NotedAs l (dueNoted (s .clock) k time f)
       came-noted =
-          by-cond (NotedAs l) (leb (f .due) time)
-          (λ a. later (leb-true (f .due) time a))
+          rw so-far-is
+          (by-cond (NotedAs l) (leb (s .clock + f .left) time)
+          (λ a. later (leb-true (s .clock + f .left) time a))
           (λ a. by-cond (NotedAs l) (ltb time (s .clock))
           (λ b. fault (timed-sound s k h l t ∙ simp (le-leb (sinceOf l) (s .clock) came, b)) (λ z. omega arith))
-          (λ b. first-so-far (leb-false (f .due) time a) (ltb-false time (s .clock) b)))
+          (λ b. first-so-far (leb-false (s .clock + f .left) time a) (ltb-false time (s .clock) b))))
 
     timed-noted : NotedAs l (cond (ltb (s .parameters .n) k) (faulted f) (timedNoted (s .clock) k (sinceOf l) (stayOf s k l) f))
     timed-noted =
@@ -124,7 +136,7 @@ module _ (s : State) (acting k : ℕ) (f : Survey) (so-far : f .faulty ≡ 0) (a
   remainder-noted = fine (record {
     faultless = so-far;
     sound = idle-sound s k;
-    ahead = ahead;
+    narrow = narrow;
     due-next = λ d. d;
     critical-next = λ rest. refl;
   })
@@ -136,7 +148,7 @@ module _ (s : State) (acting k : ℕ) (f : Survey) (so-far : f .faulty ≡ 0) (a
   critical-turn h x next = fine (record {
     faultless = so-far;
     sound = critical-sound s k h;
-    ahead = ahead;
+    narrow = narrow;
     due-next = λ d. d;
     critical-next = next;
   })

@@ -14,10 +14,10 @@ use Rattle.model.specs.declared.State.{State}
 use Rattle.model.specs.States.{bounded, limitOf, deadline, entrySound, entriesSound, soundOf}
 use Rattle.model.specs.Answers.{Due, due, noneDue, sooner, firstFrom, firstBy, firstDeadline}
 use Rattle.rules.specs.declared.survey.Survey.{Survey}
-use Rattle.rules.specs.Survey.{sceneOf, numbersStand, nothing, noted}
+use Rattle.rules.specs.Survey.{sceneOf, numbersStand, endless, nothing, noted}
 use Rattle.model.proofs.Tests.{by-test, tests}
 use Rattle.model.proofs.Lists.{drop-at, drop-end}
-use Rattle.model.proofs.OwnLimits.{limit-fits, limits-parts}
+use Rattle.model.proofs.OwnLimits.{limit-held, limits-parts}
 use Rattle.rules.specs.Judging.{otherCritical, othersFrom}
 use Rattle.rules.proofs.Notes.{Finds, none, Ends, first, Noted, fault, fine, note-at}
 
@@ -33,12 +33,12 @@ sound-parts s = refl
 pub numbers-fault : (s : State) → standing s ≡ false → soundOf s ≡ false
 numbers-fault s e = sound-parts s ∙ rw e
 
--- with standing numbers the stays end long before the deadline where there is none
-numbers-end : (s : State) → standing s ≡ true → (k : ℕ) → Ends s k
+-- what standing numbers say of stays
+pub numbers-end : (s : State) → standing s ≡ true → (k : ℕ) → Ends s k
 unfolding numbersStand
 numbers-end s e k =
     let h = simp tests at e in
-    omega (arith, h, limit-fits (s .parameters) (h .0 .0 .1) k, limits-parts (s .parameters) (h .0 .0 .1) .most)
+    omega (arith, h, limit-held (s .parameters) (h .0 .0 .1) k, limits-parts (s .parameters) (h .0 .0 .1) .most)
 
 -- The pass
 
@@ -50,8 +50,8 @@ pub record Passed (s : State) (acting i : ℕ) (f : Survey) : Type 0 where
   pub stand : standing s ≡ true
   pub sound : entriesSound s (i + 1) (drop i (s .processes)) ≡ entriesSound s 1 (s .processes)
   pub due-yet : Due
-  pub ahead : s .clock ≤ f .due
-  pub finds : Finds (f .process) (f .due) due-yet
+  pub narrow : f .left ≤ endless
+  pub finds : Finds s (f .process) (f .left) due-yet
   pub due-left : firstFrom s (i + 1) due-yet (drop i (s .processes)) ≡ firstDeadline s
   pub critical : first (f .critical) (othersFrom acting (i + 1) (drop i (s .processes))) ≡ othersFrom acting 1 (s .processes)
 
@@ -59,7 +59,7 @@ pub record Passed (s : State) (acting i : ℕ) (f : Survey) : Type 0 where
 pub record Whole (s : State) (acting : ℕ) (f : Survey) : Type 0 where
   pub faultless : f .faulty ≡ 0
   pub sound : soundOf s ≡ true
-  pub finds : Finds (f .process) (f .due) (firstDeadline s)
+  pub finds : Finds s (f .process) (f .left) (firstDeadline s)
   pub critical : othersFrom acting 1 (s .processes) ≡ f .critical
 
 pub data Surveyed (s : State) (acting : ℕ) (f : Survey) : Type 0 where
@@ -76,7 +76,7 @@ nothing-passed s acting stand size = record {
   stand = stand;
   sound = refl;
   due-yet = noneDue;
-  ahead = omega (arith, numbers-end s stand 1 .limit);
+  narrow = omega arith;
   finds = none refl refl;
   due-left = refl;
   critical = refl;
@@ -95,7 +95,7 @@ module _ (s : State) (acting i k : ℕ) (f : Survey) (passed : Passed s acting i
   is-noted : Noted s acting (i + 1) q f g
   is-noted =
       rw (e, next)
-      (note-at s acting (i + 1) f (passed .faultless) (passed .ahead) (numbers-end s (passed .stand) (i + 1)) (omega arith) (q .location))
+      (note-at s acting (i + 1) f (passed .faultless) (passed .narrow) (numbers-end s (passed .stand) (i + 1)) (omega arith) (q .location))
 
   sound-left : entrySound s (i + 1) q && entriesSound s (i + 1 + 1) (drop (i + 1) (s .processes)) ≡ entriesSound s 1 (s .processes)
   unfolding entriesSound
@@ -133,7 +133,7 @@ module _ (s : State) (acting i k : ℕ) (f : Survey) (passed : Passed s acting i
         stand = passed .stand;
         sound = rw (t .sound) at sound-left;
         due-yet = due-next;
-        ahead = t .ahead;
+        narrow = t .narrow;
         finds = t .due-next (passed .finds);
         due-left = due-left;
         critical = sym (t .critical-next _) ∙ critical-left;
