@@ -23,8 +23,8 @@ use Rattle.model.specs.Actions.{transitionOf, moved}
 use Rattle.model.specs.Answers.{answerOf, beyond, unknown, misnamed, stepOf}
 use Rattle.rules.specs.declared.survey.Scene.{Scene}
 use Rattle.rules.specs.declared.survey.Survey.{Survey}
-use Rattle.rules.specs.Survey.{sceneOf, dueFrom}
-use Rattle.rules.specs.Judging.{lowestOf, checkFrom, turnJudged, judged}
+use Rattle.rules.specs.Survey.{sceneOf, dueFrom, dueSoFar}
+use Rattle.rules.specs.Judging.{lowestOf, checkFrom, turnJudged, overdue, judged}
 use Rattle.deadlines.specs.declared.DeadlineLocation.{DeadlineLocation}
 use Rattle.deadlines.specs.declared.DeadlineLocation.the-variants as with
 use Rattle.deadlines.specs.declared.DeadlineProcess.{DeadlineProcess}
@@ -72,7 +72,7 @@ module _ (f : Survey) (x : Scene) (place release other : ℕ) (t : Transition) (
   judged-same =
       cond-same (answerOf 1 0 0) (not (eqb (f .faulty) 0)) (λ _. cond-same (answerOf 4 0 (x .clock)) (ltb m (x .clock)) (λ _.
       cond-same (answerOf 5 0 0) (beyond m) (λ _. cond-same (answerOf 6 0 0) (unknown act) (λ known.
-      cond-same (answerOf 7 0 0) (misnamed (x .n) act (x .acting)) (λ named. cond-same (answerOf 8 (f .process) (f .due)) (ltb (f .due) m) (λ _.
+      cond-same (answerOf 7 0 0) (misnamed (x .n) act (x .acting)) (λ named. cond-same (answerOf 8 (f .process) (dueSoFar (x .clock) f)) (overdue f (x .clock) m) (λ _.
       cond-same (answerOf 0 (f .critical) m) (eqb act waitAct) (λ some. cond-same (answerOf 9 (x .acting) 0) (not (eqb place (t .from)))
       (λ placed. ends-same known named (eqb-false act waitAct some) (not-false _ placed)))))))))
 

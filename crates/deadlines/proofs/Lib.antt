@@ -1,3 +1,4 @@
 pub mod Matched
 pub mod Passing
 pub mod Judging
+pub mod Search

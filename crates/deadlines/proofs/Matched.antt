@@ -200,7 +200,7 @@ module _ (s : State) where
   unfolding criticalWith criticalOf
   critical-with-same = critical-same 1 (s .processes)
 
-  first-last-same : firstLast (matched s) ≡ firstDeadline s
+  pub first-last-same : firstLast (matched s) ≡ firstDeadline s
   unfolding firstLast firstDeadline
   first-last-same = first-same 1 _ (s .processes)
 

@@ -17,7 +17,7 @@ use Rattle.model.specs.Stages.{remainder, checking, critical}
 use Rattle.model.specs.States.{idle, limitIn}
 use Rattle.rules.specs.declared.survey.Scene.{Scene}
 use Rattle.rules.specs.declared.survey.Survey.{Survey}
-use Rattle.rules.specs.Survey.{numbersStand, sceneOf, nothing, unsound, dueFrom, dueNoted, timedNoted, noted}
+use Rattle.rules.specs.Survey.{numbersStand, sceneOf, endless, nothing, unsound, dueFrom, dueSoFar, dueNoted, timedNoted, noted}
 use Rattle.deadlines.specs.declared.DeadlineLocation.{DeadlineLocation}
 use Rattle.deadlines.specs.declared.DeadlineLocation.the-variants as with
 use Rattle.deadlines.specs.declared.DeadlineProcess.{DeadlineProcess}
@@ -68,7 +68,7 @@ small d e =
 -- What is settled leaves what was found, where no sum wraps and the last time is a number of 64 bits
 
 pub settled-leaves : (clock k first last opens closes : ℕ) (f : Survey) → clock + opens < 2 ^ 64 → closes < 2 ^ 64 → last < 2 ^ 64
-    → settledBy (f .due) clock first last opens closes ≡ true → boundsNoted clock k first last opens closes f ≡ f
+    → settledBy (dueSoFar clock f) clock first last opens closes ≡ true → boundsNoted clock k first last opens closes f ≡ f
 unfolding settledBy boundsNoted
 settled-leaves clock k first last opens closes f o c fit e =
     let h = simp tests at e in
@@ -81,7 +81,7 @@ settled-leaves clock k first last opens closes f o c fit e =
       le-ltb clock (backFrom last closes) (h .0 .1),
       due,
       eq-eqb last last refl,
-      le-leb (f .due) last (h .0 .0),
+      le-leb (dueSoFar clock f) last (h .0 .0),
     )
 
 -- One entry, that of process i
@@ -94,7 +94,7 @@ data Times (sound : Bool) (g h : Survey) : Type 0 where
   bad : sound ≡ false → g .faulty ≢ 0 → Times sound g h
   good : sound ≡ true → g ≡ h → g .faulty ≡ 0 → Times sound g h
 
-module _ (d : DeadlineState) (acting i : ℕ) (f : Survey) (stand : standingWith d ≡ true) (so-far : f .faulty ≡ 0) (ahead : d .clock ≤ f .due) where
+module _ (d : DeadlineState) (acting i : ℕ) (f : Survey) (stand : standingWith d ≡ true) (so-far : f .faulty ≡ 0) (narrow : f .left ≤ endless) where
   abbrev k : Parameters
   k = d .parameters
 
@@ -115,16 +115,22 @@ module _ (d : DeadlineState) (acting i : ℕ) (f : Survey) (stand : standingWith
       fits : since ≤ d .clock → dueFrom since closes ≡ since + closes
       fits h = mod-eq-of-lt (omega (arith, small d stand .clock))
 
+      -- the first deadline so far is not before the clock
+      ahead : d .clock ≤ dueSoFar (d .clock) f
+      ahead =
+          let e : dueSoFar (d .clock) f ≡ d .clock + f .left = mod-eq-of-lt (omega (arith, small d stand .clock)) in
+          rw e (omega arith)
+
       -- the arrival is not after the clock, and the last time is the one of that arrival
       told : opens ≤ first → since ≤ d .clock → last ≡ since + closes → Times areSound (dueNoted (d .clock) i last f) found
       told below past e =
           if-lt last (d .clock)
           (λ h. bad (refuted (λ t. omega (arith, simp tests at t)))
-          (rw (lt-leb (f .due) last (omega (arith, ahead)), lt-ltb last (d .clock) h) (λ z. omega arith)))
+          (rw (lt-leb (dueSoFar (d .clock) f) last (omega (arith, ahead)), lt-ltb last (d .clock) h) (λ z. omega arith)))
           (λ h. good
           (simp (eq-eqb first (since + opens) (omega arith), eq-eqb last (since + closes) e, le-leb since (d .clock) past, le-ltb last (d .clock) h))
           (rw (le-ltb (d .clock) since past, fits past, sym e))
-          (rw (le-ltb last (d .clock) h) (by-cond (λ (g : Survey). g .faulty ≡ 0) (leb (f .due) last) (λ _. so-far) (λ _. so-far))))
+          (rw (le-ltb last (d .clock) h) (by-cond (λ (g : Survey). g .faulty ≡ 0) (leb (dueSoFar (d .clock) f) last) (λ _. so-far) (λ _. so-far))))
 
       times-noted : Times areSound (boundsNoted (d .clock) i first last opens closes f) found
       unfolding boundsNoted
@@ -190,7 +196,7 @@ module _ (d : DeadlineState) (acting i : ℕ) (f : Survey) (stand : standingWith
       timed-looked (with.Leaving a z) 0 (limitIn k i) (small d stand .limit i) refl (λ h. up-to (ltb-false _ _ h) (with.Leaving a z)) (λ h. rw h)
 
   -- a location that is settled, of a process up to n
-  pub settled-noted : (q : DeadlineLocation) → i ≤ k .n → lastOf q < 2 ^ 64 → settledAt (f .due) (d .clock) (limitIn k i) q ≡ true
+  pub settled-noted : (q : DeadlineLocation) → i ≤ k .n → lastOf q < 2 ^ 64 → settledAt (dueSoFar (d .clock) f) (d .clock) (limitIn k i) q ≡ true
       → locationNoted scene i q (k .b) (limitIn k i) f ≡ f
   unfolding locationNoted
   settled-noted q h fit e =
@@ -234,8 +240,8 @@ module _ (d : DeadlineState) (acting i j : ℕ) (f : Survey) (so-far : PassedWit
   next-entry : drop i (d .processes) ≡ q ∷ drop (i + 1) (d .processes)
   next-entry = drop-at (d .processes) i other (omega (arith, long))
 
-  is-looked : Looked d acting (i + 1) f (so-far .passed .stand) (so-far .passed .faultless) (so-far .passed .ahead) (q .location) g
-  is-looked = rw (e, next) (look-at d acting (i + 1) f (so-far .passed .stand) (so-far .passed .faultless) (so-far .passed .ahead) (q .location))
+  is-looked : Looked d acting (i + 1) f (so-far .passed .stand) (so-far .passed .faultless) (so-far .passed .narrow) (q .location) g
+  is-looked = rw (e, next) (look-at d acting (i + 1) f (so-far .passed .stand) (so-far .passed .faultless) (so-far .passed .narrow) (q .location))
 
   sound-left : entrySoundWith d (i + 1) q && entriesSoundWith d (i + 1 + 1) (drop (i + 1) (d .processes)) ≡ entriesSoundWith d 1 (d .processes)
   unfolding entriesSoundWith
@@ -250,14 +256,14 @@ module _ (d : DeadlineState) (acting i j : ℕ) (f : Survey) (so-far : PassedWit
   pub turn-fault-with : g .faulty ≢ 0 → soundWith d ≡ false
   turn-fault-with n = go is-looked
     where
-      go : Looked d acting (i + 1) f (so-far .passed .stand) (so-far .passed .faultless) (so-far .passed .ahead) (q .location) g → soundWith d ≡ false
+      go : Looked d acting (i + 1) f (so-far .passed .stand) (so-far .passed .faultless) (so-far .passed .narrow) (q .location) g → soundWith d ≡ false
       go (fault t n) = sound-parts-with d ∙ rw (so-far .passed .stand) (sym sound-left ∙ rw t)
       go (same t s z) = absurd (n z)
 
   pub turn-passed-with : g .faulty ≡ 0 → PassedWith d acting (i + 1) g
   turn-passed-with z = go is-looked
     where
-      go : Looked d acting (i + 1) f (so-far .passed .stand) (so-far .passed .faultless) (so-far .passed .ahead) (q .location) g
+      go : Looked d acting (i + 1) f (so-far .passed .stand) (so-far .passed .faultless) (so-far .passed .narrow) (q .location) g
           → PassedWith d acting (i + 1) g
       go (fault t n) = absurd (n z)
       go (same t s _) = record {
@@ -285,8 +291,9 @@ module _ (d : DeadlineState) (acting i : ℕ) (f : Survey) (so-far : PassedWith 
 
   -- up to n, where nothing new would be found
   pub settled-passed-with : i + 1 ≤ d .parameters .n → lastOf (getD (d .processes) i other .location) < 2 ^ 64
-      → settledAt (f .due) (d .clock) (limitIn (d .parameters) (i + 1)) (getD (d .processes) i other .location) ≡ true → PassedWith d acting (i + 1) f
+      → settledAt (dueSoFar (d .clock) f) (d .clock) (limitIn (d .parameters) (i + 1)) (getD (d .processes) i other .location) ≡ true
+      → PassedWith d acting (i + 1) f
   settled-passed-with h fit e =
       turn-passed-with d acting i (i + 1) f so-far more refl other f
-      (sym (settled-noted d acting (i + 1) f (so-far .passed .stand) (so-far .passed .faultless) (so-far .passed .ahead)
+      (sym (settled-noted d acting (i + 1) f (so-far .passed .stand) (so-far .passed .faultless) (so-far .passed .narrow)
       (getD (d .processes) i other .location) h fit e)) (so-far .passed .faultless)

@@ -6,12 +6,13 @@ use mathlib.Core.Bool.{true, false≢true}
 use mathlib.Core.List.{List, [], _∷_}
 use native.Mathlib.Omega.{arith}
 use borrow.Author.Tests.{eq-eqb, ne-eqb}
+use Rattle.model.specs.declared.Location.{Location}
 use Rattle.model.specs.declared.Process.{Process}
 use Rattle.model.specs.declared.State.{State}
-use Rattle.model.specs.States.{entrySound, entriesSound}
+use Rattle.model.specs.States.{entry, limitOf, entrySound, entriesSound}
 use Rattle.model.specs.Answers.{Due, firstFrom, firstBy, firstDeadline}
 use Rattle.rules.specs.declared.survey.Survey.{Survey}
-use Rattle.rules.specs.Survey.{endless, nothing}
+use Rattle.rules.specs.Survey.{sceneOf, endless, nothing, noted}
 use Rattle.rules.specs.Search.{searched, TellsFirst, SearchTellsFirst}
 use Rattle.model.proofs.Tests.{and-true-iff}
 use Rattle.model.proofs.Soundness.{sound-numbers}
@@ -34,6 +35,15 @@ noted-fine (fault t n) e = absurd (false≢true (sym t ∙ e))
 noted-fine (fine t) e = t
 
 module _ (s : State) (acting : ℕ) (stand : standing s ≡ true) where
+  -- what is left fits after a look too
+  pub noted-narrow : (k : ℕ) (f : Survey) → 1 ≤ k → f .faulty ≡ 0 → f .left ≤ endless → (l : Location) (g : Survey)
+      → g ≡ noted (sceneOf (s .parameters) (s .clock) acting) k l (limitOf s k) f → g .faulty ≡ 0 → g .left ≤ endless
+  noted-narrow k f some z narrow l g e faultless = go (rw (← e) at (note-at s acting k f z narrow (numbers-end s stand k) some l))
+    where
+      go : Noted s acting k (entry l) f g → g .left ≤ endless
+      go (fault t n) = absurd (n faultless)
+      go (fine t) = t .narrow
+
   -- from process k on, where d is the first deadline of those before it
   searched-tells : (qs : List Process) (k : ℕ) (f : Survey) (d : Due) → 1 ≤ k → f .faulty ≡ 0 → f .left ≤ endless
       → entriesSound s k qs ≡ true → Finds s (f .process) (f .left) d

@@ -146,6 +146,9 @@ add-here c = search needs
 limit-of-requires : tie.Need-limit-of-requires Inv-loop μ-loop
 limit-of-requires c κs = search needs
 
+due-so-far-requires : tie.Need-due-so-far-requires Inv-loop μ-loop
+due-so-far-requires c κs = search needs
+
 is-settled-at-requires : tie.Need-is-settled-at-requires Inv-loop μ-loop
 is-settled-at-requires c κs = search needs
 
@@ -157,13 +160,14 @@ loop-less-3 c = search needs
 
 loop-again-3 : tie.Need-loop-again-3 Inv-loop μ-loop
 loop-again-3 c =
-    let turn = c .before .before .before .before .before .before .before .before .before .before in
+    let turn = c .before .before .before .before .before .before .before .before .before .before .before in
     let a = turn .before .before .before .before .before .before .before .before .before .args in
     let v = turn .before .loop in
     settled-passed-with (a .t1) (a .process) (v .at) (v .found) (v .inv) (omega (arith, turn .loop-test .taken)) idleWith
-    (c .before .before .if5 .taken)
+    (c .before .before .before .if5 .taken)
     (c .before .is-settled-at .ensures .1 (c .if6 .taken))
-    (rw (c .before .before .before .limit-of .ensures) at (sym (c .before .is-settled-at .ensures .0) ∙ c .if6 .taken))
+    (rw (c .before .before .before .before .limit-of .ensures, c .before .before .due-so-far .ensures)
+    at (sym (c .before .is-settled-at .ensures .0) ∙ c .if6 .taken))
 
 note-requires : tie.Need-note-requires Inv-loop μ-loop
 note-requires c κs = search needs
@@ -260,8 +264,8 @@ dated-requires c κs = search needs
 entry-with-requires : tie.Need-entry-with-requires Inv-loop μ-loop
 entry-with-requires c κs = search needs
 
-mul-t70 : tie.Need-mul-t70 Inv-loop μ-loop
-mul-t70 c = search (needs, own-fits (c .before .before .before .before .before .before .before .before .before .before .before .before .before))
+mul-t71 : tie.Need-mul-t71 Inv-loop μ-loop
+mul-t71 c = search (needs, own-fits (c .before .before .before .before .before .before .before .before .before .before .before .before .before))
 
 element-set-from-state : tie.Need-element-set-from-state Inv-loop μ-loop
 element-set-from-state c = search (needs, own-fits (c .before .before .before .before .before .before .before .before .before .before .before .before .before))
@@ -331,6 +335,7 @@ step-spec =
     loop-again-2
     add-here
     limit-of-requires
+    due-so-far-requires
     is-settled-at-requires
     add-at-3
     loop-less-3
@@ -349,7 +354,7 @@ step-spec =
     limit-of-requires-2
     dated-requires
     entry-with-requires
-    mul-t70
+    mul-t71
     element-set-from-state
     returns-2
     returns-3
