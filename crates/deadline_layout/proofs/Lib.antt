@@ -10,4 +10,5 @@ pub mod Entries
 pub mod Surveys
 pub mod Acts
 pub mod Lending
+pub mod Search
 pub mod Converting

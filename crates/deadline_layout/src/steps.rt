@@ -66,7 +66,8 @@ fn are_of_arrival(entries: &[u64], at: usize, clock: u64, opens: u64, closes: u6
 
 // Whether the numbers of entry i stand: where they do not, a look at it finds a fault, and where they do, what `note_at` finds. The times are read
 // where they are needed: read before the tests on the stage they cost each entry an instruction more. Most entries are in the remainder, and most
-// of the others are testing.
+// of the others are testing. Entering has its test before that for critical: so the compiler knows of each stage past it that it is not critical,
+// and `note_at` need not ask again.
 fn stands_at(entries: &[u64], limits: &[u64], i: usize, b: u64, scene: Scene) -> bool
     requires { ⌜ Ready (now entries) (now limits) b scene ⌝ }
     requires { ⌜ i < scene .n ⌝ }

@@ -10,6 +10,7 @@ pub mod Looks
 pub mod Surveys
 pub mod Acts
 pub mod Lending
+pub mod Search
 pub mod Counting
 pub mod Recording
 pub mod Starting

@@ -1,5 +1,5 @@
--- Section 4 of the specification, how the first deadline is searched for: the smallest so far is held as its distance from the clock, in 32
--- bits, and on every sound state the search tells the deadline and the process that the definition tells. Assumes nothing.
+-- Section 4 of the specification, how the first deadline is looked for: of the smallest so far its time after the clock is kept, in 32 bits. In
+-- every sound state the search tells the deadline and the process of the definition. Assumes nothing.
 use Prim.Native.Nat.{ℕ, _+_, _^_, _≤_, _<_}
 use mathlib.Core.Path.{_≡_}
 use mathlib.Core.Logic.{_≢_}

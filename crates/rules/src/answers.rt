@@ -120,6 +120,7 @@ pub fn judge(
     if is_misnamed(scene.n, action, scene.acting) {
         return answer_with(7, 0, 0);
     }
+    // where nobody has a deadline the time may be further from the clock than 32 bits tell
     if found.process != 0 {
         if (found.left as u64) < time - scene.clock {
             return answer_with(8, found.process, due_so_far(found, scene.clock));

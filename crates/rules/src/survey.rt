@@ -8,6 +8,7 @@ use crate::stages::stage_of;
 use model::Location;
 use std::num::wrapping_add_u64;
 ghost use mathlib.Core.Path.{_≡_};
+ghost use Prim.Native.Nat.{_<_, _^_};
 ghost use Rattle.rules.specs.Survey.{sceneWith, nothing, unsound, faulted, criticalNoted, dueSoFar, dueNoted, timedNoted};
 ghost use Rattle.rules.specs.Survey.{noted, laterNoted, numbersNoted};
 
@@ -37,7 +38,7 @@ pub struct Survey {
     pub faulty: u32,
     // [4.85] how long after the clock the first deadline comes
     pub left: u32,
-    // the process whose deadline that is, the lowest of equals
+    // the process whose deadline that is, the lowest of equals; 0 where there is none, and then the time left tells nothing
     pub process: u64,
     // the lowest critical process besides the acting one, 0 where there is none
     pub critical: u64,
@@ -93,16 +94,18 @@ pub fn note_critical(found: Survey, acting: u64, process: u64) -> Survey
     }
 }
 
-// [4.8] [4.85] The first deadline so far, from the time that is left; the sum may wrap where the clock does not stand.
+// [4.8] [4.85] The first deadline so far, from the time that is left; the sum may wrap where the clock does not stand. `narrow` holds by the type
+// of that time alone, and no other contract tells its width.
 pub fn due_so_far(found: Survey, clock: u64) -> u64
-    ensures { λ r. ⌜ r ≡ dueSoFar clock found ⌝ }
+    ensures equals { λ r. ⌜ r ≡ dueSoFar clock found ⌝ }
+    ensures narrow { λ _. ⌜ found .left < 2 ^ 32 ⌝ }
 {
     wrapping_add_u64(clock, found.left as u64)
 }
 
 // [4.8] [4.85] The search for the first deadline: one that is not sooner than the first so far is done with after one test, as the first is not
-// before the clock, so neither is this one. What is left past both tests is less than the time left so far: so it fits, whatever the limits
-// are. A fault is another value than what was found: so that stays in registers.
+// before the clock, so neither is this one. Past both tests less is left than so far, so it fits, whatever the limits are: a sum that wrapped
+// is before the clock, and the second test ends it. A fault is another value than what was found: so that stays in registers.
 pub fn note_due(found: Survey, clock: u64, process: u64, due: u64) -> Survey
     ensures { λ r. ⌜ r ≡ dueNoted clock process due found ⌝ }
 {

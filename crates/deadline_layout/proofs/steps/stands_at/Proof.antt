@@ -50,27 +50,6 @@ returns-3 c =
     checking-stands _ _ _ _ (a .pre .0) _ (a .pre .1) (c .before .before .before .before .stage-at .ensures)
     (c .before .if3 .taken) (c .are-of-arrival2 .ensures)
 
-first-at-requires-2 : tie.Need-first-at-requires-2
-first-at-requires-2 c κs = search needs
-
-last-at-requires-2 : tie.Need-last-at-requires-2
-last-at-requires-2 c κs = search needs
-
-are-zero-requires-2 : tie.Need-are-zero-requires-2
-are-zero-requires-2 c κs = search needs
-
-returns-4 : tie.Need-returns-4
-returns-4 c =
-    let a = c .before .before .before .before .before .before .before .before .before .before in
-    critical-stands _ _ _ _ (a .pre .0) _ (a .pre .1) (c .before .before .before .before .before .before .before .stage-at .ensures)
-    (c .before .before .before .if4 .taken)
-    (rw (c .before .last-at2 .ensures, c .before .before .first-at2 .ensures) at (c .are-zero2 .ensures))
-
-returns-5 : tie.Need-returns-5
-returns-5 c =
-    let a = c .before .before .before .before .before .before .before .before in
-    past-stands _ _ _ _ (a .pre .0) _ (a .pre .1) (c .before .before .before .before .before .stage-at .ensures) (c .if5 .taken)
-
 mul-are-of-arrival-2 : tie.Need-mul-are-of-arrival-2
 mul-are-of-arrival-2 c = search needs
 
@@ -80,12 +59,49 @@ shared-slice-read-are-of-arrival-2 c = search needs
 are-of-arrival-requires-3 : tie.Need-are-of-arrival-requires-3
 are-of-arrival-requires-3 c κs = search needs
 
+returns-4 : tie.Need-returns-4
+returns-4 c =
+    let a = c .before .before .before .before .before .before .before .before .before in
+    timed-stands _ _ _ _ (a .pre .0) _ (a .pre .1) (c .before .before .before .before .before .before .stage-at .ensures)
+    (c .before .before .before .before .before .if1 .left)
+    (c .before .before .before .if3 .left) (λ z. omega arith) (omega arith) (c .are-of-arrival3 .ensures)
+
+first-at-requires-2 : tie.Need-first-at-requires-2
+first-at-requires-2 c κs = search needs
+
+last-at-requires-2 : tie.Need-last-at-requires-2
+last-at-requires-2 c κs = search needs
+
+are-zero-requires-2 : tie.Need-are-zero-requires-2
+are-zero-requires-2 c κs = search needs
+
+returns-5 : tie.Need-returns-5
+returns-5 c =
+    let a = c .before .before .before .before .before .before .before .before .before .before .before in
+    critical-stands _ _ _ _ (a .pre .0) _ (a .pre .1) (c .before .before .before .before .before .before .before .before .stage-at .ensures)
+    (c .before .before .before .if5 .taken)
+    (rw (c .before .last-at2 .ensures, c .before .before .first-at2 .ensures) at (c .are-zero2 .ensures))
+
 returns-6 : tie.Need-returns-6
 returns-6 c =
-    let a = c .before .before .before .before .before .before .before .before .before .before in
-    timed-stands _ _ _ _ (a .pre .0) _ (a .pre .1) (c .before .before .before .before .before .before .before .stage-at .ensures)
-    (c .before .before .before .before .before .before .if1 .left)
-    (c .before .before .before .before .if3 .left) (c .before .before .before .if4 .left) (c .before .before .if5 .left) (c .are-of-arrival3 .ensures)
+    let a = c .before .before .before .before .before .before .before .before .before in
+    past-stands _ _ _ _ (a .pre .0) _ (a .pre .1) (c .before .before .before .before .before .before .stage-at .ensures) (c .if6 .taken)
+
+mul-are-of-arrival-3 : tie.Need-mul-are-of-arrival-3
+mul-are-of-arrival-3 c = search needs
+
+shared-slice-read-are-of-arrival-3 : tie.Need-shared-slice-read-are-of-arrival-3
+shared-slice-read-are-of-arrival-3 c = search needs
+
+are-of-arrival-requires-4 : tie.Need-are-of-arrival-requires-4
+are-of-arrival-requires-4 c κs = search needs
+
+returns-7 : tie.Need-returns-7
+returns-7 c =
+    let a = c .before .before .before .before .before .before .before .before .before .before .before in
+    timed-stands _ _ _ _ (a .pre .0) _ (a .pre .1) (c .before .before .before .before .before .before .before .before .stage-at .ensures)
+    (c .before .before .before .before .before .before .before .if1 .left)
+    (c .before .before .before .before .before .if3 .left) (c .before .before .before .if5 .left) (c .before .before .if6 .left) (c .are-of-arrival4 .ensures)
 
 pub stands-at-spec : {M : Type 1} → statement M
 stands-at-spec =
@@ -103,12 +119,16 @@ stands-at-spec =
     returns-2
     are-of-arrival-requires-2
     returns-3
-    first-at-requires-2
-    last-at-requires-2
-    are-zero-requires-2
-    returns-4
-    returns-5
     mul-are-of-arrival-2
     shared-slice-read-are-of-arrival-2
     are-of-arrival-requires-3
-    returns-6)
+    returns-4
+    first-at-requires-2
+    last-at-requires-2
+    are-zero-requires-2
+    returns-5
+    returns-6
+    mul-are-of-arrival-3
+    shared-slice-read-are-of-arrival-3
+    are-of-arrival-requires-4
+    returns-7)

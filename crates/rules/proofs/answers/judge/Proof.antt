@@ -93,7 +93,7 @@ answer-with-requires-6 c κs = search needs
 returns-6 : tie.Need-returns-6
 returns-6 c =
     c .answer-with6 .ensures
-    ∙ rw (c .before .due-so-far .ensures)
+    ∙ rw (c .before .due-so-far .ensures .0)
     (sym (past5 (c .before .before .before .before .before .before .before)
     ∙ simp (ne-eqb _ _ (c .before .before .before .before .before .if6 .taken), lt-ltb _ _ (c .before .before .if7 .taken))))
 
