@@ -457,7 +457,7 @@ fn the_corpus_comes_to_what_is_stored() {
         assert!(replayed(&recording).lines().eq(stored.lines()), "{path:?}");
         run += 1;
     }
-    assert_eq!(run, 267);
+    assert_eq!(run, 276);
 }
 
 // To and fro

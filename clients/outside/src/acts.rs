@@ -1,7 +1,7 @@
-//! Acts for a sound table: mostly those that a walk at it would take, now and then with a number that is wild.
+//! Acts for a sound table: mostly those that a walk at it would take, now and then with a number that is wild, or turns later.
 
 use reference::generator::random::Random;
-use reference::generator::walk::{act_from, Walk};
+use reference::generator::walk::{act_from, turns_later, Walk};
 use reference::machine::{Place, Table, CLOCK_END, CRIT, LIMIT_END, TRY};
 
 /// Act, window and moment.
@@ -12,6 +12,8 @@ pub fn act(random: &mut Random, table: &Table) -> [u64; 3] {
         call[place] = any_number(random, call[place]);
     } else if random.chance(2) {
         call[1] = random.pick(&[0, table.values.n + 1, 96, 97, u64::MAX]);
+    } else if random.chance(3) {
+        call[2] = turns_later(random, call[2]);
     }
     call
 }

@@ -3,13 +3,14 @@
 
 use crate::boards;
 use crate::calls::{self, Verdict};
+use crate::distances::{look_at_act, look_at_refused, OF_WALKS};
 use crate::encoding::{entry_at, summary_in, table_in};
 use crate::lists::Made;
 use crate::sights::{Sight, Sights};
 use crate::tables::start;
 use crate::waits::Found;
 use funnelfawn::raw::BOARD;
-use reference::answer::{Answer, ACCEPTED, LATE};
+use reference::answer::{Answer, ACCEPTED, LATE, NO_TABLE};
 use reference::generator::lists::foreign;
 use reference::generator::random::Random;
 use reference::machine::{fresh, Place, Table, CRIT, WITHDRAW};
@@ -50,6 +51,7 @@ impl Course {
 
     /// After a step on such a list, which left these numbers.
     pub fn step(&mut self, lent: &Made, call: [u64; 3], answer: Answer, after: &[u64]) -> Verdict {
+        self.look_at_table(lent, answer);
         if lent.own {
             self.keep_table(call, answer, after)
         } else {
@@ -65,6 +67,7 @@ impl Course {
         answer: Answer,
         after: [&[u64]; 2],
     ) -> Verdict {
+        self.look_at_table(lent[0], answer);
         self.look(lent, call, answer);
         let own = lent.map(|list| list.own);
         match own {
@@ -74,6 +77,13 @@ impl Course {
             }
             [true, false] if !self.is_threaded() => self.keep_table(call, answer, after[0]),
             _ => Ok(()),
+        }
+    }
+
+    /// What a step came upon that was refused for its table.
+    fn look_at_table(&mut self, lent: &Made, answer: Answer) {
+        if let Some(table) = table_in(&lent.numbers).filter(|_| answer.number == NO_TABLE) {
+            look_at_refused(&table, &mut self.sights);
         }
     }
 
@@ -93,6 +103,7 @@ impl Course {
         self.sights.look(Sight::Level, answer.number == LATE && is_shared(&self.table, answer.moment));
         self.sights.look(Sight::UnequalAccepted, is_accepted && is_unequal(&self.table));
         self.sights.look(Sight::LateByOwn, answer.number == LATE && came_later(&self.table, answer.window));
+        look_at_act(&self.table, call[2], answer, OF_WALKS, &mut self.sights);
         self.table = table_in(after).expect("a table stays one");
         let Some(promises) = &mut self.promises else { return Ok(()) };
         self.sights.look(Sight::Promised, true);

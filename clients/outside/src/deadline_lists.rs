@@ -4,11 +4,12 @@
 use crate::acts::any_number;
 use crate::encoding::deadline_numbers;
 use crate::lists::{
-    a_above, a_at_an_edge, change, cut, edge, lengthen, lower, off_by_one, part_of_header, Made,
+    a_above, a_at_an_edge, change, cut, edge, lengthen, lower, off_by_one, part_of_header, turned, Made,
 };
 use funnelfawn::raw::{DEADLINES, DEADLINES_STRIDE, HEADER};
 use reference::deadline::DeadlineTable;
 use reference::generator::random::Random;
+use reference::generator::walk::TURN;
 use reference::machine::Values;
 
 /// The numbers of the places that have moments, and of checking among them.
@@ -55,13 +56,14 @@ fn entry(numbers: &mut [u64], window: u64) -> &mut [u64] {
     &mut numbers[start..start + DEADLINES_STRIDE]
 }
 
-/// A timed place with the moments of an arrival that is just sound, or just not, or would have been before moment 0: there it is near 2^64, and
-/// moments may be small again. Now and then one of the two is off by one.
+/// A timed place with the moments of an arrival that is just sound, or just not, or turns away, or would have been before moment 0: there it is
+/// near 2^64, and moments may be small again. Now and then one of the two is off by one, or by a turn.
 fn at_an_edge(random: &mut Random, deadlines: &DeadlineTable, window: u64) -> [u64; DEADLINES_STRIDE] {
     let (&Values { b, c, .. }, clock) = (&deadlines.values, deadlines.clock);
     let place = random.pick(&TIMED);
     let limits @ [least, most] = if place == CHECKING { [b, c] } else { [0, deadlines.values.a_of(window)] };
     let soonest = clock.wrapping_sub(most);
+    let turned = turned(random, clock, most);
     let arrivals = [
         clock,
         clock + 1,
@@ -71,6 +73,8 @@ fn at_an_edge(random: &mut Random, deadlines: &DeadlineTable, window: u64) -> [u
         most.wrapping_neg(),
         most.wrapping_neg().wrapping_sub(1),
         u64::MAX,
+        turned,
+        turned,
     ];
     let arrival = random.pick(&arrivals);
     let [first, last] = limits.map(|limit| arrival.wrapping_add(limit).wrapping_add(off(random)));
@@ -78,7 +82,7 @@ fn at_an_edge(random: &mut Random, deadlines: &DeadlineTable, window: u64) -> [u
 }
 
 fn off(random: &mut Random) -> u64 {
-    random.pick(&[0, 0, 0, 0, 0, 0, 0, 0, 1, u64::MAX])
+    random.pick(&[0, 0, 0, 0, 0, 0, 0, 0, 1, u64::MAX, TURN])
 }
 
 /// An entry above n that would be sound at n, or a place or a moment alone. Of 96 windows the last one becomes one too many.

@@ -4,6 +4,7 @@
 use crate::acts;
 use crate::calls::{self, Verdict};
 use crate::deadline_lists::{any_numbers, lent_deadlines, output};
+use crate::distances::{look_at_act, look_at_refused_deadlines, OF_BOTH};
 use crate::encoding::{deadlines_in, table_in};
 use crate::engines::{self, Pair};
 use crate::expected;
@@ -125,6 +126,7 @@ impl DeadlineWalk {
         let call = acts::act(&mut self.random, &table);
         let (answer, verdict) = self.own.take(call);
         self.sights.look(Sight::BothFromFresh, self.is_fresh);
+        look_at_act(&table, call[2], answer, OF_BOTH, &mut self.sights);
         self.look_at_both(&self.deadlines(), answer);
         (answer, verdict)
     }
@@ -135,6 +137,7 @@ impl DeadlineWalk {
         let call = acts::act(&mut self.random, &table);
         let mut pair = Pair::new(&table, &deadlines);
         let (answer, verdict) = pair.take(call);
+        look_at_act(&table, call[2], answer, OF_BOTH, &mut self.sights);
         self.look_at_both(&deadlines_in(&pair.deadlines).expect("it stays one"), answer);
         (answer, verdict)
     }
@@ -164,11 +167,12 @@ impl DeadlineWalk {
     }
 
     fn look_at_refused(&mut self, lent: Option<DeadlineTable>, answer: Answer) {
+        let Some(deadlines) = lent.filter(|_| answer.number == NO_TABLE) else { return };
         let is_near = |place: &DeadlinePlace| {
             place.moments().is_some_and(|moments| moments.first.max(moments.last) >= NEAR_2_64)
         };
-        let is_around = lent.is_some_and(|deadlines| deadlines.places.iter().any(is_near));
-        self.sights.look(Sight::Around, is_around && answer.number == NO_TABLE);
+        self.sights.look(Sight::Around, deadlines.places.iter().any(is_near));
+        look_at_refused_deadlines(&deadlines, &mut self.sights);
     }
 
     fn look_at_output(&mut self, turned: Sight, answer: Answer, length: usize, needed: usize) {

@@ -8,6 +8,7 @@ pub mod corpus;
 pub mod course;
 pub mod deadline_lists;
 pub mod deadline_walks;
+pub mod distances;
 pub mod encoding;
 pub mod engines;
 pub mod expected;

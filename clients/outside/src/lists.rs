@@ -5,6 +5,7 @@ use crate::encoding::{summary_numbers, table_numbers};
 use funnelfawn::raw::{AT_B, AT_C, AT_CLOCK, AT_LIMITS, AT_N, AT_WORD, HEADER, STRIDE, TABLE};
 use reference::generator::lists::{foreign, unsound_or_full};
 use reference::generator::random::Random;
+use reference::generator::walk::TURN;
 use reference::machine::{Table, Values, CLOCK_END, LIMIT_END, WINDOWS};
 use reference::summary::Summary;
 
@@ -58,10 +59,11 @@ pub fn part_of_header<'a>(random: &mut Random, values: &Values, numbers: &'a mut
     }
 }
 
-/// The a of a window up to n at the ends of its rule, or just outside.
+/// The a of a window up to n at the ends of its rule, or just outside, or a turn too great.
 pub fn a_at_an_edge(random: &mut Random, values: &Values, numbers: &mut [u64]) {
     let window = random.index(values.n as usize);
-    numbers[AT_LIMITS + window] = random.pick(&[0, 1, values.b - 1, values.b, u64::MAX]);
+    let turned = values.a[window] + TURN;
+    numbers[AT_LIMITS + window] = random.pick(&[0, 1, values.b - 1, values.b, turned, u64::MAX]);
 }
 
 /// The a of a window above n, which is in remainder, is not 0: one that would stand up to n, or one that would not. Of 96 windows the last one
@@ -96,7 +98,7 @@ pub fn change(random: &mut Random, numbers: &mut [u64]) {
     numbers[place] = any_number(random, numbers[place]);
 }
 
-/// One number of those before the values of a, of a table of either kind, just outside its rule.
+/// One number of those before the values of a, of a table of either kind, just outside its rule, or a turn too great.
 pub fn edge(random: &mut Random, values: &Values, numbers: &mut [u64]) {
     let &Values { n, b, c, .. } = values;
     let edges = [
@@ -108,6 +110,8 @@ pub fn edge(random: &mut Random, values: &Values, numbers: &mut [u64]) {
         (AT_B, c + 1),
         (AT_C, b - 1),
         (AT_C, LIMIT_END + 1),
+        (AT_B, b + TURN),
+        (AT_C, c + TURN),
         (AT_CLOCK, CLOCK_END + 1),
         (AT_WORD, n + 1),
     ];
@@ -134,7 +138,7 @@ fn untimed(random: &mut Random, table: &Table) -> [u64; STRIDE] {
 }
 
 /// A timed place whose arrival is to come, also where the latest moment would be 2^64 or more and starts from 0 again; or whose latest
-/// moment has passed.
+/// moment has passed; or which is turns away from one that is sound.
 fn overdue(random: &mut Random, table: &Table, window: u64) -> [u64; STRIDE] {
     let place = random.pick(&[1, 2, 3, 4, 6, 7]);
     let limit = if place == 3 { table.values.c } else { table.values.a_of(window) };
@@ -142,7 +146,15 @@ fn overdue(random: &mut Random, table: &Table, window: u64) -> [u64; STRIDE] {
     let passed = table.clock.checked_sub(limit + 1).unwrap_or(to_come);
     let again_0 = limit.wrapping_neg();
     let again_clock = again_0 + table.clock.min(limit - 1);
-    [place, random.pick(&[passed, to_come, again_0, again_clock, u64::MAX])]
+    let turned = turned(random, table.clock, limit);
+    [place, random.pick(&[passed, to_come, again_0, again_clock, u64::MAX, turned, turned, turned])]
+}
+
+/// An arrival that is turns before or after one that is sound by such a limit: in 32 bits the clock has moved on as far since.
+pub fn turned(random: &mut Random, clock: u64, limit: u64) -> u64 {
+    let ago = random.between(0, limit.min(clock));
+    let turns = TURN.wrapping_mul(random.pick(&[1, 1, 2, 200, u64::MAX]));
+    (clock - ago).wrapping_sub(turns)
 }
 
 /// An entry above n that would be sound at n, or that has a place alone or an arrival alone. Of 96 windows the last one becomes one too many.

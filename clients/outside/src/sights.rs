@@ -23,6 +23,13 @@ pub enum Sight {
     ValueAboveN,
     UnequalAccepted,
     LateByOwn,
+    // distances from the clock, of which distances.rs says more
+    TurnsAhead,
+    Distant,
+    TurnsLate,
+    AcrossATurn,
+    ArrivalTurned,
+    LimitTurned,
     // recordings
     ReadNew,
     ReadFormer,
@@ -70,12 +77,17 @@ pub enum Sight {
     ToArrivals,
     OtherOneShort,
     OtherLonger,
+    BothTurnsAhead,
+    BothDistant,
+    BothTurnsLate,
+    BothAcrossATurn,
+    MomentTurned,
 }
 
 use Sight::*;
 
 /// Each with how it is told.
-const SIGHTS: [(Sight, &str); 58] = [
+const SIGHTS: [(Sight, &str); 69] = [
     (EntryTaken, "accepted crits whose entries a board took"),
     (EntryRefused, "accepted crits whose entries a board refused"),
     (ListedCall, "calls of lists on one board"),
@@ -92,6 +104,12 @@ const SIGHTS: [(Sight, &str); 58] = [
     (ValueAboveN, "lists that are refused for values of a above n alone"),
     (UnequalAccepted, "accepted acts of windows with unequal values of a"),
     (LateByOwn, "acts that are late by a window which came after another"),
+    (TurnsAhead, "accepted acts with an advance of 2^32 or more"),
+    (Distant, "acts that are late by a latest moment which is too far from the clock for 16 bits"),
+    (TurnsLate, "acts that are late, and would not be if the advance had 32 bits"),
+    (AcrossATurn, "acts that are late with a multiple of 2^32 between two latest moments"),
+    (ArrivalTurned, "tables that are refused for arrivals which are 2^32 or more from sound ones"),
+    (LimitTurned, "tables that are refused for limits which are 2^32 more than those that stand"),
     (ReadNew, "recordings that are read of the shape that is written"),
     (ReadFormer, "recordings that are read of the former shape"),
     (NoRoomForValues, "recordings that are not read for want of room for values of a alone"),
@@ -134,6 +152,11 @@ const SIGHTS: [(Sight, &str); 58] = [
     (ToArrivals, "deadline tables that became tables"),
     (OtherOneShort, "sound tables whose output is short by one number"),
     (OtherLonger, "sound tables whose output is longer than needed"),
+    (BothTurnsAhead, "acts that both engines accept with an advance of 2^32 or more"),
+    (BothDistant, "acts that are late for both by a last moment which is too far from the clock for 16 bits"),
+    (BothTurnsLate, "acts that are late for both, and would not be if the advance had 32 bits"),
+    (BothAcrossATurn, "acts that are late for both with a multiple of 2^32 between two last moments"),
+    (MomentTurned, "deadline tables that are refused for moments which are 2^32 or more from sound ones"),
 ];
 
 /// How often each came up.

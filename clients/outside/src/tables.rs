@@ -1,7 +1,7 @@
 //! Sound tables for a walk to start from, those that no walk reaches too.
 
 use reference::generator::random::Random;
-use reference::generator::walk::any_values;
+use reference::generator::walk::{any_values, before_a_turn};
 use reference::machine::*;
 
 /// A fresh table, or one with any places, no seller or one or two or more, at any clock, its end too; or with nobody in remainder, and with
@@ -24,6 +24,7 @@ fn values(random: &mut Random) -> Values {
         [5, 8, 12],
         [2, 6, 30],
         [9, 40, 60],
+        [65_537, 70_000, 200_000],
         [1, 9_999_999, LIMIT_END],
         [9_999_999, LIMIT_END, LIMIT_END],
     ];
@@ -32,10 +33,11 @@ fn values(random: &mut Random) -> Values {
 }
 
 fn busy(random: &mut Random, mut table: Table) -> Table {
-    table.clock = match random.below(4) {
+    table.clock = match random.below(5) {
         0 => random.below(40),
         1 => random.below(CLOCK_END),
         2 => CLOCK_END - random.below(40),
+        3 => before_a_turn(random),
         _ => CLOCK_END,
     };
     table.word = random.between(0, table.values.n);
@@ -65,7 +67,9 @@ fn seat_sellers(random: &mut Random, table: &mut Table) {
 
 /// Every window in a timed place, with one latest moment or the next: where they are late, the lowest of many is to be told.
 fn level(random: &mut Random, mut table: Table) -> Table {
-    table.clock = random.pick(&[LIMIT_END, CLOCK_END / 2, CLOCK_END - LIMIT_END, CLOCK_END - 1, CLOCK_END]);
+    let turn = before_a_turn(random);
+    let clocks = [LIMIT_END, CLOCK_END / 2, turn, CLOCK_END - LIMIT_END, CLOCK_END - 1, CLOCK_END];
+    table.clock = random.pick(&clocks);
     table.word = random.between(0, table.values.n);
     let Values { n, c, a, .. } = table.values;
     // no later than any window may have come

@@ -2,7 +2,7 @@
 //! ones, among them tables of deadlines that match no table at all.
 
 use super::random::Random;
-use super::walk::{any_values, small_values};
+use super::walk::{any_values, before_a_turn, small_values, TURN};
 use crate::deadline::*;
 use crate::list::number_of;
 use crate::machine::*;
@@ -20,11 +20,12 @@ pub fn sound_pair(random: &mut Random) -> (Table, DeadlineTable) {
 
 fn sound_table(random: &mut Random) -> Table {
     let (_, mut table) = fresh(values(random));
-    table.clock = match random.below(5) {
+    table.clock = match random.below(6) {
         0 => random.below(40),
         1 => random.below(CLOCK_END),
         2 => CLOCK_END - random.below(40),
         3 => CLOCK_END,
+        4 => before_a_turn(random),
         _ => 0,
     };
     table.word = random.between(0, table.values.n);
@@ -98,9 +99,9 @@ pub enum Damage {
     Word,
     /// a window above n is not in remainder
     AboveN,
-    /// an arrival is after the clock
+    /// an arrival is after the clock, by a little or by nearly a turn
     Later,
-    /// a last moment is before the clock
+    /// a last moment is before the clock, by a little or by nearly one turn or more
     Past,
     /// an arrival is near 2^64, and so are the moments, or they are small again
     Huge,
@@ -147,10 +148,16 @@ fn damage_table(random: &mut Random, table: &mut Table, damage: Damage, limit: u
         Damage::Clock => table.clock = random.pick(&[CLOCK_END + 1, 1 << 63, u64::MAX]),
         Damage::Word => table.word = random.pick(&[table.values.n + 1, 97, u64::MAX]),
         Damage::AboveN => place_above_n(random, table),
-        Damage::Later => return table.clock + random.between(1, 3),
+        Damage::Later => {
+            let (little, turn) = (random.between(1, 3), TURN - random.between(0, limit));
+            return table.clock + random.pick(&[little, turn]);
+        }
         Damage::Past => {
-            table.clock = table.clock.max(limit + 3);
-            return table.clock - limit - random.between(1, 3);
+            let little = limit + random.between(1, 3);
+            let turns = TURN * random.pick(&[1, 1, 2, 200]) + random.between(0, limit);
+            let ago = random.pick(&[little, turns]);
+            table.clock = table.clock.max(ago);
+            return table.clock - ago;
         }
         Damage::Huge => return u64::MAX - random.below(2 * limit),
         Damage::Apart | Damage::BelowB => {}
@@ -163,8 +170,8 @@ fn damage_values(random: &mut Random, values: &mut Values) {
         0 => values.n = random.pick(&[0, 97, u64::MAX]),
         1 => values.a = [0; WINDOWS],
         2 => values.a = [values.b; WINDOWS],
-        3 => values.b = values.c + 1,
-        4 => values.c = random.pick(&[LIMIT_END + 1, u64::MAX]),
+        3 => values.b = random.pick(&[values.c + 1, values.b + TURN]),
+        4 => values.c = random.pick(&[LIMIT_END + 1, values.c + TURN, u64::MAX]),
         _ => values.a = [u64::MAX; WINDOWS],
     }
 }
@@ -173,8 +180,9 @@ fn damage_own_limit(random: &mut Random, values: &mut Values) {
     let Values { n, b, .. } = *values;
     let window = random.between(1, WINDOWS as u64);
     let picked = random.pick(&[1, n, (n + 1).min(WINDOWS as u64), window]);
-    let fault = if picked <= n { random.pick(&[0, b, u64::MAX]) } else { random.pick(&[1, b - 1, u64::MAX]) };
-    values.a[picked as usize - 1] = fault;
+    let a = &mut values.a[picked as usize - 1];
+    let faults = if picked <= n { [0, b, *a + TURN, u64::MAX] } else { [1, b - 1, TURN, u64::MAX] };
+    *a = random.pick(&faults);
 }
 
 fn place_above_n(random: &mut Random, table: &mut Table) {
@@ -204,7 +212,8 @@ fn damage_moments(random: &mut Random, deadlines: &mut DeadlineTable, damage: Da
 /// One of the two moments is another than it was.
 fn drawn_apart(random: &mut Random, moments: Moments) -> Moments {
     let Moments { first, last } = moments;
-    let off = random.between(1, 3);
+    let little = random.between(1, 3);
+    let off = random.pick(&[little, little, TURN]);
     match random.below(5) {
         0 => Moments { first: first + off, last },
         1 => Moments { first: first.wrapping_sub(off), last },

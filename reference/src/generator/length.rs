@@ -25,7 +25,7 @@ pub fn long_text(random: &mut Random) -> Generated {
 fn of_length(random: &mut Random, length: usize) -> Vec<u8> {
     let n = random.pick(&[1, 3, 96]);
     let values = walk::small_values(random, n, n);
-    let mood = Mood { steps: length as u64, wild: 10, start: 0, focus: n, pause: 3 };
+    let mood = Mood { steps: length as u64, wild: 10, start: 0, focus: n, pause: 3, far: 0 };
     let shape = Shape::any(random);
     let mut text = walk::text(random, shape, values, mood, length - 100);
     while text.len() < length {

@@ -19,7 +19,12 @@ pub struct Mood {
     pub focus: u64,
     /// the longest pause between most steps
     pub pause: u64,
+    /// how many steps in a hundred come turns later than they would
+    pub far: u64,
 }
+
+/// A distance in 32 bits is the same again after so many microseconds.
+pub const TURN: u64 = 1 << 32;
 
 /// The a of windows that all have the same, and b and c.
 type Limits = [u64; 3];
@@ -37,7 +42,7 @@ const EXTREMES: [Limits; 7] = [
 
 /// A walk of some family, in a recording of that shape and of about so many bytes at most.
 pub fn recording(random: &mut Random, shape: Shape, bytes: usize) -> Generated {
-    let (family, values, mood) = match random.below(9) {
+    let (family, values, mood) = match random.below(10) {
         0 | 1 => small(random),
         2 => many(random),
         3 => limits(random),
@@ -45,6 +50,7 @@ pub fn recording(random: &mut Random, shape: Shape, bytes: usize) -> Generated {
         5 => wild(random),
         6 => contention(random),
         7 => two_ages(random),
+        8 => far(random),
         _ => orderly(random),
     };
     Generated { family, text: text(random, shape, values, mood, bytes) }
@@ -54,19 +60,20 @@ type Family = (&'static str, Values, Mood);
 
 /// 1 to 4 windows.
 fn small(random: &mut Random) -> Family {
-    let mood = Mood { steps: random.between(5, 150), wild: 20, start: 0, focus: 4, pause: 4 };
+    let mood = Mood { steps: random.between(5, 150), wild: 20, start: 0, focus: 4, pause: 4, far: 0 };
     ("walk-small", small_values(random, 1, 4), mood)
 }
 
 /// 40 to 96 windows.
 fn many(random: &mut Random) -> Family {
-    let mood = Mood { steps: random.between(40, 260), wild: 12, start: 0, focus: 96, pause: 2 };
+    let mood = Mood { steps: random.between(40, 260), wild: 12, start: 0, focus: 96, pause: 2, far: 0 };
     ("walk-many", small_values(random, 40, 96), mood)
 }
 
 /// Limits and numbers of windows at the ends of their rule.
 fn limits(random: &mut Random) -> Family {
-    let mood = Mood { steps: random.between(20, 200), wild: 20, start: 0, focus: 3, pause: LIMIT_END };
+    let mood =
+        Mood { steps: random.between(20, 200), wild: 20, start: 0, focus: 3, pause: LIMIT_END, far: 0 };
     let (n, extreme) = (random.pick(&[1, 2, 3, 95, 96]), random.pick(&EXTREMES));
     ("walk-limits", any_values(random, n, extreme), mood)
 }
@@ -74,7 +81,7 @@ fn limits(random: &mut Random) -> Family {
 /// Starts close to the end of the clock.
 fn clock_end(random: &mut Random) -> Family {
     let start = CLOCK_END - random.below(40);
-    let mood = Mood { steps: random.between(20, 120), wild: 20, start, focus: 3, pause: 3 };
+    let mood = Mood { steps: random.between(20, 120), wild: 20, start, focus: 3, pause: 3, far: 0 };
     let (n, small) = (random.between(1, 3), small_limits(random));
     let limits = if random.chance(50) { random.pick(&EXTREMES) } else { small };
     ("walk-clock-end", any_values(random, n, limits), mood)
@@ -82,13 +89,13 @@ fn clock_end(random: &mut Random) -> Family {
 
 /// Mostly refused.
 fn wild(random: &mut Random) -> Family {
-    let mood = Mood { steps: random.between(20, 200), wild: 75, start: 0, focus: 6, pause: 3 };
+    let mood = Mood { steps: random.between(20, 200), wild: 75, start: 0, focus: 6, pause: 3, far: 0 };
     ("walk-wild", small_values(random, 1, 6), mood)
 }
 
 /// Many windows set the word before one of them checks it.
 fn contention(random: &mut Random) -> Family {
-    let mood = Mood { steps: random.between(60, 250), wild: 3, start: 0, focus: 5, pause: 2 };
+    let mood = Mood { steps: random.between(60, 250), wild: 3, start: 0, focus: 5, pause: 2, far: 0 };
     let a = random.between(3, 9);
     let (n, c) = (random.between(2, 5), a + random.between(1, 12));
     ("walk-contention", any_values(random, n, [a, a + 1, c]), mood)
@@ -96,7 +103,7 @@ fn contention(random: &mut Random) -> Family {
 
 /// Some windows have an a of a few microseconds, and the others one that is many times longer.
 fn two_ages(random: &mut Random) -> Family {
-    let mood = Mood { steps: random.between(60, 250), wild: 5, start: 0, focus: 5, pause: 20 };
+    let mood = Mood { steps: random.between(60, 250), wild: 5, start: 0, focus: 5, pause: 20, far: 0 };
     let (n, b) = (random.between(2, 5), random.between(40, 90));
     let mut values = Values::equal(n, b - 1, b, b + random.between(0, 60));
     for own in &mut values.a[..n as usize] {
@@ -108,8 +115,28 @@ fn two_ages(random: &mut Random) -> Family {
 
 /// Nearly all accepted, with many entries.
 fn orderly(random: &mut Random) -> Family {
-    let mood = Mood { steps: random.between(30, 220), wild: 1, start: 0, focus: 2, pause: 6 };
+    let mood = Mood { steps: random.between(30, 220), wild: 1, start: 0, focus: 2, pause: 6, far: 0 };
     ("walk-orderly", small_values(random, 1, 3), mood)
+}
+
+/// Limits of up to ten seconds, latest moments on both sides of a turn, and steps that come turns later.
+fn far(random: &mut Random) -> Family {
+    let start = before_a_turn(random);
+    let mood = Mood { steps: random.between(30, 150), wild: 10, start, focus: 3, pause: LIMIT_END, far: 8 };
+    let (n, b) = (random.between(1, 4), random.between(200_000, LIMIT_END));
+    let c = random.between(b, LIMIT_END);
+    ("walk-far", any_values(random, n, [b - 1, b, c]), mood)
+}
+
+/// A moment from which on a stay can end after one of the clock's turns, be it a long one or of a few microseconds.
+pub fn before_a_turn(random: &mut Random) -> u64 {
+    let (few, many) = (random.between(1, 5), random.between(1, LIMIT_END));
+    TURN * random.between(1, CLOCK_END / TURN) - random.pick(&[few, many])
+}
+
+/// The moment that is one turn after another, or more.
+pub fn turns_later(random: &mut Random, moment: u64) -> u64 {
+    moment.saturating_add(TURN * random.pick(&[1, 1, 2, 200]))
 }
 
 /// So many windows, and limits of a few microseconds.
@@ -150,6 +177,7 @@ pub fn text(random: &mut Random, shape: Shape, values: Values, mood: Mood, bytes
             break;
         }
         let step = walk.step(mood.wild);
+        let step = walk.now_or_far(step, mood.far);
         text += &walk.take(step);
     }
     text.into_bytes()
@@ -186,6 +214,14 @@ impl Walk<'_> {
         } else {
             self.likely_step()
         }
+    }
+
+    /// The step, or that many times in a hundred the same step turns later, where that can still be written.
+    fn now_or_far(&mut self, step: Step, percent: u64) -> Step {
+        if step.time <= CLOCK_END && self.random.chance(percent) {
+            return Step { time: turns_later(self.random, step.time), ..step };
+        }
+        step
     }
 
     /// Makes the step and gives its line.

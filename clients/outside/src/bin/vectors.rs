@@ -12,20 +12,20 @@ use std::process::exit;
 type Call = Box<dyn FnMut(&str) -> Verdict>;
 
 /// The recordings of the corpus that are not faulty.
-const RECORDINGS: usize = 267;
+const RECORDINGS: usize = 276;
 
 /// The lines of each.
 fn files() -> [(&'static str, usize, Call); 9] {
     let mut board = stored::Board::new();
     [
         ("fresh.txt", 63, Box::new(stored::fresh)),
-        ("step.txt", 440, Box::new(stored::step)),
-        ("recorded.txt", 465, Box::new(stored::recorded)),
+        ("step.txt", 560, Box::new(stored::step)),
+        ("recorded.txt", 500, Box::new(stored::recorded)),
         ("reader.txt", 209, Box::new(stored::reader)),
         ("writer.txt", 208, Box::new(stored::writer)),
         ("spans.txt", 171, Box::new(stored::spans)),
-        ("deadline.txt", 376, Box::new(stored::deadline)),
-        ("matching.txt", 145, Box::new(stored::matching)),
+        ("deadline.txt", 513, Box::new(stored::deadline)),
+        ("matching.txt", 198, Box::new(stored::matching)),
         ("board.txt", 141, Box::new(move |line| board.call(line))),
     ]
 }
