@@ -6,3 +6,4 @@ pub mod Runs
 pub mod Demand3
 pub mod Chains
 pub mod Cases
+pub mod Search

@@ -3,3 +3,4 @@ pub mod Engines
 pub mod Lists
 pub mod Chains
 pub mod Cases
+pub mod Search

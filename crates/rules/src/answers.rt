@@ -10,6 +10,7 @@ use crate::stages::stage_of;
 use crate::survey::Scene;
 use crate::survey::Survey;
 use crate::survey::due_so_far;
+use crate::survey::time_left;
 use model::Answer;
 use model::Location;
 use model::Transition;
@@ -122,7 +123,7 @@ pub fn judge(
     }
     // where nobody has a deadline the time may be further from the clock than 32 bits tell
     if found.process != 0 {
-        if (found.left as u64) < time - scene.clock {
+        if time_left(found) < time - scene.clock {
             return answer_with(8, found.process, due_so_far(found, scene.clock));
         }
     }

@@ -94,13 +94,20 @@ pub fn note_critical(found: Survey, acting: u64, process: u64) -> Survey
     }
 }
 
-// [4.8] [4.85] The first deadline so far, from the time that is left; the sum may wrap where the clock does not stand. `narrow` holds by the type
-// of that time alone, and no other contract tells its width.
-pub fn due_so_far(found: Survey, clock: u64) -> u64
-    ensures equals { λ r. ⌜ r ≡ dueSoFar clock found ⌝ }
-    ensures narrow { λ _. ⌜ found .left < 2 ^ 32 ⌝ }
+// [4.85] How long after the clock the first deadline so far comes. `narrow` holds by the type of what is kept, and no other contract tells its
+// width.
+pub fn time_left(found: Survey) -> u64
+    ensures equals { λ r. ⌜ r ≡ found .left ⌝ }
+    ensures narrow { λ r. ⌜ r < 2 ^ 32 ⌝ }
 {
-    wrapping_add_u64(clock, found.left as u64)
+    found.left as u64
+}
+
+// [4.8] [4.85] The first deadline so far; the sum may wrap where the clock does not stand.
+pub fn due_so_far(found: Survey, clock: u64) -> u64
+    ensures { λ r. ⌜ r ≡ dueSoFar clock found ⌝ }
+{
+    wrapping_add_u64(clock, time_left(found))
 }
 
 // [4.8] [4.85] The search for the first deadline: one that is not sooner than the first so far is done with after one test, as the first is not

@@ -44,7 +44,7 @@ pub(crate) type Row = [u64; 22];
 // A fresh row starts a case, and a step goes on from the state of the row before it. The row of a refused step has the state
 // of the row before it again. The formatter is kept off, as it would give each number a line.
 #[rattlefmt::skip]
-const CASES: [Row; 117] = [
+const CASES: [Row; 134] = [
     // [20.10] as many processes as there may be
     [FRESH,       96,    8,       12, 5,  0,    0,  0, 0,    0, 96,    8,    12, 5,  0,    0,    0, 0, REMAINDER,    0, REMAINDER,    0],
     // [20.10] none, and one too many
@@ -187,10 +187,31 @@ const CASES: [Row; 117] = [
     [FRESH,        2,    8,       12, 5,  3,    5, 12, 0,    0,  0,    0,     0, 0,  0,    0,    0, 0, REMAINDER,    0, REMAINDER,    0],
     // [20.280] as many processes as there may be, the last with an a of its own
     [FRESH,       96,    8,       12, 5, 96,    7,  0, 0,    0, 96,    8,    12, 5, 96,    7,    0, 0, REMAINDER,    0, REMAINDER,    0],
+    // The rows of [20.290] have wider columns than those above.
+    // [20.290] of the two times left the lower 16 bits would tell the other one first
+    [FRESH,        2,   200000, 10000000,  131077, 2, 65546, 0, 0,        0, 2,   200000, 10000000,  131077, 2, 65546,        0, 0, REMAINDER,        0, REMAINDER, 0],
+    [STEP,  TRY,             1,        0,       0, 0,     0, 0, 0,        0, 2,   200000, 10000000,  131077, 2, 65546,        0, 0, TESTING,          0, REMAINDER, 0],
+    [STEP,  TRY,             2,        0,       0, 0,     0, 0, 0,        0, 2,   200000, 10000000,  131077, 2, 65546,        0, 0, TESTING,          0, TESTING,   0],
+    [STEP,  WAIT,            0,    65547,       0, 0,     0, 8, 2,    65546, 2,   200000, 10000000,  131077, 2, 65546,        0, 0, TESTING,          0, TESTING,   0],
+    [STEP,  WITHDRAW,        2,    65546,       0, 0,     0, 0, 0,    65546, 2,   200000, 10000000,  131077, 2, 65546,    65546, 0, TESTING,          0, REMAINDER, 0],
+    [STEP,  WAIT,            0,   131078,       0, 0,     0, 8, 1,   131077, 2,   200000, 10000000,  131077, 2, 65546,    65546, 0, TESTING,          0, REMAINDER, 0],
+    [STEP,  TEST,            1,   131077,       0, 0,     0, 0, 0,   131077, 2,   200000, 10000000,  131077, 2, 65546,   131077, 0, SETTING,     131077, REMAINDER, 0],
+    // [20.290] the longest stay that there may be, just after its end, and at it
+    [FRESH,        2, 10000000, 10000000, 9999999, 0,     0, 0, 0,        0, 2, 10000000, 10000000, 9999999, 0,     0,        0, 0, REMAINDER,        0, REMAINDER, 0],
+    [STEP,  TRY,             1,        0,       0, 0,     0, 0, 0,        0, 2, 10000000, 10000000, 9999999, 0,     0,        0, 0, TESTING,          0, REMAINDER, 0],
+    [STEP,  TEST,            1,        0,       0, 0,     0, 0, 0,        0, 2, 10000000, 10000000, 9999999, 0,     0,        0, 0, SETTING,          0, REMAINDER, 0],
+    [STEP,  SET,             1,        0,       0, 0,     0, 0, 0,        0, 2, 10000000, 10000000, 9999999, 0,     0,        0, 1, CHECKING,         0, REMAINDER, 0],
+    [STEP,  WAIT,            0, 10000001,       0, 0,     0, 8, 1, 10000000, 2, 10000000, 10000000, 9999999, 0,     0,        0, 1, CHECKING,         0, REMAINDER, 0],
+    [STEP,  CHECK,           1, 10000000,       0, 0,     0, 0, 0, 10000000, 2, 10000000, 10000000, 9999999, 0,     0, 10000000, 1, ENTERING,  10000000, REMAINDER, 0],
+    // [20.290] equal deadlines: the lower process came later, with a lower a
+    [FRESH,        2,        8,       12,       5, 2,     7, 0, 0,        0, 2,        8,       12,       5, 2,     7,        0, 0, REMAINDER,        0, REMAINDER, 0],
+    [STEP,  TRY,             2,        0,       0, 0,     0, 0, 0,        0, 2,        8,       12,       5, 2,     7,        0, 0, REMAINDER,        0, TESTING,   0],
+    [STEP,  TRY,             1,        2,       0, 0,     0, 0, 0,        2, 2,        8,       12,       5, 2,     7,        2, 0, TESTING,          2, TESTING,   0],
+    [STEP,  WAIT,            0,        8,       0, 0,     0, 8, 1,        7, 2,        8,       12,       5, 2,     7,        2, 0, TESTING,          2, TESTING,   0],
 ];
 
 // [20.120] The table of cases. Each row's call gives back what the row tells; the state before the first row, a fresh one, is of no account.
-pub(crate) fn table() -> [Row; 117]
+pub(crate) fn table() -> [Row; 134]
     ensures { λ r. ⌜ Hold blank r ⌝ }
 {
     CASES

@@ -166,7 +166,7 @@ loop-again-3 c =
     settled-passed-with (a .t1) (a .process) (v .at) (v .found) (v .inv) (omega (arith, turn .loop-test .taken)) idleWith
     (c .before .before .before .if5 .taken)
     (c .before .is-settled-at .ensures .1 (c .if6 .taken))
-    (rw (c .before .before .before .before .limit-of .ensures, c .before .before .due-so-far .ensures .0)
+    (rw (c .before .before .before .before .limit-of .ensures, c .before .before .due-so-far .ensures)
     at (sym (c .before .is-settled-at .ensures .0) ∙ c .if6 .taken))
 
 note-requires : tie.Need-note-requires Inv-loop μ-loop

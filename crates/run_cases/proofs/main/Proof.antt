@@ -1,4 +1,4 @@
--- `run_cases::main` is safe: the place of a row is at most 117, the number of rows, and what is left of it falls.
+-- `run_cases::main` is safe: the place of a row is at most 134, the number of rows, and what is left of it falls.
 -- Assumes nothing.
 use Prim.Native.Nat.{_≤_, _-_}
 use borrow.Author.Needs.{needs}
@@ -6,10 +6,10 @@ use Rattle.run_cases.proofs.main.Statement.{statement}
 use Rattle.run_cases.proofs.main.Tie as tie
 
 abbrev Inv-loop : tie.InvT-loop
-Inv-loop rows state₀ i₀ state i = i ≤ 117
+Inv-loop rows state₀ i₀ state i = i ≤ 134
 
 abbrev μ-loop : tie.MeasureT-loop
-μ-loop rows state₀ i₀ state i = 117 - i
+μ-loop rows state₀ i₀ state i = 134 - i
 
 print-names-requires : tie.Need-print-names-requires Inv-loop μ-loop
 print-names-requires c κs = search needs

@@ -81,8 +81,8 @@ past5 c =
     past3 (c .before .before .before)
     ∙ simp (le-ltb _ _ (c .before .before .if4 .left), sym (c .before .is-misnamed .ensures) ∙ c .if5 .left)
 
-cast-if7 : tie.Need-cast-if7
-cast-if7 c = search needs
+time-left-requires : tie.Need-time-left-requires
+time-left-requires c κs = search needs
 
 due-so-far-requires : tie.Need-due-so-far-requires
 due-so-far-requires c κs = search needs
@@ -93,9 +93,12 @@ answer-with-requires-6 c κs = search needs
 returns-6 : tie.Need-returns-6
 returns-6 c =
     c .answer-with6 .ensures
-    ∙ rw (c .before .due-so-far .ensures .0)
+    ∙ rw (c .before .due-so-far .ensures)
     (sym (past5 (c .before .before .before .before .before .before .before)
-    ∙ simp (ne-eqb _ _ (c .before .before .before .before .before .if6 .taken), lt-ltb _ _ (c .before .before .if7 .taken))))
+    ∙ simp (
+      ne-eqb _ _ (c .before .before .before .before .before .if6 .taken),
+      rw (c .before .before .before .before .time-left .ensures .0) at (lt-ltb _ _ (c .before .before .if7 .taken)),
+    )))
 
 answer-with-requires-7 : tie.Need-answer-with-requires-7
 answer-with-requires-7 c κs = search needs
@@ -105,7 +108,7 @@ in-time : (c : tie.Joined6)
     → (let a = c .before .before .before .before .before .before .before .before .before .before .args in
     overdue (a .found) (a .scene .clock) (a .time) ≡ false)
 in-time c =
-    ⊎-elim (λ w. simp (ne-eqb _ _ (w .0 .taken), le-ltb _ _ (w .3 .left)))
+    ⊎-elim (λ w. simp (ne-eqb _ _ (w .0 .taken), rw (w .1 .ensures .0) at (le-ltb _ _ (w .3 .left))))
     (λ w. simp (eq-eqb _ _ (w .left))) (c .if6 .came)
 
 -- nobody is late
@@ -140,7 +143,7 @@ judge-spec =
     is-misnamed-requires
     answer-with-requires-5
     returns-5
-    cast-if7
+    time-left-requires
     due-so-far-requires
     answer-with-requires-6
     returns-6
