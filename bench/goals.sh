@@ -37,19 +37,19 @@ goals() {
         function judge_number(number, is_met, text) { printf "goal: %s; is %d: %s\n", text, number, verdict(is_met) }
         END {
             # 0.55 and 0.75, and of the library 0.25, 0.45 and 0.70, were asked for; each other bound is a hair above what is measured
-            judge("inlined 11", 1, 0.47, "a step within Rattle, inlined, accepted on an idle table, n = 2, of the twin")
-            judge("inlined 12", 1, 0.46, "the same, n = 24")
+            judge("inlined 11", 1, 0.45, "a step within Rattle, inlined, accepted on an idle table, n = 2, of the twin")
+            judge("inlined 12", 1, 0.44, "the same, n = 24")
             judge("inlined 13", 1, 0.55, "the same, n = 96")
             judge("inlined busy 96", 2, 0.75, "the same on busy tables, n = 96")
             judge("inlined 153", 1, 0.75, "the same where each a is lower than the one before, so that each deadline is the first so far, n = 96")
             tell("inlined", 30, 1.0, "the same in every row")
             judge("inlined", 30, 1.45, "the same in every row, as it is")
-            judge("called 11", 1, 0.57, "a step within Rattle, called, accepted on an idle table, n = 2, of the twin")
-            judge("called 12", 1, 0.56, "the same, n = 24")
+            judge("called 11", 1, 0.54, "a step within Rattle, called, accepted on an idle table, n = 2, of the twin")
+            judge("called 12", 1, 0.53, "the same, n = 24")
             judge("called 13", 1, 0.55, "the same, n = 96")
             judge("called busy 96", 2, 0.75, "the same on busy tables, n = 96")
             tell("called 153", 1, 0.75, "the same where each a is lower than the one before, n = 96")
-            judge("called 153", 1, 0.78, "the same, as it is")
+            judge("called 153", 1, 0.82, "the same, as it is")
             tell("called", 30, 1.0, "the same in every row")
             judge("library 11", 1, 0.25, "a step through the C library, accepted on an idle table, n = 2, of the twin")
             judge("library 12", 1, 0.29, "the same, n = 24")
@@ -58,27 +58,28 @@ goals() {
             judge("library busy 96", 2, 0.70, "the same on busy tables, n = 96")
             judge("library 153", 1, 0.70, "the same where each a is lower than the one before, n = 96")
             tell("library", 30, 1.0, "the same in every row")
-            judge("library", 30, 1.15, "the same in every row, as it is")
+            judge("library", 30, 1.11, "the same in every row, as it is")
             # a table that is refused with 1 is no such table: those rows are in the last of the three
             judge("recorded idle", 7, 0.50, "a recorded step through the C library, on an idle table that is sound, every n, of the reference")
             judge("recorded busy", 10, 0.70, "the same on busy tables, sound or not, every n")
             judge("recorded", 30, 1.0, "the same in every row")
             judge("recorded accepted", 12, 0.60, "the same where it accepts and nobody sells, the clock moving or not, every n")
             tell("recorded_within accepted", 12, 0.60, "a recorded step within Rattle, accepted while nobody sells, every n, of the reference")
-            judge("recorded_within accepted", 12, 0.65, "the same, as it is")
+            judge("recorded_within accepted", 12, 0.63, "the same, as it is")
             judge("replay", 4, 0.6, "replay, of the reference")
             judge("spans", 4, 0.8, "spans, of the reference")
             judge("spans_beside_replay", 4, 1.05, "spans, of replay on the same recording")
             # it is 1.5 where the steps are run twice, in one byte less
             judge("spans_call", 2, 1.05, "funnelfawn_spans in as many bytes as the recording has, of funnelfawn_replay")
             judge("deadlines", 30, 1.0, "a step of the second engine through the C library, of the first, in every row")
-            judge("deadlines_within idle", 7, 1.0, "a step of the second engine within Rattle, inlined, on an idle table that is sound, of the first")
+            tell("deadlines_within idle", 7, 1.0, "a step of the second engine within Rattle, inlined, on an idle table that is sound, of the first")
+            judge("deadlines_within idle", 7, 1.01, "the same, as it is")
             tell("deadlines_within", 30, 1.0, "the same in every row")
             judge("deadlines_within", 30, 1.38, "the same in every row, as it is")
             judge("board", 8, 1.0, "a board through the C library, in every row, of the reference")
             judge_number(dearest, empty == 2 && dearest < 200, "an empty board, adding or showing: less than 200 instructions")
-            # 20,147 before each window had an a of its own
-            judge_number(archive, archive > 0 && archive <= 26500, "the archive: at most 26,500 bytes of code and constants")
+            # 20,147 before each window had an a of its own, 26,223 after
+            judge_number(archive, archive > 0 && archive <= 26000, "the archive: at most 26,000 bytes of code and constants")
             for (k = 1; k <= 3; k++) judge_number(stack[k], stack[k] > 0 && stack[k] < 1024, called[k] ": less than 1,024 bytes of stack")
             exit missed
         }' "$work/rows"
