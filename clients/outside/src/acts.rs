@@ -1,4 +1,5 @@
-//! Acts for a sound table: mostly those that a walk at it would take, now and then with a number that is wild, or turns later.
+//! Acts for a sound table: mostly those that a walk at it would take, now and then with a number that is wild, or later by 2^32 microseconds or some
+//! times that.
 
 use reference::generator::random::Random;
 use reference::generator::walk::{act_from, turns_later, Walk};

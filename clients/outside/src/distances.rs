@@ -1,5 +1,5 @@
-//! What a step comes upon that distances from the clock turn on, which 32 bits hold in a sound table: latest moments that fewer bits would not
-//! reach, moments past the clock by more, and tables that are refused, and would be sound if no number of theirs had more.
+//! What a step comes upon that shows how wide a distance from the clock is kept: latest moments too far away for 16 bits, moments further past
+//! the clock than 32 bits tell, and tables that are not sound, but would be if their numbers were cut to 32 bits.
 
 use crate::sights::{Sight, Sights};
 use reference::answer::{Answer, ACCEPTED, LATE};

@@ -72,7 +72,8 @@ module _ (f : Survey) (x : Scene) (place release other : ℕ) (t : Transition) (
   judged-same =
       cond-same (answerOf 1 0 0) (not (eqb (f .faulty) 0)) (λ _. cond-same (answerOf 4 0 (x .clock)) (ltb m (x .clock)) (λ _.
       cond-same (answerOf 5 0 0) (beyond m) (λ _. cond-same (answerOf 6 0 0) (unknown act) (λ known.
-      cond-same (answerOf 7 0 0) (misnamed (x .n) act (x .acting)) (λ named. cond-same (answerOf 8 (f .process) (dueSoFar (x .clock) f)) (overdue f (x .clock) m) (λ _.
+      cond-same (answerOf 7 0 0) (misnamed (x .n) act (x .acting)) (λ named.
+      cond-same (answerOf 8 (f .process) (dueSoFar (x .clock) f)) (overdue f (x .clock) m) (λ _.
       cond-same (answerOf 0 (f .critical) m) (eqb act waitAct) (λ some. cond-same (answerOf 9 (x .acting) 0) (not (eqb place (t .from)))
       (λ placed. ends-same known named (eqb-false act waitAct some) (not-false _ placed)))))))))
 

@@ -22,18 +22,22 @@ use Rattle.rules.proofs.Search.{whole-tells, noted-narrow, search-tells-first}
 use Rattle.deadlines.proofs.Matched.{sound-same, first-last-same, sound-matched}
 use Rattle.deadlines.proofs.Passing.{standingWith, sound-parts-with, Looked, fault, same, look-at}
 
--- of the arrivals
+-- Of the arrivals
 
-pub first-arrived : (d : DeadlineState) → soundWith d ≡ true → firstDeadline (arrived d) ≡ firstLast d
+first-arrived : (d : DeadlineState) → soundWith d ≡ true → firstDeadline (arrived d) ≡ firstLast d
 first-arrived d sound = sym (first-last-same (arrived d)) ∙ ap firstLast (sound-matched d sound)
+
+-- what tells the first deadline of the arrivals tells the first of the last times
+arrived-tells : (d : DeadlineState) → soundWith d ≡ true → {f : Survey} → TellsFirst (d .clock) (d .parameters .c) (firstDeadline (arrived d)) f
+    → TellsFirst (d .clock) (d .parameters .c) (firstLast d) f
+arrived-tells d sound {f} = subst (λ (first : Due). TellsFirst (d .clock) (d .parameters .c) first f) (first-arrived d sound)
 
 sound-arrived : (d : DeadlineState) → soundWith d ≡ true → soundOf (arrived d) ≡ true
 sound-arrived d sound = sym (sound-same (arrived d)) ∙ ap soundWith (sound-matched d sound) ∙ sound
 
 pub whole-tells-with : (d : DeadlineState) (acting : ℕ) (f : Survey) → soundWith d ≡ true → Whole (arrived d) acting f
     → TellsFirst (d .clock) (d .parameters .c) (firstLast d) f
-whole-tells-with d acting f sound w =
-    subst (λ (first : Due). TellsFirst (d .clock) (d .parameters .c) first f) (first-arrived d sound) (whole-tells (arrived d) acting f w)
+whole-tells-with d acting f sound w = arrived-tells d sound (whole-tells (arrived d) acting f w)
 
 -- The search over the entries
 
@@ -58,10 +62,13 @@ module _ (d : DeadlineState) (acting : ℕ) (stand : standingWith d ≡ true) wh
       searched-same qs (k + 1) _ (omega arith) (t .faultless) (noted-narrow (arrived d) acting stand k f some z narrow _ _ (t .is) (t .faultless)) (both .1)
       ∙ ap (searched (arrived d) acting (k + 1) (arrivedFrom (d .parameters) qs)) (t .is)
 
-pub search-tells-first-with : SearchTellsFirstWith
-search-tells-first-with d acting sound =
+-- it tells the first deadline of the arrivals
+pub search-tells-arrived : (d : DeadlineState) (acting : ℕ) → soundWith d ≡ true
+    → TellsFirst (d .clock) (d .parameters .c) (firstDeadline (arrived d)) (searchedWith d acting 1 (d .processes) nothing)
+search-tells-arrived d acting sound =
     let both = and-true-iff (standingWith d) _ .0 (sym (sound-parts-with d) ∙ sound) in
     let e = searched-same d acting (both .0) (d .processes) 1 nothing (omega arith) refl (omega arith) (both .1) in
-    subst (TellsFirst (d .clock) (d .parameters .c) (firstLast d)) (sym e)
-    (subst (λ (first : Due). TellsFirst (d .clock) (d .parameters .c) first (searched (arrived d) acting 1 (arrived d .processes) nothing))
-    (first-arrived d sound) (search-tells-first (arrived d) acting (sound-arrived d sound)))
+    subst (TellsFirst (d .clock) (d .parameters .c) (firstDeadline (arrived d))) (sym e) (search-tells-first (arrived d) acting (sound-arrived d sound))
+
+pub search-tells-first-with : SearchTellsFirstWith
+search-tells-first-with d acting sound = arrived-tells d sound (search-tells-arrived d acting sound)

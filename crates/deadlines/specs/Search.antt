@@ -1,5 +1,5 @@
--- Section 12 of the specification, how the second engine searches for the first deadline: as the first engine does, by distances from the clock
--- of 32 bits, over the last times. Assumes nothing.
+-- Section 12 of the specification, how the second engine looks for the first deadline: as the first engine does, over the last times, keeping 32
+-- bits of the time left to it. Assumes nothing.
 use Prim.Native.Nat.{ℕ, _+_}
 use mathlib.Core.Path.{_≡_}
 use mathlib.Core.Bool.{true}

@@ -1,24 +1,21 @@
 -- That the searches of both engines find the first deadline, in plain facts: they tell the definition's, of which the theory says them. Assumes
 -- nothing.
 use Prim.Native.Nat.{ℕ}
-use mathlib.Core.Path.{_≡_, refl, sym, subst}
-use mathlib.Core.Bool.{true}
+use mathlib.Core.Path.{refl, sym, subst}
 use lib.Dec.{eqb}
 use borrow.Author.Tests.{eqb-true}
 use Rattle.model.specs.declared.State.{State}
-use Rattle.model.specs.Answers.{Due, noneDue, firstDeadline}
+use Rattle.model.specs.Answers.{noneDue, firstDeadline}
 use Rattle.model.proofs.Tests.{by-test}
 use Rattle.theory.specs.Lateness.{FirstTold}
 use Rattle.theory.proofs.Lateness.{first-is-first}
 use Rattle.rules.specs.declared.survey.Survey.{Survey}
-use Rattle.rules.specs.Survey.{nothing}
 use Rattle.rules.specs.Search.{TellsFirst}
 use Rattle.rules.proofs.Search.{search-tells-first}
 use Rattle.deadlines.specs.declared.DeadlineState.{DeadlineState}
 use Rattle.deadlines.specs.Matching.{Matches, arrived}
-use Rattle.deadlines.specs.Search.{searchedWith}
 use Rattle.deadlines.proofs.Matched.{sound-matched}
-use Rattle.deadlines.proofs.Search.{first-arrived, search-tells-first-with}
+use Rattle.deadlines.proofs.Search.{search-tells-arrived}
 use Rattle.matching.specs.Search.{FindsFirst, SearchFindsFirst, FindsFirstWith, SearchFindsFirstWith}
 use Rattle.matching.proofs.Matchings.{matches-matched}
 use Rattle.matching.proofs.Facts.{last-is-deadline, deadline-is-last}
@@ -49,8 +46,4 @@ finds-same {s} {d} {f} m found = record {
 pub search-finds-first-with : SearchFindsFirstWith
 search-finds-first-with d acting sound =
     finds-same (subst (Matches (arrived d)) (sound-matched d sound) (matches-matched (arrived d)))
-    (tells-finds (arrived d) found
-    (subst (λ (first : Due). TellsFirst (d .clock) (d .parameters .c) first found) (sym (first-arrived d sound)) (search-tells-first-with d acting sound)))
-  where
-    found : Survey
-    found = searchedWith d acting 1 (d .processes) nothing
+    (tells-finds (arrived d) _ (search-tells-arrived d acting sound))

@@ -1,5 +1,5 @@
--- How the two engines look for the first deadline, [4.85], in plain facts: nobody is named just where nobody has a deadline, and else the lowest of
--- the processes with the smallest, at the clock and the time that is left. Assumes nothing.
+-- What the two engines find when they look for the first deadline, [4.85], in plain facts: nobody just where nobody has a deadline, and else the
+-- lowest of the processes whose deadline is the smallest, which is the clock and the time left. Assumes nothing.
 use Prim.Native.Nat.{ℕ, _+_, _≤_}
 use mathlib.Core.Path.{_≡_}
 use mathlib.Core.Logic.{_≢_, _↔_}

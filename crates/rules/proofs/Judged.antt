@@ -16,7 +16,7 @@ use Rattle.model.specs.declared.Answer.{Answer}
 use Rattle.model.specs.declared.Outcome.{Outcome}
 use Rattle.model.specs.Stages.{checking}
 use Rattle.model.specs.Acts.{waitAct, checkAct, lastAct, leaves}
-use Rattle.model.specs.States.{lastTime, entry, stageOf, sinceOf, release, soundOf, entryOf}
+use Rattle.model.specs.States.{entry, stageOf, sinceOf, release, soundOf, entryOf}
 use Rattle.model.specs.Actions.{transitionOf, changed, waited, moved, effect}
 use Rattle.model.specs.Answers.{answerOf, answers, backward, beyond, unknown, misnamed, Due, firstDeadline, missed, misplaced, early}
 use Rattle.model.specs.Answers.{criticalOf, accepts, stepOf}

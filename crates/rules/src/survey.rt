@@ -31,14 +31,14 @@ pub fn scene_of(n: u64, c: u64, clock: u64, acting: u64) -> Scene
     }
 }
 
-// The two numbers of 32 bits stand side by side, before those of 64: where padding is left between fields, each turn of the pass copies it, and
-// a busy entry costs two thirds more.
+// The two numbers of 32 bits stand side by side, before those of 64: with padding between fields the struct goes from turn to turn by way of
+// memory, and a busy entry takes half as much again.
 pub struct Survey {
     // 0 where the entries up to here are sound, else 1
     pub faulty: u32,
     // [4.85] how long after the clock the first deadline comes
     pub left: u32,
-    // the process whose deadline that is, the lowest of equals; 0 where there is none, and then the time left tells nothing
+    // the process whose deadline that is, the lowest of equals; 0 where there is none, and then more is left than any stay has
     pub process: u64,
     // the lowest critical process besides the acting one, 0 where there is none
     pub critical: u64,
@@ -111,8 +111,8 @@ pub fn due_so_far(found: Survey, clock: u64) -> u64
 }
 
 // [4.8] [4.85] The search for the first deadline: one that is not sooner than the first so far is done with after one test, as the first is not
-// before the clock, so neither is this one. Past both tests less is left than so far, so it fits, whatever the limits are: a sum that wrapped
-// is before the clock, and the second test ends it. A fault is another value than what was found: so that stays in registers.
+// before the clock, so neither is this one. Past both tests the deadline is from the clock on and before the first so far, whose sum then did not
+// wrap; so less is left than was, and it fits, whatever the limits are. A fault is another value than what was found: so that stays in registers.
 pub fn note_due(found: Survey, clock: u64, process: u64, due: u64) -> Survey
     ensures { λ r. ⌜ r ≡ dueNoted clock process due found ⌝ }
 {

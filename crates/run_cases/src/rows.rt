@@ -187,7 +187,7 @@ const CASES: [Row; 134] = [
     [FRESH,        2,    8,       12, 5,  3,    5, 12, 0,    0,  0,    0,     0, 0,  0,    0,    0, 0, REMAINDER,    0, REMAINDER,    0],
     // [20.280] as many processes as there may be, the last with an a of its own
     [FRESH,       96,    8,       12, 5, 96,    7,  0, 0,    0, 96,    8,    12, 5, 96,    7,    0, 0, REMAINDER,    0, REMAINDER,    0],
-    // The rows of [20.290] have wider columns than those above.
+    // [20.290] needs numbers past 65,535, and limits as large as they may be: hence the wider columns
     // [20.290] of the two times left the lower 16 bits would tell the other one first
     [FRESH,        2,   200000, 10000000,  131077, 2, 65546, 0, 0,        0, 2,   200000, 10000000,  131077, 2, 65546,        0, 0, REMAINDER,        0, REMAINDER, 0],
     [STEP,  TRY,             1,        0,       0, 0,     0, 0, 0,        0, 2,   200000, 10000000,  131077, 2, 65546,        0, 0, TESTING,          0, REMAINDER, 0],
