@@ -29,6 +29,7 @@ use Rattle.deadlines.specs.Looks.{boundsNoted, backFrom, settledBy, loca
 use Rattle.model.proofs.Tests.{by-test, by-cond, if-lt, tests}
 use Rattle.model.proofs.Lists.{drop-at, drop-end, row-at}
 use Rattle.model.proofs.OwnLimits.{limits-parts, limit-fits}
+use Rattle.rules.proofs.Notes.{so-far-is}
 use Rattle.rules.proofs.Pass.{Passed, nothing-passed, turn-passed, passed-whole, Whole}
 use Rattle.deadlines.proofs.Matched.{arrived-at, length-arrived}
 
@@ -117,9 +118,7 @@ module _ (d : DeadlineState) (acting i : ℕ) (f : Survey) (stand : standingWith
 
       -- the first deadline so far is not before the clock
       ahead : d .clock ≤ dueSoFar (d .clock) f
-      ahead =
-          let e : dueSoFar (d .clock) f ≡ d .clock + f .left = mod-eq-of-lt (omega (arith, small d stand .clock)) in
-          rw e (omega arith)
+      ahead = rw (so-far-is (d .clock) f (omega (arith, small d stand .clock))) (omega arith)
 
       -- the arrival is not after the clock, and the last time is the one of that arrival
       told : opens ≤ first → since ≤ d .clock → last ≡ since + closes → Times areSound (dueNoted (d .clock) i last f) found

@@ -1,5 +1,5 @@
--- The search for the first deadline over a lent table, [4.85]: what `survey_table` finds, by its contract. For the proofs only, as the pass is; of
--- the state that a table tells, `rules/specs/Search` and `matching/specs/Search` say it. Assumes nothing.
+-- The search for the first deadline over a lent table, [4.85]: what `survey_table` finds, by its contract. For the proofs only, since `surveyIn`
+-- is; of the state that a table tells, `rules/specs/Search` and `matching/specs/Search` say the same. Assumes nothing.
 use Prim.Native.Nat.{ℕ, _≤_}
 use mathlib.Core.Path.{_≡_}
 use mathlib.Core.Logic.{_≢_}

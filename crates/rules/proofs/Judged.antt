@@ -28,7 +28,7 @@ use Rattle.model.proofs.Soundness.{sound-numbers, sound-past}
 use Rattle.model.proofs.Tests.{by-test, if-eq, if-lt, tests}
 use Rattle.model.proofs.Rows.{row-leaves}
 use Rattle.rules.proofs.Critical.{others-all, others-moved}
-use Rattle.rules.proofs.Notes.{Finds, none, one}
+use Rattle.rules.proofs.Notes.{so-far-is, Finds, none, one}
 use Rattle.rules.proofs.Pass.{Whole, Surveyed, faulty, whole}
 
 -- The outcome o of the model goes with the answer j of the code
@@ -67,7 +67,7 @@ module _ (s : State) (m : ℕ) (f : Survey) (from : s .clock ≤ m) where
   missed-goes : s .clock + s .parameters .c < 2 ^ 64 → {act p : ℕ} {d : Due} → Finds s (f .process) (f .left) d → overdue f (s .clock) m ≡ true
       → Goes s act p m (answers 8 (d .process) (d .time) s) (answerOf 8 (f .process) (dueSoFar (s .clock) f))
   missed-goes fit (none z e) late = absurd ((simp tests at late) .0 z)
-  missed-goes fit (one n w) late = let e : dueSoFar (s .clock) f ≡ s .clock + f .left = mod-eq-of-lt (omega arith) in rw e (refusal (λ z. omega arith))
+  missed-goes fit (one n w) late = rw (so-far-is (s .clock) f (omega arith)) (refusal (λ z. omega arith))
 
 -- A sound state
 

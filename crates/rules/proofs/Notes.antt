@@ -1,6 +1,6 @@
 -- One entry of the pass: what a note of it finds, in the terms of the model's searches. The first deadline so far is held as the time left to
 -- it, so it is not before the clock: a deadline that is not sooner is not past either. Assumes nothing.
-use Prim.Native.Nat.{ℕ, _+_, _-_, _≤_, _<_}
+use Prim.Native.Nat.{ℕ, _+_, _-_, _^_, _≤_, _<_}
 use mathlib.Core.Path.{_≡_, refl, _∙_}
 use mathlib.Core.Logic.{_≢_}
 use mathlib.Core.Bool.{true, false, cond, not}
@@ -20,6 +20,10 @@ use Rattle.rules.specs.Survey.{sceneOf, endless, faulted, criticalAt, fi
 use Rattle.model.proofs.Tests.{by-cond}
 use Rattle.rules.specs.Judging.{otherCritical}
 use Rattle.rules.proofs.Entries.{stayOf, idle-sound, past-unsound, critical-sound, timed-sound}
+
+-- the first deadline so far, where its sum does not wrap
+pub so-far-is : (clock : ℕ) (f : Survey) → clock + f .left < 2 ^ 64 → dueSoFar clock f ≡ clock + f .left
+so-far-is clock f h = mod-eq-of-lt h
 
 -- what a survey's process and time left tell of the first deadline so far: there is none, or it comes so long after the clock
 pub data Finds (s : State) (process left : ℕ) : Due → Type 0 where
@@ -52,9 +56,6 @@ pub data Noted (s : State) (acting k : ℕ) (q : Process) (f g : Survey) : Type 
 module _ (s : State) (acting k : ℕ) (f : Survey) (so-far : f .faulty ≡ 0) (narrow : f .left ≤ endless) (ends : Ends s k) (some : 1 ≤ k) where
   abbrev NotedAs : Location → Survey → Type 0
   NotedAs l g = Noted s acting k (entry l) f g
-
-  so-far-is : dueSoFar (s .clock) f ≡ s .clock + f .left
-  so-far-is = mod-eq-of-lt (omega (arith, ends .clock))
 
   -- A timed location
 
@@ -114,7 +115,7 @@ module _ (s : State) (acting k : ℕ) (f : Survey) (so-far : f .faulty ≡ 0) (n
 
       came-noted : NotedAs l (dueNoted (s .clock) k time f)
       came-noted =
-          rw so-far-is
+          rw (so-far-is (s .clock) f (omega (arith, ends .clock)))
           (by-cond (NotedAs l) (leb (s .clock + f .left) time)
           (λ a. later (leb-true (s .clock + f .left) time a))
           (λ a. by-cond (NotedAs l) (ltb time (s .clock))

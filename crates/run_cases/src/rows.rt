@@ -33,6 +33,9 @@ pub(crate) const FRESH: u64 = 0;
 // that of a step
 const STEP: u64 = 1;
 
+// the most that c may be
+const MOST: u64 = 10000000;
+
 // A row is one call and what must come of it:
 //   FRESH or STEP, then what is handed over: parameters, or action, process, time and three times 0;
 //   the answer: code, process, time;
@@ -187,27 +190,27 @@ const CASES: [Row; 134] = [
     [FRESH,        2,    8,       12, 5,  3,    5, 12, 0,    0,  0,    0,     0, 0,  0,    0,    0, 0, REMAINDER,    0, REMAINDER,    0],
     // [20.280] as many processes as there may be, the last with an a of its own
     [FRESH,       96,    8,       12, 5, 96,    7,  0, 0,    0, 96,    8,    12, 5, 96,    7,    0, 0, REMAINDER,    0, REMAINDER,    0],
-    // [20.290] needs numbers past 65,535, and limits as large as they may be: hence the wider columns
+    // wider columns: times past 65,535 and limits as large as they may be
     // [20.290] of the two times left the lower 16 bits would tell the other one first
-    [FRESH,        2,   200000, 10000000,  131077, 2, 65546, 0, 0,        0, 2,   200000, 10000000,  131077, 2, 65546,        0, 0, REMAINDER,        0, REMAINDER, 0],
-    [STEP,  TRY,             1,        0,       0, 0,     0, 0, 0,        0, 2,   200000, 10000000,  131077, 2, 65546,        0, 0, TESTING,          0, REMAINDER, 0],
-    [STEP,  TRY,             2,        0,       0, 0,     0, 0, 0,        0, 2,   200000, 10000000,  131077, 2, 65546,        0, 0, TESTING,          0, TESTING,   0],
-    [STEP,  WAIT,            0,    65547,       0, 0,     0, 8, 2,    65546, 2,   200000, 10000000,  131077, 2, 65546,        0, 0, TESTING,          0, TESTING,   0],
-    [STEP,  WITHDRAW,        2,    65546,       0, 0,     0, 0, 0,    65546, 2,   200000, 10000000,  131077, 2, 65546,    65546, 0, TESTING,          0, REMAINDER, 0],
-    [STEP,  WAIT,            0,   131078,       0, 0,     0, 8, 1,   131077, 2,   200000, 10000000,  131077, 2, 65546,    65546, 0, TESTING,          0, REMAINDER, 0],
-    [STEP,  TEST,            1,   131077,       0, 0,     0, 0, 0,   131077, 2,   200000, 10000000,  131077, 2, 65546,   131077, 0, SETTING,     131077, REMAINDER, 0],
+    [FRESH,        2, 200000,     MOST,   131077, 2, 65546, 0, 0,      0, 2, 200000, MOST,   131077, 2, 65546,      0, 0, REMAINDER,      0, REMAINDER, 0],
+    [STEP,  TRY,           1,        0,        0, 0,     0, 0, 0,      0, 2, 200000, MOST,   131077, 2, 65546,      0, 0, TESTING,        0, REMAINDER, 0],
+    [STEP,  TRY,           2,        0,        0, 0,     0, 0, 0,      0, 2, 200000, MOST,   131077, 2, 65546,      0, 0, TESTING,        0, TESTING,   0],
+    [STEP,  WAIT,          0,    65547,        0, 0,     0, 8, 2,  65546, 2, 200000, MOST,   131077, 2, 65546,      0, 0, TESTING,        0, TESTING,   0],
+    [STEP,  WITHDRAW,      2,    65546,        0, 0,     0, 0, 0,  65546, 2, 200000, MOST,   131077, 2, 65546,  65546, 0, TESTING,        0, REMAINDER, 0],
+    [STEP,  WAIT,          0,   131078,        0, 0,     0, 8, 1, 131077, 2, 200000, MOST,   131077, 2, 65546,  65546, 0, TESTING,        0, REMAINDER, 0],
+    [STEP,  TEST,          1,   131077,        0, 0,     0, 0, 0, 131077, 2, 200000, MOST,   131077, 2, 65546, 131077, 0, SETTING,   131077, REMAINDER, 0],
     // [20.290] the longest stay that there may be, just after its end, and at it
-    [FRESH,        2, 10000000, 10000000, 9999999, 0,     0, 0, 0,        0, 2, 10000000, 10000000, 9999999, 0,     0,        0, 0, REMAINDER,        0, REMAINDER, 0],
-    [STEP,  TRY,             1,        0,       0, 0,     0, 0, 0,        0, 2, 10000000, 10000000, 9999999, 0,     0,        0, 0, TESTING,          0, REMAINDER, 0],
-    [STEP,  TEST,            1,        0,       0, 0,     0, 0, 0,        0, 2, 10000000, 10000000, 9999999, 0,     0,        0, 0, SETTING,          0, REMAINDER, 0],
-    [STEP,  SET,             1,        0,       0, 0,     0, 0, 0,        0, 2, 10000000, 10000000, 9999999, 0,     0,        0, 1, CHECKING,         0, REMAINDER, 0],
-    [STEP,  WAIT,            0, 10000001,       0, 0,     0, 8, 1, 10000000, 2, 10000000, 10000000, 9999999, 0,     0,        0, 1, CHECKING,         0, REMAINDER, 0],
-    [STEP,  CHECK,           1, 10000000,       0, 0,     0, 0, 0, 10000000, 2, 10000000, 10000000, 9999999, 0,     0, 10000000, 1, ENTERING,  10000000, REMAINDER, 0],
+    [FRESH,        2,   MOST,     MOST, MOST - 1, 0,     0, 0, 0,      0, 2,   MOST, MOST, MOST - 1, 0,     0,      0, 0, REMAINDER,      0, REMAINDER, 0],
+    [STEP,  TRY,           1,        0,        0, 0,     0, 0, 0,      0, 2,   MOST, MOST, MOST - 1, 0,     0,      0, 0, TESTING,        0, REMAINDER, 0],
+    [STEP,  TEST,          1,        0,        0, 0,     0, 0, 0,      0, 2,   MOST, MOST, MOST - 1, 0,     0,      0, 0, SETTING,        0, REMAINDER, 0],
+    [STEP,  SET,           1,        0,        0, 0,     0, 0, 0,      0, 2,   MOST, MOST, MOST - 1, 0,     0,      0, 1, CHECKING,       0, REMAINDER, 0],
+    [STEP,  WAIT,          0, MOST + 1,        0, 0,     0, 8, 1,   MOST, 2,   MOST, MOST, MOST - 1, 0,     0,      0, 1, CHECKING,       0, REMAINDER, 0],
+    [STEP,  CHECK,         1,     MOST,        0, 0,     0, 0, 0,   MOST, 2,   MOST, MOST, MOST - 1, 0,     0,   MOST, 1, ENTERING,    MOST, REMAINDER, 0],
     // [20.290] equal deadlines: the lower process came later, with a lower a
-    [FRESH,        2,        8,       12,       5, 2,     7, 0, 0,        0, 2,        8,       12,       5, 2,     7,        0, 0, REMAINDER,        0, REMAINDER, 0],
-    [STEP,  TRY,             2,        0,       0, 0,     0, 0, 0,        0, 2,        8,       12,       5, 2,     7,        0, 0, REMAINDER,        0, TESTING,   0],
-    [STEP,  TRY,             1,        2,       0, 0,     0, 0, 0,        2, 2,        8,       12,       5, 2,     7,        2, 0, TESTING,          2, TESTING,   0],
-    [STEP,  WAIT,            0,        8,       0, 0,     0, 8, 1,        7, 2,        8,       12,       5, 2,     7,        2, 0, TESTING,          2, TESTING,   0],
+    [FRESH,        2,    8,       12, 5,  2,    7,  0, 0,    0,  2,    8,    12, 5,  2,    7,    0, 0, REMAINDER,    0, REMAINDER,    0],
+    [STEP,  TRY,         2,        0, 0,  0,    0,  0, 0,    0,  2,    8,    12, 5,  2,    7,    0, 0, REMAINDER,    0, TESTING,      0],
+    [STEP,  TRY,         1,        2, 0,  0,    0,  0, 0,    2,  2,    8,    12, 5,  2,    7,    2, 0, TESTING,      2, TESTING,      0],
+    [STEP,  WAIT,        0,        8, 0,  0,    0,  8, 1,    7,  2,    8,    12, 5,  2,    7,    2, 0, TESTING,      2, TESTING,      0],
 ];
 
 // [20.120] The table of cases. Each row's call gives back what the row tells; the state before the first row, a fresh one, is of no account.
