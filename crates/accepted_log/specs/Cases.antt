@@ -1,0 +1,1 @@
+-- Section 13 of the specification, the cases of accepted logs. Assumes nothing.

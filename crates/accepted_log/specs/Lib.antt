@@ -1,0 +1,4 @@
+pub mod AcceptedLogs
+pub mod Answers
+pub mod Cases
+pub mod Keeping

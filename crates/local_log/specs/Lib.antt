@@ -1,0 +1,4 @@
+pub mod Comparisons
+pub mod Answers
+pub mod Cases
+pub mod Passes

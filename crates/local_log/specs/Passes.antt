@@ -1,0 +1,56 @@
+-- The comparison as it is worked out: one pass over the places of two logs, the smallest and the largest difference, and the interval of shifts
+-- between them. For the proofs only. Assumes nothing.
+use Prim.Native.Nat.{ℕ, _+_, _-_, min, max}
+use mathlib.Core.Bool.{Bool, true, false, cond, _&&_, _||_}
+use mathlib.Core.List.{List, [], _∷_}
+use lib.Dec.{leb, ltb, eqb}
+use lib.IntN.{ℤ, pos, subℕ}
+use Rattle.model.specs.States.{lastTime}
+use Rattle.local_log.specs.declared.Comparison.{Comparison}
+use Rattle.local_log.specs.declared.Differences.{Differences}
+use Rattle.local_log.specs.Comparisons.{Entry, comparison}
+
+-- one of these times is past the clock's end
+unfoldable pub pastEnd : List ℕ → Bool
+pastEnd [] = false
+pastEnd (t ∷ times) = ltb lastTime t || pastEnd times
+
+-- helper: of its parts
+abbrev pub differences : ℕ → ℕ → ℕ → Differences
+differences places smallest largest = record { places = places; smallest = smallest; largest = largest }
+
+-- two entries stop the pass unless they do this
+abbrev pub goesOn : Entry → Entry → Bool
+goesOn x y = leb (x .time) lastTime && leb (y .time) lastTime && eqb (x .action) (y .action)
+
+-- the other time less the local one, and the clock's end more
+abbrev pub difference : Entry → Entry → ℕ
+difference x y = y .time + lastTime - x .time
+
+-- before the first place; no difference is above twice the clock's end
+abbrev pub noDifferences : Differences
+noDifferences = differences 0 2_000_000_000_000 0
+
+-- one place more
+unfoldable pub noted : Differences → Entry → Entry → Differences
+noted p x y = differences (p .places + 1) (min (p .smallest) (difference x y)) (max (p .largest) (difference x y))
+
+-- the places that are left
+unfoldable pub passFrom : Differences → List Entry → List Entry → Differences
+passFrom p [] other = p
+passFrom p (x ∷ xs) [] = p
+passFrom p (x ∷ xs) (y ∷ ys) = cond (goesOn x y) (passFrom (noted p x y) xs ys) p
+
+-- all of them
+abbrev pub passOf : List Entry → List Entry → Differences
+passOf local other = passFrom noDifferences local other
+
+-- the least shift of the interval, and the clock's end more
+abbrev pub lowest : ℕ → ℕ → ℕ → ℕ
+lowest largest d e = max (lastTime - d + e) largest - e
+
+-- the least shift of the interval, or that it is empty
+unfoldable pub boundedOf : ℕ → ℕ → ℕ → ℕ → Comparison
+boundedOf smallest largest d e =
+    cond (ltb (lastTime + d) (lowest largest d e) || ltb (smallest + e) (lowest largest d e)) (comparison 21 (pos 0))
+    (comparison 0 (subℕ (lowest largest d e) lastTime))
