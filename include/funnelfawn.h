@@ -1,8 +1,8 @@
 /* Funnelfawn for C and C++: Fischer's timed lock over a table of up to 96 sales windows.
  *
  * Link with libfunnelfawn.a (x86-64 Linux) and the C library, of which only memcpy and memset are used. No function keeps state, allocates,
- * prints or blocks; each takes any numbers at all and returns. funnelfawn_replay and funnelfawn_spans need about 216 KB of stack,
- * funnelfawn_read less than 10 KB, funnelfawn_fresh less than 8 KB, funnelfawn_fresh_deadlines and funnelfawn_write less than 6 KB, the
+ * prints or blocks; each takes any numbers at all and returns. funnelfawn_replay, funnelfawn_spans and
+ * funnelfawn_accepted_acts need about 216 KB of stack, funnelfawn_read less than 10 KB, funnelfawn_fresh less than 8 KB, funnelfawn_fresh_deadlines and funnelfawn_write less than 6 KB, the
  * others less than 1 KB, and a step, recorded or not and of either engine, less than 512 bytes. The library is proved against
  * docs/SPECIFICATION.md; numbers such as [9.50] are its clauses, and its section 1 has the words that it uses for the windows, places,
  * moments and acts of this header.
@@ -190,7 +190,7 @@ enum funnelfawn_act {
     FUNNELFAWN_ACT_WITHDRAW /* testing: to remainder, and the word stays */
 };
 
-/* Answers, [4.0] to [4.18]: a number, with a window and a moment. Where these two are said below, in this order, they are in the answer;
+/* Answers, [4.0] to [4.21]: a number, with a window and a moment. Where these two are said below, in this order, they are in the answer;
  * else 0. */
 struct funnelfawn_answer {
     uint64_t number;
@@ -209,21 +209,25 @@ enum funnelfawn_number {
     FUNNELFAWN_REFUSED_END_OF_CLOCK = 5,  /* the moment is above 1,000,000,000,000 */
     FUNNELFAWN_REFUSED_NO_ACT = 6,        /* there is no such act: its number is 10 or more */
     FUNNELFAWN_REFUSED_NO_WINDOW = 7,     /* a wait whose window is not 0, or another act whose window is none of 1 to n; an entry for a
-                                             board whose window is none of 1 to 96 */
+                                             board whose window is none of 1 to 96; the accepted acts of a window that is none of 1 to n */
     FUNNELFAWN_REFUSED_LATE = 8,          /* the latest moment of some window, any at all, is before the moment: the smallest such
                                              latest moment, with the lowest window that has it: the window, that moment */
     FUNNELFAWN_REFUSED_OUT_OF_PLACE = 9,  /* the window is not in the place that the act leaves: the window, 0 */
     FUNNELFAWN_REFUSED_EARLY = 10,        /* a check comes before the window's earliest moment: the window, that moment */
-    FUNNELFAWN_REFUSED_WINDOW_COUNT = 11, /* n is outside 1 to 96; from funnelfawn_spans: 0, its line, which is 2 */
+    FUNNELFAWN_REFUSED_WINDOW_COUNT = 11, /* n is outside 1 to 96; from funnelfawn_spans and funnelfawn_accepted_acts: 0, its line, which
+                                             is 2 */
     FUNNELFAWN_REFUSED_LIMITS = 12,       /* b, c or the a of a window up to n break 1 <= a < b <= c <= 10,000,000, or an a above n is not 0;
-                                             from funnelfawn_spans: 0, the last line of a, which is 3 + n; in the former shape 2 */
+                                             from those two: 0, the last line of a, which is 3 + n; in the former shape 2 */
     FUNNELFAWN_REFUSED_NAMES = 13,        /* a line of names is not the one due there, or is absent: 0, its line */
     FUNNELFAWN_REFUSED_LINE = 14,         /* line 2 or a line of a lacks its form or is absent, a line of a has another window than is due
                                              there, or a step lacks its form; writing: a step has no form: 0, its line */
     FUNNELFAWN_REFUSED_LENGTH = 15,       /* the text is longer than 65,536 bytes */
     FUNNELFAWN_REFUSED_SHORT_OUTPUT = 16, /* a list that is only an output is too short */
     FUNNELFAWN_REFUSED_WIDTH = 17,        /* the W of a board is outside 1 to 1,000,000,000 */
-    FUNNELFAWN_REFUSED_BOARD_FULL = 18    /* FUNNELFAWN_BOARD_PLACES entries of the board still count */
+    FUNNELFAWN_REFUSED_BOARD_FULL = 18,   /* FUNNELFAWN_BOARD_PLACES entries of the board still count */
+    FUNNELFAWN_REFUSED_NOTEBOOK_BOUNDS = 19, /* d or e is above 1,000,000, or a moment that counts above 1,000,000,000,000 */
+    FUNNELFAWN_REFUSED_OTHER_ACTS = 20,   /* the notebook's acts are not those that it is held against, in their order, or not as many */
+    FUNNELFAWN_REFUSED_NO_SHIFT = 21      /* the acts are the same, but no shift from -d to d brings all moments within e */
 };
 
 /* [9.50] A fresh table of n windows with the limits b and c and an a for each of them: all in remainder, clock 0, word 0.
@@ -373,6 +377,43 @@ struct funnelfawn_answer funnelfawn_replay(const uint8_t *FUNNELFAWN_RESTRICT te
  *   refused, as they are first run to learn how long the text is. */
 struct funnelfawn_answer funnelfawn_spans(const uint8_t *FUNNELFAWN_RESTRICT text, size_t text_length,
                                           uint8_t *FUNNELFAWN_RESTRICT out, size_t out_length);
+
+/* Notebooks: section 13 of the specification
+ *
+ * A till may write down its own acts by its own clock. Such a notebook is a list of moments and a list of acts; the shorter of the two sets its
+ * length, and what stands in the longer one past that does not count, whatever it is [13.10]. It is held against the like list of what the box
+ * accepted of that window, which funnelfawn_accepted_acts takes out of a recording. */
+
+/* [13.120] The accepted acts of a window in a recording: its steps are run as `replay` runs them, once, and the moments and the acts of the
+ * accepted ones of that window come out, in their order. The moments do not fall, and none is above 1,000,000,000,000 [13.140].
+ *   0, 0, how many there are, with the moments in the first places of `moments` and the acts in those of `acts`; later places stay;
+ *   or, for a faulty recording, the number of its first fault, 0, and the line, as funnelfawn_spans has it; or 7, where the window is none of 1
+ *   to n; or, last, 16, where the shorter of the two lists has fewer places. Refused, both lists are as they were [13.125].
+ *   FUNNELFAWN_MOST_STEPS places in each always suffice [13.130]. */
+struct funnelfawn_answer funnelfawn_accepted_acts(const uint8_t *FUNNELFAWN_RESTRICT text, size_t text_length, uint64_t window,
+                                                  uint64_t *FUNNELFAWN_RESTRICT moments, size_t moments_length,
+                                                  uint64_t *FUNNELFAWN_RESTRICT acts, size_t acts_length);
+
+/* What a comparison answers; only the shift may be below 0. */
+struct funnelfawn_comparison {
+    uint64_t number;
+    uint64_t window; /* always 0 */
+    int64_t shift;   /* 0 where the number is not 0 */
+};
+
+/* [13.90] A till's notebook held against the box's accepted acts of its window. They agree if the acts are the same, in their order, and some
+ * whole shift s from -d to d makes each of the box's moments differ from the till's moment + s by at most e.
+ *   0, 0, the smallest such s: it is above 0 where the till's clock is behind the box's. Where the clock is behind by s, give or take e at each
+ *   act, the shift that is told is at most s and, if there is an act, at least s - 2e; with e = 0 it is s [13.80]. Two notebooks without an
+ *   act give -d [13.75].
+ *   Or 19 if d or e is above FUNNELFAWN_MOST_SHIFT, or a moment that counts is above 1,000,000,000,000, be it in either notebook and at whichever
+ *   place; or else 20 if the acts differ, or there are more in one of the two; or else 21 if no shift serves.
+ *   All four lists are only read. Any acts are compared, numbers that are no act among them. */
+enum { FUNNELFAWN_MOST_SHIFT = 1000000 };
+
+struct funnelfawn_comparison funnelfawn_compare_notebook(const uint64_t *till_moments, size_t till_moments_length, const uint64_t *till_acts,
+                                                         size_t till_acts_length, const uint64_t *box_moments, size_t box_moments_length,
+                                                         const uint64_t *box_acts, size_t box_acts_length, uint64_t d, uint64_t e);
 
 #ifdef __cplusplus
 }

@@ -1,7 +1,10 @@
 // The box for callers in C: each function takes numbers and lists of numbers, any at all, and gives back what its definition says, the
 // lent numbers included. include/funnelfawn.h says the same in C.
 
+use accepted_log::read_accepted;
 use intervals::write_intervals;
+use local_log::Comparison;
+use local_log::compare;
 use model::Answer;
 use model::Parameters;
 use report::report;
@@ -16,6 +19,8 @@ ghost use Rattle.model.specs.Writings.{eventsOf, writeGave, writeOf};
 ghost use Rattle.model.specs.Reports.{reportOf};
 ghost use Rattle.trace.specs.ReadingTo.{readToGave, readToOf};
 ghost use Rattle.intervals.specs.Intervals.{writeIntervalsOf};
+ghost use Rattle.local_log.specs.Comparisons.{entriesOf, Compared};
+ghost use Rattle.accepted_log.specs.AcceptedLogs.{logGave, readAcceptedOf};
 ghost use Rattle.layout.specs.Layouts.{layoutNumber};
 ghost use Rattle.layout.specs.Interface.{lentGave, lentFresh, lentStep, recordGave, lentRecord, summaryGave, lentSummary};
 ghost use Rattle.deadline_layout.specs.Interface.{lentFreshWith, lentStepWith, lentToDeadlines, lentToArrivals};
@@ -131,6 +136,36 @@ pub extern "C" fn funnelfawn_spans(text: &[u8], out: &mut [u8]) -> Answer
     ensures { λ r. ⌜ writeGave r (now (out .exit)) ≡ writeIntervalsOf (now (text .entry)) (now (out .entry)) ⌝ }
 {
     write_intervals(text, out)
+}
+
+// [13.120] [13.170] [21.110] The accepted acts of a window in a recording: their times and acts go to two lists.
+#[no_mangle]
+pub extern "C" fn funnelfawn_accepted_acts(
+    text: &[u8],
+    process: u64,
+    times: &mut [u64],
+    actions: &mut [u64],
+) -> Answer
+    ensures { λ r. ⌜ logGave r (now (times .exit)) (now (actions .exit))
+        ≡ readAcceptedOf (now (text .entry)) process (now (times .entry)) (now (actions .entry)) ⌝ }
+{
+    read_accepted(text, process, times, actions)
+}
+
+// [13.90] [13.170] [21.110] A till's notebook, its stamps and claims, held against a list of accepted acts.
+#[no_mangle]
+pub extern "C" fn funnelfawn_compare_notebook(
+    stamps: &[u64],
+    claims: &[u64],
+    times: &[u64],
+    actions: &[u64],
+    d: u64,
+    e: u64,
+) -> Comparison
+    ensures { λ r. ⌜ Compared d e (entriesOf (now (stamps .entry)) (now (claims .entry)))
+        (entriesOf (now (times .entry)) (now (actions .entry))) r ⌝ }
+{
+    compare(stamps, claims, times, actions, d, e)
 }
 
 // [10.60] [10.130] [21.110] An empty board of a width, in the lent numbers.
