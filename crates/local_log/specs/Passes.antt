@@ -27,9 +27,13 @@ goesOn x y = leb (x .time) lastTime && leb (y .time) lastTime && eqb (x .action)
 abbrev pub difference : Entry → Entry → ℕ
 difference x y = y .time + lastTime - x .time
 
--- before the first place; no difference is above twice the clock's end
+-- no difference is above it
+abbrev pub twice : ℕ
+twice = 2_000_000_000_000
+
+-- before the first place
 abbrev pub noDifferences : Differences
-noDifferences = differences 0 2_000_000_000_000 0
+noDifferences = differences 0 twice 0
 
 -- one place more
 unfoldable pub noted : Differences → Entry → Entry → Differences

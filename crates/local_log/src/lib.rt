@@ -3,13 +3,16 @@
 use values::greater;
 use values::least;
 ghost use mathlib.Core.Path.{_≡_};
-ghost use Prim.Native.Nat.{_≤_};
+ghost use Prim.Native.Nat.{_≤_, min};
 ghost use lib.IntN.{pos};
-ghost use Rattle.local_log.specs.Comparisons.{entriesOf, mostShift, comparison, Compared};
-ghost use Rattle.local_log.specs.Passes.{pastEnd, passOf, boundedOf};
+ghost use Rattle.local_log.specs.Comparisons.{entry, entriesOf, mostShift, comparison, Compared};
+ghost use Rattle.local_log.specs.Passes.{pastEnd, goesOn, twice, passOf, boundedOf};
 
 // [2.40] The clock's end.
 const LAST: u64 = 1000000000000;
+
+// No difference of two times is above it, once the clock's end is added.
+const TWICE: u64 = 2000000000000;
 
 // [13.30] What d and e are at most.
 const MOST: u64 = 1000000;
@@ -55,8 +58,27 @@ fn past_end(times: &[u64]) -> bool
     false
 }
 
-// The places from the first on, as long as neither time is past the clock's end and the actions are equal. A difference is the other time
-// less the local one, with the clock's end added, so that none is below 0: the tolerance is reckoned once, after the pass.
+fn lesser(a: u64, b: u64) -> u64
+    ensures { λ r. ⌜ r ≡ min a b ⌝ }
+{
+    if a < b { a } else { b }
+}
+
+// Whether the pass goes on past two entries: neither time is past the clock's end, and the actions are equal.
+fn goes_on(stamp: u64, claim: u64, time: u64, action: u64) -> bool
+    ensures { λ r. ⌜ r ≡ goesOn (entry stamp claim) (entry time action) ⌝ }
+{
+    if LAST < stamp {
+        return false;
+    }
+    if LAST < time {
+        return false;
+    }
+    claim == action
+}
+
+// The pass. A difference is the other time less the local one, with the clock's end added, so that none is below 0; the tolerance is reckoned
+// once, after it.
 fn find_differences(stamps: &[u64], claims: &[u64], times: &[u64], actions: &[u64]) -> Differences
     ensures { λ r. ⌜ r ≡ passOf (entriesOf (now (stamps .entry)) (now (claims .entry)))
         (entriesOf (now (times .entry)) (now (actions .entry))) ⌝ }
@@ -65,28 +87,18 @@ fn find_differences(stamps: &[u64], claims: &[u64], times: &[u64], actions: &[u6
         least(stamps.len(), claims.len()),
         least(times.len(), actions.len()),
     );
-    let mut smallest: u64 = 2 * LAST;
+    let mut smallest: u64 = TWICE;
     let mut largest: u64 = 0;
     let mut i: usize = 0;
     while i < end {
-        let local = stamps[i];
-        if LAST < local {
-            break;
-        }
+        let stamp = stamps[i];
         let time = times[i];
-        if LAST < time {
+        if !goes_on(stamp, claims[i], time, actions[i]) {
             break;
         }
-        if claims[i] != actions[i] {
-            break;
-        }
-        let difference = time + LAST - local;
-        if difference < smallest {
-            smallest = difference;
-        }
-        if largest < difference {
-            largest = difference;
-        }
+        let difference = time + LAST - stamp;
+        smallest = lesser(smallest, difference);
+        largest = greater(largest, difference);
         i += 1;
     }
     Differences {
@@ -100,6 +112,7 @@ fn find_differences(stamps: &[u64], claims: &[u64], times: &[u64], actions: &[u6
 fn bounded(smallest: u64, largest: u64, d: u64, e: u64) -> Comparison
     requires { ⌜ d ≤ mostShift ⌝ }
     requires { ⌜ e ≤ mostShift ⌝ }
+    requires { ⌜ smallest ≤ twice ⌝ }
     ensures { λ r. ⌜ r ≡ boundedOf smallest largest d e ⌝ }
 {
     let low = greater(LAST - d + e, largest) - e;
