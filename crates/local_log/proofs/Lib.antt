@@ -1,3 +1,6 @@
 pub mod Entries
 pub mod Passes
 pub mod Integers
+pub mod Passed
+pub mod Shifts
+pub mod Compared

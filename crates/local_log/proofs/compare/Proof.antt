@@ -1,121 +1,202 @@
+-- `local_log::compare` meets its contract: the bounds of d and e, the pass, the times that it has not passed, the lengths, and the interval.
+-- Assumes nothing.
+use Prim.Native.Nat.{ℕ, _-_, _≤_, min}
+use mathlib.Core.Path.{_≡_, refl, sym, ap, _∙_, subst}
+use mathlib.Core.Bool.{true, false}
+use mathlib.Core.List.{List}
+use native.Mathlib.Omega.{arith}
+use lib.ListN.{length, take, drop}
 use borrow.Author.Needs.{needs}
+use Rattle.local_log.specs.declared.Comparison.{Comparison}
+use Rattle.local_log.specs.declared.Differences.{Differences}
+use Rattle.local_log.specs.Comparisons.{Entry, entriesOf, mostShift, Compared}
+use Rattle.local_log.specs.Passes.{pastEnd, noDifferences, passOf}
+use Rattle.local_log.proofs.Entries.{length-entries}
+use Rattle.local_log.proofs.Passed.{places-are, passed-few}
+use Rattle.local_log.proofs.Compared.{timesFrom, times-from, smallest-small, past-range, past-tolerance, past-local, past-other}
+use Rattle.local_log.proofs.Compared.{local-longer, other-longer, both-passed}
 use Rattle.local_log.proofs.compare.Statement.{statement}
 use Rattle.local_log.proofs.compare.Tie as tie
-use Rattle.local_log.proofs.compare.Reads as reads
-use Rattle.local_log.proofs.compare.Lts as lts
-use Rattle.local_log.proofs.bounded.Reads as bounded-reads
-use Rattle.local_log.proofs.find_differences.Reads as find-differences-reads
-use Rattle.local_log.proofs.past_end.Reads as past-end-reads
-use Rattle.local_log.proofs.refused.Reads as refused-reads
-use Rattle.values.proofs.least.Reads as least-reads
 
--- src/lib.rt:144:9
+-- The two logs, and the places that were passed
+
+abbrev local : tie.Start → List Entry
+local s = entriesOf (s .args .stamps .now) (s .args .claims .now)
+
+abbrev other : tie.Start → List Entry
+other s = entriesOf (s .args .times .now) (s .args .actions .now)
+
+abbrev Found : Type 0
+Found = tie.After-find-differences
+
+abbrev start : Found → tie.Start
+start c = c .before .before .before .before .before .before .before .before .before
+
+abbrev places : Found → ℕ
+places c = c .find-differences .result .places
+
+places-is : (c : Found) → places c ≡ passOf (local (start c)) (other (start c)) .places
+places-is c = ap (λ (p : Differences). p .places) (c .find-differences .ensures)
+
+-- how long the two logs are
+local-long : (c : Found) → c .before .before .least .result ≡ length (local (start c))
+local-long c = c .before .before .least .ensures ∙ sym (length-entries (start c .args .stamps .now) (start c .args .claims .now))
+
+other-long : (c : Found) → c .before .least2 .result ≡ length (other (start c))
+other-long c = c .before .least2 .ensures ∙ sym (length-entries (start c .args .times .now) (start c .args .actions .now))
+
+few : (c : Found) → (places c ≤ c .before .before .least .result) × (places c ≤ c .before .least2 .result)
+few c =
+    let k = passed-few (local (start c)) (other (start c)) in
+    let p = places-is c ∙ places-are noDifferences (local (start c)) (other (start c)) in
+    (omega (arith, k .0, p, local-long c), omega (arith, k .1, p, other-long c))
+
+-- the times that are looked at after the pass
+local-times : (c : Found) → take (c .before .before .least .result - places c) (drop (places c) (start c .args .stamps .now)) ≡ timesFrom (places c) (local (start c))
+local-times c =
+    ap (λ (n : ℕ). take (n - places c) (drop (places c) (start c .args .stamps .now))) (c .before .before .least .ensures)
+    ∙ (times-from (start c .args .stamps .now) (start c .args .claims .now) (places c))
+
+other-times : (c : Found) → take (c .before .least2 .result - places c) (drop (places c) (start c .args .times .now)) ≡ timesFrom (places c) (other (start c))
+other-times c =
+    ap (λ (n : ℕ). take (n - places c) (drop (places c) (start c .args .times .now))) (c .before .least2 .ensures)
+    ∙ (times-from (start c .args .times .now) (start c .args .actions .now) (places c))
+
+-- Where both are in time
+
+abbrev In : Type 0
+In = tie.Else4
+
+abbrev found : In → Found
+found c = c .before .before .before .before .before .before
+
+module _ (c : In) where
+  abbrev at : tie.Start
+  at = start (found c)
+
+  range : at .args .d ≤ mostShift
+  range = omega (arith, found c .before .before .before .before .if1 .left)
+
+  tolerance : at .args .e ≤ mostShift
+  tolerance = omega (arith, found c .before .before .before .if2 .left)
+
+  local-in : pastEnd (timesFrom (places (found c)) (local at)) ≡ false
+  local-in = rw (← local-times (found c)) (sym (c .before .before .before .before .past-end .ensures) ∙ c .before .before .before .if3 .left)
+
+  other-in : pastEnd (timesFrom (places (found c)) (other at)) ≡ false
+  other-in = rw (← other-times (found c)) (sym (c .before .past-end2 .ensures) ∙ c .if4 .left)
+
 refused-requires : tie.Need-refused-requires
 refused-requires c κs = search needs
 
--- src/lib.rt:144:9
 returns : tie.Need-returns
-returns c = ?
+returns c =
+    let s = c .before .before .before .before .before .before in
+    rw (c .refused .ensures) (past-range (s .args .d) (s .args .e) (local s) (other s) (c .before .if1 .taken))
 
--- src/lib.rt:147:9
 refused-requires-2 : tie.Need-refused-requires-2
 refused-requires-2 c κs = search needs
 
--- src/lib.rt:147:9
 returns-2 : tie.Need-returns-2
-returns-2 c = ?
+returns-2 c =
+    let s = c .before .before .before .before .before .before .before in
+    rw (c .refused2 .ensures) (past-tolerance (s .args .d) (s .args .e) (local s) (other s) (c .before .if2 .taken))
 
--- src/lib.rt:149:9
 least-requires : tie.Need-least-requires
 least-requires c κs = search needs
 
--- src/lib.rt:150:9
 least-requires-2 : tie.Need-least-requires-2
 least-requires-2 c κs = search needs
 
--- src/lib.rt:151:9
 find-differences-requires : tie.Need-find-differences-requires
 find-differences-requires c κs = search needs
 
--- src/lib.rt:153:17
 mul-past-end : tie.Need-mul-past-end
-mul-past-end c = ?
+mul-past-end c = omega (arith, few c, start c .good)
 
--- src/lib.rt:153:17
 sub-past-end : tie.Need-sub-past-end
-sub-past-end c = ?
+sub-past-end c = few c .0
 
--- src/lib.rt:153:17
 part-past-end-start : tie.Need-part-past-end-start
-part-past-end-start c = ?
+part-past-end-start c = few c .0
 
--- src/lib.rt:153:17
 part-past-end-end : tie.Need-part-past-end-end
-part-past-end-end c = search needs
+part-past-end-end c = omega (arith, c .before .before .least .ensures)
 
--- src/lib.rt:153:8
 past-end-requires : tie.Need-past-end-requires
 past-end-requires c κs = search needs
 
--- src/lib.rt:154:9
 refused-requires-3 : tie.Need-refused-requires-3
 refused-requires-3 c κs = search needs
 
--- src/lib.rt:154:9
 returns-3 : tie.Need-returns-3
-returns-3 c = ?
+returns-3 c =
+    let f = c .before .before .before .before in
+    let s = start f in
+    rw (c .refused3 .ensures)
+    (past-local (s .args .d) (s .args .e) (local s) (other s) (places f)
+    (rw (← local-times f) (sym (c .before .before .past-end .ensures) ∙ c .before .if3 .taken)))
 
--- src/lib.rt:156:17
 mul-past-end-2 : tie.Need-mul-past-end-2
-mul-past-end-2 c = ?
+mul-past-end-2 c = omega (arith, few (c .before .before .before), start (c .before .before .before) .good)
 
--- src/lib.rt:156:17
 sub-past-end-2 : tie.Need-sub-past-end-2
-sub-past-end-2 c = ?
+sub-past-end-2 c = few (c .before .before .before) .1
 
--- src/lib.rt:156:17
 part-past-end-start-2 : tie.Need-part-past-end-start-2
-part-past-end-start-2 c = ?
+part-past-end-start-2 c = few (c .before .before .before) .1
 
--- src/lib.rt:156:17
 part-past-end-end-2 : tie.Need-part-past-end-end-2
-part-past-end-end-2 c = search needs
+part-past-end-end-2 c = omega (arith, c .before .before .before .before .least2 .ensures)
 
--- src/lib.rt:156:8
 past-end-requires-2 : tie.Need-past-end-requires-2
 past-end-requires-2 c κs = search needs
 
--- src/lib.rt:157:9
 refused-requires-4 : tie.Need-refused-requires-4
 refused-requires-4 c κs = search needs
 
--- src/lib.rt:157:9
 returns-4 : tie.Need-returns-4
-returns-4 c = ?
+returns-4 c =
+    let f = c .before .before .before .before .before .before .before in
+    let s = start f in
+    rw (c .refused4 .ensures)
+    (past-other (s .args .d) (s .args .e) (local s) (other s) (places f)
+    (rw (← other-times f) (sym (c .before .before .past-end2 .ensures) ∙ c .before .if4 .taken)))
 
--- src/lib.rt:160:9
 refused-requires-5 : tie.Need-refused-requires-5
 refused-requires-5 c κs = search needs
 
--- src/lib.rt:160:9
 returns-5 : tie.Need-returns-5
-returns-5 c = ?
+returns-5 c =
+    let i = c .before .before in
+    let s = at i in
+    rw (c .refused5 .ensures)
+    (local-longer (s .args .d) (s .args .e) (local s) (other s) (range i) (tolerance i) (places (found i)) (places-is (found i)) (local-in i) (other-in i)
+    (omega (arith, c .before .if5 .taken, local-long (found i))))
 
--- src/lib.rt:163:9
 refused-requires-6 : tie.Need-refused-requires-6
 refused-requires-6 c κs = search needs
 
--- src/lib.rt:163:9
 returns-6 : tie.Need-returns-6
-returns-6 c = ?
+returns-6 c =
+    let i = c .before .before .before in
+    let s = at i in
+    rw (c .refused6 .ensures)
+    (other-longer (s .args .d) (s .args .e) (local s) (other s) (range i) (tolerance i) (places (found i)) (places-is (found i)) (local-in i) (other-in i)
+    (omega (arith, c .before .if6 .taken, other-long (found i))))
 
--- src/lib.rt:165:5
 bounded-requires : tie.Need-bounded-requires
-bounded-requires c κs = search needs
+bounded-requires c κs =
+    let i = c .before .before in
+    (range i, (tolerance i, rw (found i .find-differences .ensures) (smallest-small noDifferences (local (at i)) (other (at i)))))
 
--- src/lib.rt:132:1
 returns-7 : tie.Need-returns-7
-returns-7 c = ?
+returns-7 c =
+    let i = c .before .before .before in
+    let s = at i in
+    rw (c .bounded .ensures, found i .find-differences .ensures)
+    (both-passed (s .args .d) (s .args .e) (local s) (other s) (range i) (tolerance i) (places (found i)) (places-is (found i)) (local-in i) (other-in i)
+    (omega (arith, c .before .before .if5 .left, local-long (found i))) (omega (arith, c .before .if6 .left, other-long (found i))))
 
 pub compare-spec : {M : Type 1} → statement M
 compare-spec =

@@ -1,0 +1,113 @@
+-- The shifts that serve two logs whose places are all passed: an interval, between the largest and the smallest difference, of which the least is
+-- told. Assumes nothing.
+use Prim.Native.Nat.{ℕ, suc, _+_, _-_, _≤_, _<_, max}
+use mathlib.Core.Path.{_≡_, refl, sym, ap, _∙_, subst}
+use mathlib.Core.Logic.{_↔_}
+use mathlib.Core.Bool.{true, false, cond, _||_}
+use mathlib.Core.List.{List, [], _∷_}
+use native.Mathlib.Omega.{arith}
+use lib.IntN.{ℤ, pos, negℤ, natAbs, subℕ, _+ℤ_, _-ℤ_}
+use lib.Signed.{_≤ℤ_}
+use lib.ListN.{length}
+use borrow.Author.Tests.{lt-ltb, le-ltb}
+use Rattle.model.specs.States.{lastTime}
+use Rattle.model.proofs.Tests.{by-test, if-lt}
+use Rattle.local_log.specs.declared.Comparison.{Comparison}
+use Rattle.local_log.specs.declared.Differences.{Differences}
+use Rattle.local_log.specs.Comparisons.{Entry, mostShift, Within, SameActions, Near, AllNear, Serves, Least, Compared, no-shift, agree}
+use Rattle.local_log.specs.Passes.{twice, goesOn, difference, noDifferences, noted, passFrom, passOf, lowest, boundedOf}
+use Rattle.local_log.proofs.Integers.{pos-is, neg-is, pos-add, pos-less, nat-abs, sub-le, from-neg}
+use Rattle.local_log.proofs.Passes.{goes-passed}
+use Rattle.local_log.proofs.Passed.{passed}
+
+-- One place, at the shift that is w less the clock's end
+
+module _ (e w : ℕ) where
+  abbrev shift : ℤ
+  shift = subℕ w lastTime
+
+  off : (x y : Entry) → pos (y .time) -ℤ (pos (x .time) +ℤ shift) ≡ subℕ (y .time + lastTime) (x .time + w)
+  off x y = ap (λ (z : ℤ). pos (y .time) -ℤ z) (pos-add (x .time) w lastTime) ∙ pos-less (y .time) (x .time + w) lastTime
+
+  pub near-iff : (x y : Entry) → x .time ≤ lastTime → Near e shift x y ↔ ((difference x y ≤ w + e) × (w ≤ difference x y + e))
+  near-iff x y h =
+      let n = nat-abs (y .time + lastTime) (x .time + w) e in
+      rw (off x y)
+      (λ k. (omega (arith, n .0 k), omega (arith, n .0 k)), λ (k : (difference x y ≤ w + e) × (w ≤ difference x y + e)). n .1 (omega (arith, k .0, k .1)))
+
+  -- it lies between those that p has kept
+  abbrev pub Between : Differences → Type 0
+  Between p = (p .largest ≤ w + e) × (w ≤ p .smallest + e)
+
+  -- all places
+  pub all-near-iff : (p : Differences) (xs ys : List Entry) → length xs ≤ passed xs ys
+      → (Between p × AllNear e shift xs ys) ↔ Between (passFrom p xs ys)
+  unfolding passFrom passed noted
+  all-near-iff p [] ys = λ h. (λ b. b .0, λ b. (b, tt))
+  all-near-iff p (x ∷ xs) [] = λ h. absurd (omega arith)
+  all-near-iff p (x ∷ xs) (y ∷ ys) = by-test (goesOn x y)
+      (λ g. rw g (λ h. (
+        λ b. let n = near-iff x y (goes-passed x y g .local-time) .0 (b .1 .0) in
+          all-near-iff (noted p x y) xs ys (omega arith) .0 ((omega (arith, b .0, n .0), omega (arith, b .0, n .1)), b .1 .1),
+        λ b. let k = all-near-iff (noted p x y) xs ys (omega arith) .1 b in
+          ((omega (arith, k .0), omega (arith, k .0)),
+          (near-iff x y (goes-passed x y g .local-time) .1 (omega (arith, k .0), omega (arith, k .0)), k .1)),
+      )))
+      (λ g. rw g (λ h. absurd (omega arith)))
+
+-- All shifts of two logs that are passed as a whole
+
+module _ (d e : ℕ) (xs ys : List Entry) (range : d ≤ mostShift) (tolerance : e ≤ mostShift) (whole : length xs ≤ passed xs ys) where
+  abbrev kept : Differences
+  kept = passOf xs ys
+
+  abbrev low : ℕ
+  low = lowest (kept .largest) d e
+
+  -- they are those of an interval
+  pub record Inside (w : ℕ) : Type 0 where
+    pub above : low ≤ w
+    pub in-range : w ≤ lastTime + d
+    pub below : w ≤ kept .smallest + e
+
+  serves-inside : (w : ℕ) → Serves d e xs ys (subℕ w lastTime) → Inside w
+  serves-inside w s =
+      let from = sub-le (lastTime - d) w lastTime .0 (subst (λ (z : ℤ). z ≤ℤ subℕ w lastTime) (neg-is d lastTime (omega arith)) (s .from)) in
+      let to = sub-le w (lastTime + d) lastTime .0 (subst (λ (z : ℤ). subℕ w lastTime ≤ℤ z) (pos-is d lastTime) (s .to)) in
+      let between = all-near-iff e w noDifferences xs ys whole .0 ((omega arith, omega arith), s .near) in
+      record { above = omega (arith, from, between .0); in-range = to; below = between .1 }
+
+  inside-serves : (w : ℕ) → Inside w → Serves d e xs ys (subℕ w lastTime)
+  inside-serves w i = record {
+    from = subst (λ (z : ℤ). z ≤ℤ subℕ w lastTime) (sym (neg-is d lastTime (omega arith)))
+        (sub-le (lastTime - d) w lastTime .1 (omega (arith, i .above)));
+    to = subst (λ (z : ℤ). subℕ w lastTime ≤ℤ z) (sym (pos-is d lastTime)) (sub-le w (lastTime + d) lastTime .1 (i .in-range));
+    near = all-near-iff e w noDifferences xs ys whole .1 (omega (arith, i .above), i .below) .1;
+  }
+
+  -- a shift that serves is in it
+  found : (s : ℤ) → Serves d e xs ys s → (w : ℕ) × (s ≡ subℕ w lastTime) × Inside w
+  found s h =
+      let w = from-neg d lastTime (omega arith) s (h .from) in
+      (w .0, w .1, serves-inside (w .0) (subst (Serves d e xs ys) (w .1) h))
+
+  none : (low ≤ lastTime + d → low ≤ kept .smallest + e → ⊥) → (s : ℤ) → Serves d e xs ys s → ⊥
+  none empty s h =
+      let f = found s h in
+      empty (omega (arith, f .2 .above, f .2 .in-range)) (omega (arith, f .2 .above, f .2 .below))
+
+  least-is : low ≤ lastTime + d → low ≤ kept .smallest + e → Least d e xs ys (subℕ low lastTime)
+  least-is h g = record {
+    serves = inside-serves low (record { above = omega arith; in-range = h; below = g });
+    least = λ s k. let f = found s k in
+        subst (λ (z : ℤ). subℕ low lastTime ≤ℤ z) (sym (f .1)) (sub-le low (f .0) lastTime .1 (f .2 .above));
+  }
+
+  -- so the interval tells the answer
+  pub bounded-compared : Within d e xs ys → SameActions xs ys → Compared d e xs ys (boundedOf (kept .smallest) (kept .largest) d e)
+  unfolding boundedOf
+  bounded-compared b a = if-lt (lastTime + d) low
+      (λ h. rw (lt-ltb _ _ h) (no-shift b a (none (λ k l. omega arith))))
+      (λ h. if-lt (kept .smallest + e) low
+      (λ g. rw (le-ltb _ _ h, lt-ltb _ _ g) (no-shift b a (none (λ k l. omega arith))))
+      (λ g. rw (le-ltb _ _ h, le-ltb _ _ g) (agree b a (subℕ low lastTime) (least-is h g))))
