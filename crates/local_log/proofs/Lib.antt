@@ -4,3 +4,8 @@ pub mod Integers
 pub mod Passed
 pub mod Shifts
 pub mod Compared
+pub mod Orders
+pub mod LeastShifts
+pub mod Worked
+pub mod Answers
+pub mod Cases

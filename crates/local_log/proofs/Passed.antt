@@ -75,14 +75,14 @@ all-same (x ∷ xs) (y ∷ ys) = by-test (goesOn x y)
     more e f = ap (λ (a : ℕ). a ∷ actionsIn xs) e ∙ ap (λ (l : List ℕ). y .action ∷ l) f
 
 -- the head of a list, and what follows it
-head-same : {a b : ℕ} {l m : List ℕ} → _≡_ {A = List ℕ} (a ∷ l) (b ∷ m) → a ≡ b
+pub head-same : {a b : ℕ} {l m : List ℕ} → _≡_ {A = List ℕ} (a ∷ l) (b ∷ m) → a ≡ b
 head-same e = ap (λ (k : List ℕ). head k) e
   where
     head : List ℕ → ℕ
     head [] = 0
     head (x ∷ l) = x
 
-tail-same : {a b : ℕ} {l m : List ℕ} → _≡_ {A = List ℕ} (a ∷ l) (b ∷ m) → l ≡ m
+pub tail-same : {a b : ℕ} {l m : List ℕ} → _≡_ {A = List ℕ} (a ∷ l) (b ∷ m) → l ≡ m
 tail-same e = ap (λ (k : List ℕ). drop 1 k) e
 
 -- within bounds, logs with the same actions are passed as a whole

@@ -9,6 +9,7 @@ use lib.Signed.{_≤ℤ_}
 use lib.ListN.{length, getD}
 use Rattle.local_log.specs.declared.Comparison.{Comparison}
 use Rattle.local_log.specs.Comparisons.{Entry, entry, entriesOf, mostShift, Within, SameActions, Serves, Least, comparison, Compared}
+use Rattle.local_log.specs.Formulas.{leastShift, comparedOf}
 
 -- Logs
 
@@ -57,20 +58,32 @@ abbrev pub LeastTouches : Type 0
 LeastTouches = (d e : ℕ) (local other : List Entry) (s : ℤ) → Serves d e local other s
     → Least d e local other s ↔ ((s ≡ negℤ (pos d)) ⊎ Touches e s local other)
 
+-- [13.70] so it is the one that is worked out
+abbrev pub WhichShift : Type 0
+WhichShift = (d e : ℕ) (local other : List Entry) (s : ℤ) → Least d e local other s → s ≡ leastShift d e local other
+
+-- [13.72] and what an answer means is the same as to be the one worked out
+abbrev pub ComparedExactly : Type 0
+ComparedExactly = (d e : ℕ) (local other : List Entry) (r : Comparison) → Compared d e local other r ↔ (r ≡ comparedOf d e local other)
+
 -- [13.75] two logs without an entry
 abbrev pub NoEntries : Type 0
 NoEntries = (d e : ℕ) → d ≤ mostShift → e ≤ mostShift → Compared d e [] [] (comparison 0 (negℤ (pos d)))
 
 -- A clock that is off
 
--- [13.80] where the shift s serves, the answer is 0, its shift is not above s and, if there is an entry, not more than 2e below
+-- [13.80] where the shift s serves, the answer is 0, its shift is not above s and, if there is an entry, not more than 2e below; so with e = 0 it is s
 abbrev pub ClockOff : Type 0
 ClockOff = (d e : ℕ) (local other : List Entry) (s : ℤ) (r : Comparison)
     → Within d e local other → SameActions local other → Serves d e local other s → Compared d e local other r
-    → (r .code ≡ 0) × (r .shift ≤ℤ s) × (local ≢ [] → s ≤ℤ (r .shift +ℤ pos (e + e)))
+    → (r .code ≡ 0) × (r .shift ≤ℤ s) × (local ≢ [] → s ≤ℤ (r .shift +ℤ pos (e + e))) × (e ≡ 0 → local ≢ [] → r .shift ≡ s)
 
 -- [13.85] what agrees does so with a wider range and tolerance, at a shift that is not above
 abbrev pub Wider : Type 0
 Wider = (d e wider looser : ℕ) (local other : List Entry) (r t : Comparison)
     → d ≤ wider → wider ≤ mostShift → e ≤ looser → looser ≤ mostShift
     → Compared d e local other r → r .code ≡ 0 → Compared wider looser local other t → (t .code ≡ 0) × (t .shift ≤ℤ r .shift)
+
+-- [13.87] the other way round the same shift serves with the other sign
+abbrev pub OtherWayRound : Type 0
+OtherWayRound = (d e : ℕ) (local other : List Entry) (s : ℤ) → Serves d e local other s ↔ Serves d e other local (negℤ s)

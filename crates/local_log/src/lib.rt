@@ -6,6 +6,7 @@ ghost use mathlib.Core.Path.{_≡_};
 ghost use Prim.Native.Nat.{_≤_, min};
 ghost use lib.IntN.{pos};
 ghost use Rattle.local_log.specs.Comparisons.{entry, entriesOf, mostShift, comparison, Compared};
+ghost use Rattle.local_log.specs.Formulas.{comparedOf};
 ghost use Rattle.local_log.specs.Passes.{pastEnd, goesOn, twice, passOf, boundedOf};
 
 // [2.40] The clock's end.
@@ -129,7 +130,8 @@ fn bounded(smallest: u64, largest: u64, d: u64, e: u64) -> Comparison
     }
 }
 
-// [13.60] [21.110] Holds a local log against another log.
+// [13.20] [13.60] [13.90] [21.110] Holds a local log against another log. The first contract says what the answer means, the second how it is worked
+// out.
 pub fn compare(
     stamps: &[u64],
     claims: &[u64],
@@ -138,8 +140,10 @@ pub fn compare(
     d: u64,
     e: u64,
 ) -> Comparison
-    ensures { λ r. ⌜ Compared d e (entriesOf (now (stamps .entry)) (now (claims .entry)))
+    ensures means { λ r. ⌜ Compared d e (entriesOf (now (stamps .entry)) (now (claims .entry)))
         (entriesOf (now (times .entry)) (now (actions .entry))) r ⌝ }
+    ensures equals { λ r. ⌜ r ≡ comparedOf d e (entriesOf (now (stamps .entry)) (now (claims .entry)))
+        (entriesOf (now (times .entry)) (now (actions .entry))) ⌝ }
 {
     if MOST < d {
         return refused(19);

@@ -10,11 +10,13 @@ use borrow.Author.Needs.{needs}
 use Rattle.local_log.specs.declared.Comparison.{Comparison}
 use Rattle.local_log.specs.declared.Differences.{Differences}
 use Rattle.local_log.specs.Comparisons.{Entry, entriesOf, mostShift, Compared}
-use Rattle.local_log.specs.Passes.{pastEnd, noDifferences, passOf}
+use Rattle.local_log.specs.Formulas.{comparedOf}
+use Rattle.local_log.specs.Passes.{pastEnd, noDifferences, passOf, boundedOf}
 use Rattle.local_log.proofs.Entries.{length-entries}
 use Rattle.local_log.proofs.Passed.{places-are, passed-few}
 use Rattle.local_log.proofs.Compared.{timesFrom, times-from, smallest-small, past-range, past-tolerance, past-local, past-other}
 use Rattle.local_log.proofs.Compared.{local-longer, other-longer, both-passed}
+use Rattle.local_log.proofs.Worked.{compared-exactly}
 use Rattle.local_log.proofs.compare.Statement.{statement}
 use Rattle.local_log.proofs.compare.Tie as tie
 
@@ -25,6 +27,13 @@ local s = entriesOf (s .args .stamps .now) (s .args .claims .now)
 
 abbrev other : tie.Start → List Entry
 other s = entriesOf (s .args .times .now) (s .args .actions .now)
+
+-- both contracts, of a result that is an answer
+answered : (s : tie.Start) {r x : Comparison} → r ≡ x → Compared (s .args .d) (s .args .e) (local s) (other s) x
+    → Compared (s .args .d) (s .args .e) (local s) (other s) r × (r ≡ comparedOf (s .args .d) (s .args .e) (local s) (other s))
+answered s {r} e h =
+    let c = subst (Compared (s .args .d) (s .args .e) (local s) (other s)) (sym e) h in
+    (c, compared-exactly (s .args .d) (s .args .e) (local s) (other s) r .0 c)
 
 abbrev Found : Type 0
 Found = tie.After-find-differences
@@ -92,7 +101,7 @@ refused-requires c κs = search needs
 returns : tie.Need-returns
 returns c =
     let s = c .before .before .before .before .before .before in
-    rw (c .refused .ensures) (past-range (s .args .d) (s .args .e) (local s) (other s) (c .before .if1 .taken))
+    answered s (c .refused .ensures) (past-range (s .args .d) (s .args .e) (local s) (other s) (c .before .if1 .taken))
 
 refused-requires-2 : tie.Need-refused-requires-2
 refused-requires-2 c κs = search needs
@@ -100,7 +109,7 @@ refused-requires-2 c κs = search needs
 returns-2 : tie.Need-returns-2
 returns-2 c =
     let s = c .before .before .before .before .before .before .before in
-    rw (c .refused2 .ensures) (past-tolerance (s .args .d) (s .args .e) (local s) (other s) (c .before .if2 .taken))
+    answered s (c .refused2 .ensures) (past-tolerance (s .args .d) (s .args .e) (local s) (other s) (c .before .if2 .taken))
 
 least-requires : tie.Need-least-requires
 least-requires c κs = search needs
@@ -133,7 +142,7 @@ returns-3 : tie.Need-returns-3
 returns-3 c =
     let f = c .before .before .before .before in
     let s = start f in
-    rw (c .refused3 .ensures)
+    answered s (c .refused3 .ensures)
     (past-local (s .args .d) (s .args .e) (local s) (other s) (places f)
     (rw (← local-times f) (sym (c .before .before .past-end .ensures) ∙ c .before .if3 .taken)))
 
@@ -159,7 +168,7 @@ returns-4 : tie.Need-returns-4
 returns-4 c =
     let f = c .before .before .before .before .before .before .before in
     let s = start f in
-    rw (c .refused4 .ensures)
+    answered s (c .refused4 .ensures)
     (past-other (s .args .d) (s .args .e) (local s) (other s) (places f)
     (rw (← other-times f) (sym (c .before .before .past-end2 .ensures) ∙ c .before .if4 .taken)))
 
@@ -170,7 +179,7 @@ returns-5 : tie.Need-returns-5
 returns-5 c =
     let i = c .before .before in
     let s = at i in
-    rw (c .refused5 .ensures)
+    answered s (c .refused5 .ensures)
     (local-longer (s .args .d) (s .args .e) (local s) (other s) (range i) (tolerance i) (places (found i)) (places-is (found i)) (local-in i) (other-in i)
     (omega (arith, c .before .if5 .taken, local-long (found i))))
 
@@ -181,7 +190,7 @@ returns-6 : tie.Need-returns-6
 returns-6 c =
     let i = c .before .before .before in
     let s = at i in
-    rw (c .refused6 .ensures)
+    answered s (c .refused6 .ensures)
     (other-longer (s .args .d) (s .args .e) (local s) (other s) (range i) (tolerance i) (places (found i)) (places-is (found i)) (local-in i) (other-in i)
     (omega (arith, c .before .if6 .taken, other-long (found i))))
 
@@ -194,7 +203,7 @@ returns-7 : tie.Need-returns-7
 returns-7 c =
     let i = c .before .before .before in
     let s = at i in
-    rw (c .bounded .ensures, found i .find-differences .ensures)
+    answered s (c .bounded .ensures ∙ ap (λ (p : Differences). boundedOf (p .smallest) (p .largest) (s .args .d) (s .args .e)) (found i .find-differences .ensures))
     (both-passed (s .args .d) (s .args .e) (local s) (other s) (range i) (tolerance i) (places (found i)) (places-is (found i)) (local-in i) (other-in i)
     (omega (arith, c .before .before .if5 .left, local-long (found i))) (omega (arith, c .before .if6 .left, other-long (found i))))
 
