@@ -3,6 +3,7 @@
 #include "checks.h"
 #include "funnelfawn.h"
 
+#include <stddef.h>
 #include <string.h>
 
 static uint64_t table[FUNNELFAWN_TABLE_LENGTH];
@@ -721,6 +722,10 @@ static void has_spans(const char *recording, const char *due)
 #define WHOLE_CASE \
     "0,1,try\n3,1,test\n3,2,try\n4,2,test\n8,1,set\n9,2,set\n15,1,check\n16,1,check\n18,2,check\n24,0,wait\n20,1,test\n20,2,crit\n19,0,wait\n"
 
+#define REFUSED_BETWEEN \
+    "0,1,try\n1,1,test\n2,1,set\n10,1,check\n10,2,crit\n12,1,crit\n11,1,exit\n13,2,exit\n16,1,exit\n18,1,reset\n18,2,try\n20,2,test\n" \
+    "21,2,set\n22,1,rem\n29,2,check\n31,2,crit\n"
+
 /* [11.100], [11.105], [11.110]; a span of no time at all, and acts that are refused; the last moment that there is; and two windows of
  * different age, of which the older one is let in when the other would be late. */
 static void spans(void)
@@ -729,9 +734,7 @@ static void spans(void)
     has_spans(HEAD, "window,from,to\n");
     has_spans(FORMER_HEAD WHOLE_CASE, "window,from,to\n2,20,-\n");
     has_spans("windows,b,c\n2,8,12\nwindow,a\n1,5\n2,5\ntime,window,act\n" WHOLE_CASE, "window,from,to\n2,20,-\n");
-    has_spans(FORMER_HEAD "0,1,try\n1,1,test\n2,1,set\n10,1,check\n10,2,crit\n12,1,crit\n11,1,exit\n13,2,exit\n16,1,exit\n18,1,reset\n18,2,try\n"
-                          "20,2,test\n21,2,set\n22,1,rem\n29,2,check\n31,2,crit\n",
-              "window,from,to\n1,12,16\n2,31,-\n");
+    has_spans(FORMER_HEAD REFUSED_BETWEEN, "window,from,to\n1,12,16\n2,31,-\n");
     has_spans(HEAD "0,2,try\n0,2,test\n0,2,set\n8,2,check\n8,2,crit\n8,2,crit\n7,2,exit\n8,1,exit\n8,2,exit\n8,2,exit\n",
               "window,from,to\n2,8,8\n");
     has_spans("windows,a,b,c\n96,5,8,12\ntime,window,act\n999999999992,96,try\n999999999992,96,test\n999999999992,96,set\n"
@@ -782,6 +785,143 @@ static void longest_spans(void)
     CHECK(says(funnelfawn_spans(text, length + 1, NULL, 0), FUNNELFAWN_REFUSED_LENGTH, 0, 0) && is_filled(0));
 }
 
+/* The three numbers of a comparison, one behind the other; that the last has a sign, the shifts below show. */
+static void comparison_layout(void)
+{
+    CHECK(sizeof(struct funnelfawn_comparison) == 24 && offsetof(struct funnelfawn_comparison, number) == 0);
+    CHECK(offsetof(struct funnelfawn_comparison, window) == 8 && offsetof(struct funnelfawn_comparison, shift) == 16);
+    CHECK(FUNNELFAWN_MOST_SHIFT == 1000000);
+}
+
+/* A notebook of so many moments and so many acts. */
+struct notebook {
+    uint64_t moments[4], acts[4];
+    size_t moments_length, acts_length;
+};
+
+static struct funnelfawn_comparison compare(struct notebook till, struct notebook other, uint64_t d, uint64_t e)
+{
+    const struct notebook lent[] = {till, other};
+    struct funnelfawn_comparison found =
+        funnelfawn_compare_notebook(till.moments, till.moments_length, till.acts, till.acts_length, other.moments, other.moments_length,
+                                    other.acts, other.acts_length, d, e);
+
+    CHECK(memcmp(&lent[0], &till, sizeof till) == 0 && memcmp(&lent[1], &other, sizeof other) == 0 && found.window == 0);
+    return found;
+}
+
+static int agrees(struct notebook till, struct notebook other, uint64_t d, uint64_t e, int64_t shift)
+{
+    struct funnelfawn_comparison found = compare(till, other, d, e);
+
+    return found.number == FUNNELFAWN_OK && found.shift == shift;
+}
+
+static int differs(struct notebook till, struct notebook other, uint64_t d, uint64_t e, uint64_t number)
+{
+    struct funnelfawn_comparison found = compare(till, other, d, e);
+
+    return found.number == number && found.shift == 0;
+}
+
+/* [13.150] [13.155] A clock that is behind, one that is ahead, and notes that are shaken; from one end of the shifts to the other. */
+static void shifts(void)
+{
+    const struct notebook till = {{18800, 19800, 23800}, {1, 2, 3}, 3, 3}, other = {{20000, 21000, 25000}, {1, 2, 3}, 3, 3};
+    const struct notebook shaken = {{20000, 21060, 24970}, {1, 2, 3}, 3, 3};
+    const struct notebook first = {{0}, {1}, 1, 1}, last = {{FUNNELFAWN_MOST_SHIFT}, {1}, 1, 1};
+
+    CHECK(agrees(till, other, 5000, 0, 1200) && agrees(till, other, 5000, 100, 1100));
+    CHECK(differs(till, other, 1000, 100, FUNNELFAWN_REFUSED_NO_SHIFT) && agrees(till, other, 1000, 200, 1000));
+    CHECK(agrees(other, till, 5000, 100, -1300) && agrees(other, till, 5000, 0, -1200));
+    CHECK(agrees(till, shaken, 5000, 45, 1215) && differs(till, shaken, 5000, 44, FUNNELFAWN_REFUSED_NO_SHIFT));
+    CHECK(agrees(first, last, FUNNELFAWN_MOST_SHIFT, 0, FUNNELFAWN_MOST_SHIFT) && agrees(last, first, FUNNELFAWN_MOST_SHIFT, 0, -FUNNELFAWN_MOST_SHIFT));
+    CHECK(differs(first, last, FUNNELFAWN_MOST_SHIFT - 1, 0, FUNNELFAWN_REFUSED_NO_SHIFT) && agrees(first, last, FUNNELFAWN_MOST_SHIFT - 1, 1, 999999));
+    CHECK(agrees(first, last, 0, FUNNELFAWN_MOST_SHIFT, 0) && agrees(last, last, FUNNELFAWN_MOST_SHIFT, FUNNELFAWN_MOST_SHIFT, -FUNNELFAWN_MOST_SHIFT));
+}
+
+/* [13.75] [13.160] Which number comes first, and which places count. */
+static void notebook_refusals(void)
+{
+    const uint64_t end = UINT64_C(1000000000000), most = FUNNELFAWN_MOST_SHIFT;
+    const struct notebook none = {{0}, {0}, 0, 0}, till = {{7, end + 1}, {1, 2}, 2, 2}, other = {{7, 8}, {1, 3}, 2, 2};
+    struct notebook edited = till;
+
+    CHECK(differs(till, other, 5, 0, FUNNELFAWN_REFUSED_NOTEBOOK_BOUNDS) && differs(other, till, 5, 0, FUNNELFAWN_REFUSED_NOTEBOOK_BOUNDS));
+    /* what the shorter list leaves out, be it of the acts or of the moments */
+    edited.acts_length = 1;
+    CHECK(differs(edited, other, 5, 0, FUNNELFAWN_REFUSED_OTHER_ACTS) && agrees(edited, (struct notebook){{7}, {1}, 1, 4}, 5, 0, 0));
+    edited.acts_length = 2, edited.moments_length = 1;
+    CHECK(differs(edited, other, 5, 0, FUNNELFAWN_REFUSED_OTHER_ACTS) && agrees((struct notebook){{7}, {1}, 4, 1}, edited, 5, 0, 0));
+    edited = till, edited.moments[1] = end;
+    CHECK(differs(edited, other, 5, 0, FUNNELFAWN_REFUSED_OTHER_ACTS) && agrees(edited, edited, 5, 2, -2));
+    edited.acts[0] = edited.acts[1] = UINT64_MAX;
+    CHECK(agrees(edited, edited, 5, 0, 0) && differs(edited, till, 5, 0, FUNNELFAWN_REFUSED_NOTEBOOK_BOUNDS));
+    CHECK(differs(none, none, most + 1, 0, FUNNELFAWN_REFUSED_NOTEBOOK_BOUNDS) && differs(none, none, 0, most + 1, FUNNELFAWN_REFUSED_NOTEBOOK_BOUNDS));
+    CHECK(differs(none, none, UINT64_MAX, 0, FUNNELFAWN_REFUSED_NOTEBOOK_BOUNDS) && differs(none, none, 0, UINT64_MAX, FUNNELFAWN_REFUSED_NOTEBOOK_BOUNDS));
+    CHECK(agrees(none, none, most, most, -FUNNELFAWN_MOST_SHIFT) && agrees(none, none, 5, 0, -5) && agrees(none, none, 0, 0, 0));
+    CHECK(differs(none, other, 5, 0, FUNNELFAWN_REFUSED_OTHER_ACTS) && differs(other, none, 5, 0, FUNNELFAWN_REFUSED_OTHER_ACTS));
+    CHECK(funnelfawn_compare_notebook(NULL, 0, NULL, 0, NULL, 0, NULL, 0, 3, 2).shift == -3);
+}
+
+/* The accepted acts of a window, into two lists of so many places. */
+static struct funnelfawn_answer accepted_into(const char *words, uint64_t window, size_t moments_room, size_t acts_room)
+{
+    fill_lists();
+    return funnelfawn_accepted_acts((const uint8_t *)words, strlen(words), window, moments, moments_room, acts, acts_room);
+}
+
+/* So many places of both lists hold these, and the others are as they were. */
+static int has_notes(const uint64_t *due_moments, const uint64_t *due_acts, size_t count)
+{
+    size_t i = 0;
+
+    while (i < count && moments[i] == due_moments[i] && acts[i] == due_acts[i])
+        i++;
+    while (i >= count && i < FUNNELFAWN_MOST_STEPS && moments[i] == FILLED && acts[i] == FILLED)
+        i++;
+    return i == FUNNELFAWN_MOST_STEPS;
+}
+
+/* [13.165] What is refused is not there; how much room there has to be, and in what order the refusals come. */
+static void accepted_acts(void)
+{
+    static const uint64_t moments_of_1[] = {0, 1, 2, 10, 12, 16, 18, 22}, acts_of_1[] = {1, 2, 3, 4, 5, 6, 7, 8};
+    static const uint64_t moments_of_2[] = {18, 20, 21, 29, 31}, *const acts_of_2 = acts_of_1;
+    const size_t most = FUNNELFAWN_MOST_STEPS;
+
+    CHECK(says(accepted_into(FORMER_HEAD REFUSED_BETWEEN, 1, most, most), FUNNELFAWN_OK, 0, 8) && has_notes(moments_of_1, acts_of_1, 8));
+    CHECK(says(accepted_into(FORMER_HEAD REFUSED_BETWEEN, 2, most, most), FUNNELFAWN_OK, 0, 5) && has_notes(moments_of_2, acts_of_2, 5));
+    CHECK(says(accepted_into(FORMER_HEAD REFUSED_BETWEEN, 1, 8, 9), FUNNELFAWN_OK, 0, 8) && has_notes(moments_of_1, acts_of_1, 8));
+    CHECK(says(accepted_into(FORMER_HEAD REFUSED_BETWEEN, 1, 7, 8), FUNNELFAWN_REFUSED_SHORT_OUTPUT, 0, 0) && has_notes(NULL, NULL, 0));
+    CHECK(says(accepted_into(FORMER_HEAD REFUSED_BETWEEN, 1, 8, 7), FUNNELFAWN_REFUSED_SHORT_OUTPUT, 0, 0) && has_notes(NULL, NULL, 0));
+    CHECK(says(accepted_into(FORMER_HEAD REFUSED_BETWEEN, 0, most, most), FUNNELFAWN_REFUSED_NO_WINDOW, 0, 0) && has_notes(NULL, NULL, 0));
+    CHECK(says(accepted_into(FORMER_HEAD REFUSED_BETWEEN, 3, 0, 0), FUNNELFAWN_REFUSED_NO_WINDOW, 0, 0) && has_notes(NULL, NULL, 0));
+    CHECK(says(accepted_into(FORMER_HEAD "0,0,wait\n", 1, 0, 0), FUNNELFAWN_OK, 0, 0) && has_notes(NULL, NULL, 0));
+    /* the fault comes first, with the line that spans have */
+    CHECK(says(accepted_into("windows,b,c\n2,5,12\nwindow,a\n1,4\n2,5\n", 3, 0, 0), FUNNELFAWN_REFUSED_LIMITS, 0, 5));
+    CHECK(says(accepted_into("windows,b,c\n97,5,12\n", 98, most, most), FUNNELFAWN_REFUSED_WINDOW_COUNT, 0, 2) && has_notes(NULL, NULL, 0));
+    CHECK(says(accepted_into(HEAD "0,1,try\n1,1,sell\n", 1, most, most), FUNNELFAWN_REFUSED_LINE, 0, 8) && has_notes(NULL, NULL, 0));
+    CHECK(says(funnelfawn_accepted_acts(NULL, 0, 1, NULL, 0, NULL, 0), FUNNELFAWN_REFUSED_NAMES, 0, 1));
+}
+
+/* As many as there can be, or nearly: window 1 tests again and again at 0, as window 2 has set the word. One byte more is too long. */
+static void most_accepted_acts(void)
+{
+    const char *head = FORMER_HEAD "0,2,try\n0,2,test\n0,2,set\n0,1,try\n", *line = "0,1,test\n";
+    size_t length = strlen(head), count = 1;
+
+    memcpy(text, head, length);
+    for (; length + strlen(line) <= FUNNELFAWN_MOST_TEXT; length += strlen(line), count++)
+        memcpy(text + length, line, strlen(line));
+    fill_lists();
+    CHECK(says(funnelfawn_accepted_acts(text, length, 1, moments, count - 1, acts, count), FUNNELFAWN_REFUSED_SHORT_OUTPUT, 0, 0));
+    CHECK(has_notes(NULL, NULL, 0));
+    CHECK(says(funnelfawn_accepted_acts(text, length, 1, moments, FUNNELFAWN_MOST_STEPS, acts, FUNNELFAWN_MOST_STEPS), FUNNELFAWN_OK, 0, count));
+    CHECK(moments[count - 1] == 0 && acts[0] == FUNNELFAWN_ACT_TRY && acts[count - 1] == FUNNELFAWN_ACT_TEST && acts[count] == FILLED);
+    CHECK(says(funnelfawn_accepted_acts(text, sizeof text, 0, moments, 0, acts, 0), FUNNELFAWN_REFUSED_LENGTH, 0, 0));
+}
+
 int main(void)
 {
     for (size_t i = 0; i < FUNNELFAWN_WINDOWS; i++)
@@ -808,5 +948,10 @@ int main(void)
     spans();
     faults_of_spans();
     longest_spans();
+    comparison_layout();
+    shifts();
+    notebook_refusals();
+    accepted_acts();
+    most_accepted_acts();
     return say_checks("the header");
 }

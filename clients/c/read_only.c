@@ -1,7 +1,8 @@
 /* What the steps write, tried on memory that can only be read: a refused one writes nothing but the count of refused acts, and an accepted
  * one nothing but its own numbers and, where time goes unused, waits. So it is with the step of the second engine, which counts nothing; the
- * calls between the two kinds of table, and those for a fresh one, write a whole one or nothing; and the values of a are only read, but where
- * a reading puts them. A fault is a check that fails. Each check names the line that fails; the last line counts them. */
+ * calls between the two kinds of table, and those for a fresh one, write a whole one or nothing; the values of a are only read, but where a
+ * reading puts them; and notebooks are only read, but where accepted acts are put. A fault is a check that fails. Each check names the line
+ * that fails; the last line counts them. */
 #define _DEFAULT_SOURCE
 
 #include "funnelfawn.h"
@@ -39,6 +40,9 @@ struct ground {
 };
 
 static struct ground table, deadlines, summary, board, values, times;
+
+/* The lists of two notebooks, a till's moments and acts and then the box's, of which accepted acts take the last two. */
+static struct ground notes[4];
 
 static void need(int done)
 {
@@ -179,6 +183,23 @@ static uint64_t read_text(const char *text)
         return FAULTED;
     return funnelfawn_read((const uint8_t *)text, strlen(text), values.list, values.length, times.list, times.length, windows, 2, acts, 2)
         .answer.number;
+}
+
+static uint64_t compare(void)
+{
+    if (sigsetjmp(before_the_call, 1) != 0)
+        return FAULTED;
+    return funnelfawn_compare_notebook(notes[0].list, notes[0].length, notes[1].list, notes[1].length, notes[2].list, notes[2].length,
+                                       notes[3].list, notes[3].length, 10, 1)
+        .number;
+}
+
+static uint64_t accept(const char *text, uint64_t window)
+{
+    if (sigsetjmp(before_the_call, 1) != 0)
+        return FAULTED;
+    return funnelfawn_accepted_acts((const uint8_t *)text, strlen(text), window, notes[2].list, notes[2].length, notes[3].list, notes[3].length)
+        .number;
 }
 
 /* The two recorded steps, which have to write the same as long as no crit is accepted. */
@@ -446,6 +467,54 @@ static void values_read(void)
     }
 }
 
+/* [13.90] The four lists of a comparison lie at the end of what can be read, and cannot be written, whatever their lengths. */
+static void notebooks_compared(void)
+{
+    static const struct { size_t lengths[4]; uint64_t number; } cases[] = {
+        {{3, 3, 3, 3}, FUNNELFAWN_OK},
+        {{0, 0, 0, 0}, FUNNELFAWN_OK},
+        {{4, 3, 3, 4}, FUNNELFAWN_OK},
+        {{0, 4, 4, 0}, FUNNELFAWN_OK},
+        {{3, 3, 3, 2}, FUNNELFAWN_REFUSED_OTHER_ACTS},
+        {{1, 3, 3, 3}, FUNNELFAWN_REFUSED_OTHER_ACTS},
+        {{4, 4, 3, 3}, FUNNELFAWN_REFUSED_NOTEBOOK_BOUNDS},
+        {{3, 3, 4, 4}, FUNNELFAWN_REFUSED_NOTEBOOK_BOUNDS},
+        {{2, 2, 4, 4}, FUNNELFAWN_REFUSED_NOTEBOOK_BOUNDS},
+    };
+    static const uint64_t noted[4][4] = {{0, 1, 2, UINT64_MAX}, {1, 2, 3, 4}, {10, 11, 12, UINT64_MAX}, {1, 2, 3, 4}};
+    static const uint64_t shaken[] = {10, 14, 12};
+
+    for (size_t i = 0; i < sizeof cases / sizeof cases[0]; i++) {
+        for (size_t k = 0; k < 4; k++)
+            lay(&notes[k], noted[k], cases[i].lengths[k], NONE, 0);
+        CHECK(compare() == cases[i].number, "a comparison", i);
+    }
+    for (size_t k = 0; k < 4; k++)
+        lay(&notes[k], k == 2 ? shaken : noted[k], 3, NONE, 0);
+    CHECK(compare() == FUNNELFAWN_REFUSED_NO_SHIFT, "a comparison without a shift", 0);
+}
+
+/* [13.120] [13.125] Refused, neither list can be written; taken out, what lies past the accepted acts cannot. */
+static void notebooks_accepted(void)
+{
+    const char *text = "windows,b,c\n2,8,12\nwindow,a\n1,4\n2,5\ntime,window,act\n7,1,try\n7,1,set\n8,2,try\n9,1,test\n";
+    const char *faulty = "windows,b,c\n2,8,12\nwindow,a\n1,4\n2,5\ntime,window,act\n7,1,try\n9,1,sell\n";
+    static const uint64_t filled[3] = {0}, due_moments[3] = {7, 9}, due_acts[3] = {FUNNELFAWN_ACT_TRY, FUNNELFAWN_ACT_TEST};
+
+    lay(&notes[2], filled, 3, NONE, 0);
+    lay(&notes[3], filled, 3, NONE, 0);
+    CHECK(accept(faulty, 1) == FUNNELFAWN_REFUSED_LINE, "a faulty recording", 1);
+    CHECK(accept(text, 0) == FUNNELFAWN_REFUSED_NO_WINDOW && accept(text, 3) == FUNNELFAWN_REFUSED_NO_WINDOW, "no such window", 3);
+    lay(&notes[2], filled, 1, NONE, 0);
+    CHECK(accept(text, 1) == FUNNELFAWN_REFUSED_SHORT_OUTPUT, "too few places for the moments", 1);
+    lay(&notes[2], filled, 3, NONE, 0);
+    lay(&notes[3], filled, 1, NONE, 0);
+    CHECK(accept(text, 1) == FUNNELFAWN_REFUSED_SHORT_OUTPUT, "too few places for the acts", 1);
+    lay(&notes[2], filled, 3, BEFORE, 2);
+    lay(&notes[3], filled, 3, BEFORE, 2);
+    CHECK(accept(text, 1) == FUNNELFAWN_OK && holds(&notes[2], due_moments) && holds(&notes[3], due_acts), "the places behind", 2);
+}
+
 /* [4.2] [4.3] Summaries that are not sound, in one number each, too short ones, and full ones. */
 static void no_summary(void)
 {
@@ -666,6 +735,8 @@ int main(void)
     need(sigaction(SIGSEGV, &action, NULL) == 0);
     need(funnelfawn_layout() == FUNNELFAWN_LAYOUT);
     reserve(&table), reserve(&deadlines), reserve(&summary), reserve(&board), reserve(&values), reserve(&times);
+    for (size_t k = 0; k < sizeof notes / sizeof notes[0]; k++)
+        reserve(&notes[k]);
     start();
     faults_are_found();
     no_table();
@@ -675,6 +746,8 @@ int main(void)
     values_of_a();
     room_for_fresh();
     values_read();
+    notebooks_compared();
+    notebooks_accepted();
     no_summary();
     refused_acts();
     accepted(1, 96);

@@ -17,7 +17,7 @@ static struct made replay(const uint8_t *recording, size_t length)
 {
     struct funnelfawn_answer answer = funnelfawn_replay(recording, length, report, sizeof report);
 
-    return (struct made){report, (size_t)answer.moment, is_faulty(recording, length)};
+    return (struct made){report, (size_t)answer.moment, is_faulty(recording, length) ? FAULTY : GOOD};
 }
 
 int main(void)

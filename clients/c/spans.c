@@ -14,7 +14,7 @@ static struct made spans(const uint8_t *recording, size_t length)
 
     if (faulty)
         answer = funnelfawn_replay(recording, length, out, sizeof out);
-    return (struct made){out, (size_t)answer.moment, faulty};
+    return (struct made){out, (size_t)answer.moment, faulty ? FAULTY : GOOD};
 }
 
 int main(void)

@@ -1,4 +1,4 @@
-/* What replay.c and spans.c share: a recording comes in on standard input, a text goes out on standard output, and there is a status to end
+/* What replay.c, spans.c and notebook.c share: a recording comes in on standard input, a text goes out on standard output, and there is a status to end
  * with. For a program of one source, to be included before all else. */
 #ifndef STREAMS_H
 #define STREAMS_H
@@ -14,23 +14,23 @@
 #include <string.h>
 #include <unistd.h>
 
-/* The exit status: 0; 1 where the recording is faulty, of which the report is printed all the same; 2 where the recording cannot be read,
- * and then nothing is printed, or where not all of the text can be written. A 2 is explained on standard error if that can be written. */
+/* The exit status: 0; 1 where the recording is faulty; 2 where the recording cannot be read, and then nothing is printed, or where not all of
+ * the text can be written. A 2 is explained on standard error if that can be written. A program may have others beside them. */
 enum { GOOD = 0, FAULTY = 1, BROKEN = 2 };
 
-/* What a program makes of a recording: the text to print, and whether the recording is faulty. */
+/* What a program makes of a recording: the text to print, and the status to end with once all of it is printed. */
 struct made {
     const uint8_t *text;
     size_t length;
-    bool faulty;
+    int status;
 };
 
-/* Fills the room from standard input, to its end or as far as there is room; false where a read fails. */
-static bool read_input(uint8_t *bytes, size_t room, size_t *length)
+/* Fills the room from an open file, to its end or as far as there is room; false where a read fails. */
+static bool read_input(int file, uint8_t *bytes, size_t room, size_t *length)
 {
     *length = 0;
     while (*length < room) {
-        ssize_t got = read(STDIN_FILENO, bytes + *length, room - *length);
+        ssize_t got = read(file, bytes + *length, room - *length);
 
         if (got == 0)
             break;
@@ -78,12 +78,12 @@ static int run(const char *program, const char *called, struct made (*make)(cons
     /* a reader that has gone, or a limit on the size of files, is then a write that fails, and ends with 2 like any other */
     signal(SIGPIPE, SIG_IGN);
     signal(SIGXFSZ, SIG_IGN);
-    if (!read_input(recording, sizeof recording, &length))
+    if (!read_input(STDIN_FILENO, recording, sizeof recording, &length))
         return broken(program, "recording", "read");
     made = make(recording, length);
     if (!write_output(made.text, made.length))
         return broken(program, called, "written");
-    return made.faulty ? FAULTY : GOOD;
+    return made.status;
 }
 
 #endif

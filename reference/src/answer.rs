@@ -1,10 +1,11 @@
 //! The answers of the box: section 4 of the specification.
 //! Where its table has - for a window or a moment, an answer holds 0.
 
-/// [4.0] The answer to an accepted act, to a fresh table and a new board that stand, to what a board accepts, to a reading and to a writing.
+/// [4.0] The answer to an accepted act, to a fresh table and a new board that stand, to what a board accepts, to a reading and to a writing,
+/// and to notebooks that agree.
 pub const ACCEPTED: u64 = 0;
 
-// [4.1] to [4.18], the rows of the table, under their names there.
+// [4.1] to [4.21], the rows of the table, under their names there.
 pub const NO_TABLE: u64 = 1;
 pub const NO_SUMMARY: u64 = 2;
 pub const SUMMARY_FULL: u64 = 3;
@@ -23,6 +24,9 @@ pub const LENGTH: u64 = 15;
 pub const SHORT_OUTPUT: u64 = 16;
 pub const WIDTH: u64 = 17;
 pub const BOARD_FULL: u64 = 18;
+pub const NOTEBOOK_BOUNDS: u64 = 19;
+pub const OTHER_ACTS: u64 = 20;
+pub const NO_SHIFT: u64 = 21;
 
 #[derive(Clone, Copy, Debug, PartialEq, Eq)]
 pub struct Answer {

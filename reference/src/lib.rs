@@ -9,6 +9,7 @@ pub mod deadline;
 pub mod generator;
 pub mod list;
 pub mod machine;
+pub mod notebook;
 pub mod promises;
 pub mod reckoning;
 pub mod recording;

@@ -1,7 +1,7 @@
 //! What the program `replay` prints: section 7 of the specification.
 //! It lends no summary: no recording is long enough for answer 3, and 2 cannot follow from a new one.
 
-use crate::answer::{bare, Answer};
+use crate::answer::{bare, Answer, ACCEPTED};
 use crate::machine::{fresh, step};
 use crate::recording::{read, Fault, Recording, Step};
 
@@ -35,6 +35,11 @@ pub fn run(recording: &Recording) -> impl Iterator<Item = Taken> + '_ {
         (answer, table) = step(table, recorded.act, recorded.window, recorded.time);
         Taken { line, step: recorded, answer }
     })
+}
+
+/// [11.10] The steps that are accepted in the run, in their order.
+pub fn accepted(recording: &Recording) -> impl Iterator<Item = Step> + '_ {
+    run(recording).filter(|taken| taken.answer.number == ACCEPTED).map(|taken| taken.step)
 }
 
 /// Lines under a line of names.

@@ -1,10 +1,10 @@
 //! The spans in which windows sell, and what the program `spans` prints: section 11 of the specification.
 //! They are put together in one pass over the run whose answers `replay` prints.
 
-use crate::answer::{answer, Answer, ACCEPTED};
+use crate::answer::{answer, Answer};
 use crate::machine::{CRIT, EXIT};
 use crate::recording::{put, read, Fault, Recording, Step};
-use crate::replay::{faulty, run, under};
+use crate::replay::{accepted, faulty, under};
 
 const NAMES: &str = "window,from,to\n";
 
@@ -19,9 +19,8 @@ pub struct Span {
 
 /// [11.20] One for each accepted crit, in their order.
 pub fn spans_of(recording: &Recording) -> Vec<Span> {
-    let accepted = run(recording).filter(|taken| taken.answer.number == ACCEPTED);
     let mut spans = Vec::new();
-    accepted.for_each(|taken| note(&mut spans, taken.step));
+    accepted(recording).for_each(|step| note(&mut spans, step));
     spans
 }
 

@@ -1,33 +1,16 @@
-//! The stored calls of `vectors`, which a library is held to, but for those of a board: the reference makes the same of them.
+//! The stored calls of `vectors`, which a library is held to, but for those of a board: the reference makes the same of them. Those of
+//! notebooks are in `notebook.rs`.
 
-use reference::answer::{answer, bare, Answer, ACCEPTED, NO_TABLE};
+mod stored;
+
+use reference::answer::{bare, Answer, ACCEPTED, NO_TABLE};
 use reference::deadline::*;
 use reference::machine::*;
 use reference::recording::{read_into, write};
 use reference::spans::spans;
 use reference::summary::{recorded_step, Summary};
 use std::collections::BTreeSet;
-
-/// What fills the lists of a reading.
-const FILLED: u64 = 7777;
-
-fn fields<const COUNT: usize>(line: &str) -> [&str; COUNT] {
-    let fields: Vec<&str> = line.split('|').map(str::trim).collect();
-    fields.try_into().expect("as many fields as a line has")
-}
-
-fn numbers(field: &str) -> Vec<u64> {
-    field.split_whitespace().map(|word| word.parse().expect("a number")).collect()
-}
-
-fn fixed<const COUNT: usize>(field: &str) -> [u64; COUNT] {
-    numbers(field).try_into().expect("as many numbers as a field has")
-}
-
-fn answered(field: &str) -> Answer {
-    let [number, window, moment] = fixed(field);
-    answer(number, window, moment)
-}
+use stored::{answered, bytes, fields, fixed, numbers, FILLED};
 
 /// The three parts of a table of either kind, as numbers; those that a part leaves out at its end are 0.
 fn parts(field: &str, stride: usize) -> ([u64; 5], Vec<u64>, Vec<u64>) {
@@ -105,12 +88,6 @@ fn recorded_steps() {
         assert_eq!(came, (answered(wanted), table(after)), "{line}");
         assert_eq!(counted, summary(left), "{line}");
     }
-}
-
-/// The bytes that are written in hexadecimal, two digits for each.
-fn bytes(digits: &str) -> Vec<u8> {
-    let byte = |place| u8::from_str_radix(&digits[place..place + 2], 16).expect("two digits");
-    (0..digits.len()).step_by(2).map(byte).collect()
 }
 
 #[test]

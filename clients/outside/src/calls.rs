@@ -3,9 +3,11 @@
 use crate::encoding::LAYOUT;
 use crate::handed::Handed;
 use crate::lent::Lent;
+use crate::notebooks::Notebooks;
 use funnelfawn::raw;
 use reference::answer::{Answer, ACCEPTED};
 use reference::board::Told;
+use reference::notebook::Comparison;
 
 /// Behind every list that is lent.
 const GUARD: u64 = 0xF0F0_F0F0_F0F0_F0F0;
@@ -180,4 +182,39 @@ pub fn spans(text: &[u8], out: &[u8], wanted: (Answer, &[u8])) -> Verdict {
     let mut lent = Lent::new(out, GUARD_BYTE);
     let got = raw::spans(text, lent.list());
     held_text(got, &lent, wanted)
+}
+
+/// The two lists are times and acts.
+pub fn accepted_acts(
+    text: &[u8],
+    window: u64,
+    lists: &[Vec<u64>; 2],
+    wanted: (Answer, &[Vec<u64>; 2]),
+) -> Verdict {
+    let [mut times, mut acts] = lists.each_ref().map(|list| Lent::new(list, GUARD));
+    let got = raw::accepted_acts(text, window, times.list(), acts.list());
+    let (answer, after) = wanted;
+    held(got, answer, [("times", &times, &after[0]), ("acts", &acts, &after[1])])
+}
+
+/// All four lists are only read.
+pub fn compare_notebook(lent: &Notebooks, wanted: Comparison) -> Verdict {
+    let Notebooks { till, kept, d, e } = lent;
+    let lists = [&till.times, &till.acts, &kept.times, &kept.acts];
+    let [mut till_times, mut till_acts, mut times, mut acts] = lists.map(|list| Lent::new(list, GUARD));
+    let got = raw::compare_notebook(till_times.list(), till_acts.list(), times.list(), acts.list(), *d, *e);
+    let names = ["till's times", "till's acts", "box's times", "box's acts"];
+    let left = [&till_times, &till_acts, &times, &acts];
+    let mut read = names.into_iter().zip(left).zip(lists);
+    read.find_map(|((name, left), list)| left.difference(name, list)).map_or(Ok(()), Err)?;
+    same_comparison(got, wanted)
+}
+
+fn same_comparison(got: raw::Comparison, wanted: Comparison) -> Verdict {
+    let raw::Comparison { number, window, shift } = got;
+    let got = Comparison { number, window, shift };
+    if got != wanted {
+        return Err(format!("the answer is {got:?}, not {wanted:?}"));
+    }
+    Ok(())
 }

@@ -1,11 +1,13 @@
 //! The library for C, seen from outside and held to the reference: what the programs `vectors` and `differential` share.
 //! A list is lent as numbers, so what a call leaves is compared number by number, and past the list's end too.
 
+pub mod accepted;
 pub mod acts;
 pub mod boards;
 pub mod calls;
 pub mod corpus;
 pub mod course;
+pub mod days;
 pub mod deadline_lists;
 pub mod deadline_walks;
 pub mod distances;
@@ -15,6 +17,8 @@ pub mod expected;
 pub mod handed;
 pub mod lent;
 pub mod lists;
+pub mod notebooks;
+pub mod shaken;
 pub mod sights;
 pub mod spans;
 pub mod stored;

@@ -4,10 +4,12 @@
 use crate::boards;
 use crate::calls::{self, Verdict};
 use crate::handed::Handed;
+use crate::notebooks::{Lists, Notebooks};
 use funnelfawn::raw::{AT_LIMITS, BOARD, DEADLINES, HEADER, SUMMARY, TABLE};
 use reference::answer::{answer, bare, Answer, ACCEPTED, NO_TABLE, SHORT_OUTPUT};
 use reference::board::Entry;
 use reference::board_list::BoardCall;
+use reference::notebook::{comparison, Comparison};
 
 /// What fills the lists of a reading, and the elements that are lent past a table, a summary and the steps of a writing.
 const FILLED: u64 = 7777;
@@ -62,6 +64,36 @@ pub fn writer(line: &str) -> Verdict {
 pub fn spans(line: &str) -> Verdict {
     let [text, length, answer, after] = fields(line)?;
     calls::spans(&bytes(text)?, &output(length)?, (answer_in(answer)?, &quoted(after)))
+}
+
+/// `text in hex | window | lengths of times and acts | answer | times after | acts after`
+pub fn accepted(line: &str) -> Verdict {
+    let [text, window, lengths, answer, times, acts] = fields(line)?;
+    let ([window], lengths): ([u64; 1], [u64; 2]) = (fixed(window)?, fixed(lengths)?);
+    let lists = lengths.map(|length| vec![FILLED; length as usize]);
+    let after = [numbers(times)?, numbers(acts)?];
+    if after.each_ref().map(Vec::len) != lists.each_ref().map(Vec::len) {
+        return Err("not as many numbers as the lists have places".into());
+    }
+    calls::accepted_acts(&bytes(text)?, window, &lists, (answer_in(answer)?, &after))
+}
+
+/// `till's times | till's acts | box's times | box's acts | d e | answer`, whose last number has a sign; and with numbers past every limit in places
+/// that do not count, behind times and behind acts
+pub fn notebook(line: &str) -> Verdict {
+    let [till_times, till_acts, times, acts, reaches, answer] = fields(line)?;
+    let till = Lists { times: numbers(till_times)?, acts: numbers(till_acts)? };
+    let kept = Lists { times: numbers(times)?, acts: numbers(acts)? };
+    let ([d, e], wanted) = (fixed(reaches)?, comparison_in(answer)?);
+    let lent = Notebooks { till, kept, d, e };
+    calls::compare_notebook(&lent, wanted)?;
+    for behind_times in [true, false] {
+        let mut longer = lent.clone();
+        longer.till.longer(behind_times).extend([u64::MAX; 3]);
+        longer.kept.longer(behind_times).extend([u64::MAX; 3]);
+        calls::compare_notebook(&longer, wanted).map_err(|what| format!("{longer:?}: {what}"))?;
+    }
+    Ok(())
 }
 
 /// `table of deadlines | act window moment | answer | table of deadlines after`; on a list that is longer, on one that is just as long, and on
@@ -231,6 +263,13 @@ fn tabled(field: &str, length: usize) -> Result<Vec<u64>, String> {
 fn answer_in(field: &str) -> Result<Answer, String> {
     let [number, window, moment] = fixed(field)?;
     Ok(answer(number, window, moment))
+}
+
+/// `number 0 shift`
+fn comparison_in(field: &str) -> Result<Comparison, String> {
+    let (answer, shift) = field.rsplit_once(' ').ok_or("no shift")?;
+    let [number, 0] = fixed(answer)? else { return Err(format!("a window: {field}")) };
+    Ok(comparison(number, shift.parse().map_err(|_| format!("`{shift}` is no shift"))?))
 }
 
 /// `n b c`, and the list of values of a as it is lent.

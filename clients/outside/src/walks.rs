@@ -106,7 +106,7 @@ impl Walk {
         }
         self.own.keep_board(board.own, &told);
         let verdict = verdict.map_err(|what| format!("record and tell {call:?} on {lists:?}: {what}"));
-        Outcome { board: was_told.then_some(answer), ..of_other((step, verdict)) }
+        Outcome { board: was_told.then_some(answer.number), ..of_other((step, verdict)) }
     }
 
     fn set_up_board(&mut self) -> (Answer, Verdict) {

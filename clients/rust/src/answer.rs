@@ -1,6 +1,6 @@
-//! What an answer says: section 4 of docs/SPECIFICATION.md. Number 0 is an acceptance, 1 to 18 are refusals.
+//! What an answer says: section 4 of docs/SPECIFICATION.md. Number 0 is an acceptance, 1 to 21 are refusals.
 
-use crate::raw::Answer;
+use crate::raw::{Answer, Comparison};
 use std::fmt::{Display, Formatter, Result as Written};
 
 /// The answer to an accepted act.
@@ -21,7 +21,7 @@ pub struct Figures {
     pub longest_wait: u64,
 }
 
-/// Why nothing was done: [4.1] to [4.18] in their order, each with what the answer carries, but for the line with 11 and 12, which a
+/// Why nothing was done: [4.1] to [4.21] in their order, each with what the answer carries, but for the line with 11 and 12, which a
 /// [`Fault`] has. A board that is not sound is a [`NoSummary`](Refusal::NoSummary), and for a board the clock of
 /// [`Backward`](Refusal::Backward) is the last moment that it was told.
 #[derive(Clone, Copy, Debug, PartialEq, Eq)]
@@ -44,9 +44,13 @@ pub enum Refusal {
     ShortOutput,
     Width,
     BoardFull,
+    NotebookBounds,
+    OtherActs,
+    NoShift,
 }
 
-/// Why a recording has no spans: the refusal, and the line of the recording that [`replay`](crate::replay) names for it.
+/// Why a recording has no spans, or no accepted acts of a window: the refusal, and the line of the recording that
+/// [`replay`](crate::replay) names for it.
 ///
 /// The line stands beside the refusal, as [`WindowCount`](Refusal::WindowCount) and [`Limits`](Refusal::Limits) carry none: they refuse
 /// fresh tables too, which have no lines. [`Names`](Refusal::Names) and [`Line`](Refusal::Line) carry the same line as stands here. Who has
@@ -54,7 +58,7 @@ pub enum Refusal {
 #[derive(Clone, Copy, Debug, PartialEq, Eq)]
 pub struct Fault {
     pub refusal: Refusal,
-    /// nothing where the text is too long, which is the fault of no line
+    /// nothing where the text is too long, or has no such window, which is the fault of no line
     pub line: Option<u64>,
 }
 
@@ -82,11 +86,15 @@ impl Answer {
             16 => Refusal::ShortOutput,
             17 => Refusal::Width,
             18 => Refusal::BoardFull,
+            19 => Refusal::NotebookBounds,
+            20 => Refusal::OtherActs,
+            21 => Refusal::NoShift,
             _ => panic!("the library gives no answer with the number {number}"),
         })
     }
 
-    /// The answer of spans: how many bytes their text has, or why there is none, with the line that the answer carries.
+    /// The answer of spans and of accepted acts: how many bytes their text has, or how many there are; or why there are none, with the line
+    /// that the answer carries.
     pub(crate) fn written(self) -> Result<usize, Fault> {
         let line = (self.moment != 0).then_some(self.moment);
         self.result().map(|answer| answer.moment as usize).map_err(|refusal| Fault { refusal, line })
@@ -102,6 +110,14 @@ impl Answer {
     pub(crate) fn figures(self) -> Result<Figures, Refusal> {
         let Answer { window, moment, .. } = self.result()?;
         Ok(Figures { entries: window, longest_wait: moment })
+    }
+}
+
+impl Comparison {
+    /// The shift if its number is 0, else what its number says.
+    pub fn result(self) -> Result<i64, Refusal> {
+        let Comparison { number, window, shift } = self;
+        Answer { number, window, moment: 0 }.result().map(|_| shift)
     }
 }
 
@@ -127,6 +143,9 @@ impl Refusal {
             Refusal::ShortOutput => 16,
             Refusal::Width => 17,
             Refusal::BoardFull => 18,
+            Refusal::NotebookBounds => 19,
+            Refusal::OtherActs => 20,
+            Refusal::NoShift => 21,
         }
     }
 }
@@ -154,6 +173,11 @@ impl Display for Refusal {
             Refusal::ShortOutput => write!(to, "a lent output is too short"),
             Refusal::Width => write!(to, "the W of a board is outside 1 to 1,000,000,000"),
             Refusal::BoardFull => write!(to, "1,024 entries of the board still count"),
+            Refusal::NotebookBounds => {
+                write!(to, "d or e is above 1,000,000, or a noted moment is past the clock's end")
+            }
+            Refusal::OtherActs => write!(to, "the two notebooks have not the same acts"),
+            Refusal::NoShift => write!(to, "no shift from -d to d brings all moments within e"),
         }
     }
 }

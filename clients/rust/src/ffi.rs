@@ -1,6 +1,6 @@
 //! The functions of include/funnelfawn.h, in its order.
 
-use crate::raw::{Answer, Reading, Told};
+use crate::raw::{Answer, Comparison, Reading, Told};
 
 extern "C" {
     pub fn funnelfawn_layout() -> u64;
@@ -123,4 +123,27 @@ extern "C" {
     pub fn funnelfawn_replay(text: *const u8, text_length: usize, out: *mut u8, out_length: usize) -> Answer;
 
     pub fn funnelfawn_spans(text: *const u8, text_length: usize, out: *mut u8, out_length: usize) -> Answer;
+
+    pub fn funnelfawn_accepted_acts(
+        text: *const u8,
+        text_length: usize,
+        window: u64,
+        moments: *mut u64,
+        moments_length: usize,
+        acts: *mut u64,
+        acts_length: usize,
+    ) -> Answer;
+
+    pub fn funnelfawn_compare_notebook(
+        till_moments: *const u64,
+        till_moments_length: usize,
+        till_acts: *const u64,
+        till_acts_length: usize,
+        box_moments: *const u64,
+        box_moments_length: usize,
+        box_acts: *const u64,
+        box_acts_length: usize,
+        d: u64,
+        e: u64,
+    ) -> Comparison;
 }

@@ -23,8 +23,10 @@
 //! [`Limits`] has an a for each window, for houses with tills of two ages; where all are of one, there is [`Limits::equal`].
 //!
 //! For a screen in the foyer there is [`Board`], which [`Table::record_and_tell`] tells of each window that is let in. For accounts
-//! there is [`spans`]: out of a recording, who sold from when to when. For maintenance there is [`DeadlineTable`], a second engine: of each
-//! window it has the first and the last moment at which it may act, and it answers every act as [`Table`] does.
+//! there is [`spans`]: out of a recording, who sold from when to when. For tills that write down their own acts by their own clocks there is
+//! [`Notebook`]: held against what the box accepted of the window, it tells by how much the till's clock is off. For maintenance there is
+//! [`DeadlineTable`], a second engine: of each window it has the first and the last moment at which it may act, and it answers every act as
+//! [`Table`] does.
 //!
 //! ```
 //! use funnelfawn::{Act, DeadlineTable, Limits, Moments, Place, Refusal, Table};
@@ -60,6 +62,7 @@ mod ffi;
 mod header;
 mod layout;
 mod limits;
+mod notebook;
 #[allow(unsafe_code)]
 pub mod raw;
 mod recording;
@@ -72,6 +75,7 @@ pub use answer::{Accepted, Fault, Figures, Refusal};
 pub use board::{Board, Told};
 pub use deadlines::{DeadlineTable, Moments};
 pub use limits::Limits;
+pub use notebook::{Note, Notebook};
 pub use recording::{read, replay, Recording, Step};
 pub use spans::{spans, spans_text, Span};
 pub use summary::Summary;

@@ -81,6 +81,8 @@ pub const MOST_TEXT: usize = 65_536;
 pub const MOST_STEPS: usize = 8_187;
 /// The bytes that always suffice for what `replay` prints.
 pub const MOST_REPORT: usize = 687_734;
+/// What the d and the e of a comparison may be at most.
+pub const MOST_SHIFT: u64 = 1_000_000;
 
 /// An answer, [4.50]: window and moment are 0 where it carries none.
 #[repr(C)]
@@ -107,6 +109,15 @@ pub struct Reading {
     pub n: u64,
     pub b: u64,
     pub c: u64,
+}
+
+/// What a comparison answers, [13.60]: the window is always 0, and so is the shift where the number is not 0.
+#[repr(C)]
+#[derive(Clone, Copy, Debug, PartialEq, Eq)]
+pub struct Comparison {
+    pub number: u64,
+    pub window: u64,
+    pub shift: i64,
 }
 
 /// The layout of the archive.
@@ -225,4 +236,32 @@ pub fn replay(text: &[u8], out: &mut [u8]) -> Answer {
 /// has none; [`spans_text`](crate::spans_text) keeps it.
 pub fn spans(text: &[u8], out: &mut [u8]) -> Answer {
     unsafe { funnelfawn_spans(text.as_ptr(), text.len(), out.as_mut_ptr(), out.len()) }
+}
+
+/// [`MOST_STEPS`] places in each of the two lists always suffice. A fault has its line for a moment, as with [`spans`].
+pub fn accepted_acts(text: &[u8], window: u64, moments: &mut [u64], acts: &mut [u64]) -> Answer {
+    unsafe {
+        funnelfawn_accepted_acts(
+            text.as_ptr(),
+            text.len(),
+            window,
+            moments.as_mut_ptr(),
+            moments.len(),
+            acts.as_mut_ptr(),
+            acts.len(),
+        )
+    }
+}
+
+/// Of the two lists of a notebook the shorter one sets its length, and what stands in the longer one past that does not count.
+#[rustfmt::skip]
+pub fn compare_notebook(
+    till_moments: &[u64], till_acts: &[u64], box_moments: &[u64], box_acts: &[u64], d: u64, e: u64,
+) -> Comparison {
+    unsafe {
+        funnelfawn_compare_notebook(
+            till_moments.as_ptr(), till_moments.len(), till_acts.as_ptr(), till_acts.len(),
+            box_moments.as_ptr(), box_moments.len(), box_acts.as_ptr(), box_acts.len(), d, e,
+        )
+    }
 }

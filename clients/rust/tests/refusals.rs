@@ -1,4 +1,5 @@
-//! Each refusal, 1 to 18, with what it carries, and what it leaves of the table, the summary and the board.
+//! Each refusal, 1 to 18, with what it carries, and what it leaves of the table, the summary and the board. Those of notebooks, 19 to 21, are
+//! in notebook.rs, and here only by their numbers and words.
 
 use funnelfawn::{raw, read, Act, Board, Limits, Place, Recording, Refusal, Step, Summary, Table};
 
@@ -156,7 +157,7 @@ fn no_board() {
 
 #[test]
 fn numbers_and_words() {
-    for number in 1..=18 {
+    for number in 1..=21 {
         let answer = raw::Answer { number, window: 71, moment: 82 };
         let refusal = answer.result().unwrap_err();
         assert_eq!(refusal.number(), number);

@@ -3,20 +3,22 @@
 use Prim.Native.Nat.{ℕ, _≤_, _<_, min}
 use mathlib.Core.Path.{_≡_}
 use mathlib.Core.Logic.{_≢_, _↔_}
-use mathlib.Core.List.{List, [], _∷_}
+use mathlib.Core.List.{List, [], _∷_, _++_, map}
 use lib.ListN.{length, take, drop}
 use Rattle.model.specs.declared.Parameters.{Parameters}
 use Rattle.model.specs.States.{lastTime}
 use Rattle.model.specs.Acts.{withdrawAct}
 use Rattle.model.specs.Tallies.{Attempt}
 use Rattle.model.specs.Texts.{Event}
-use Rattle.model.specs.Answers.{answerOf, freshOf}
-use Rattle.model.specs.Executions.{attemptsFrom}
+use Rattle.model.specs.declared.Answer.{Answer}
+use Rattle.model.specs.Answers.{answerOf, answerNumbers, freshOf}
+use Rattle.model.specs.Reports.{answerNames, rowsText, reportText}
+use Rattle.model.specs.Executions.{attemptsOf, attemptsFrom}
 use Rattle.grammar.specs.Exact.{Says}
 use Rattle.grammar.specs.Faults.{Fault}
 use Rattle.local_log.specs.declared.Comparison.{Comparison}
 use Rattle.local_log.specs.Comparisons.{Entry, entriesOf, mostShift, InTime, Compared}
-use Rattle.accepted_log.specs.AcceptedLogs.{traceLog, LogRead, unlogged, readAcceptedOf}
+use Rattle.accepted_log.specs.AcceptedLogs.{acceptedLog, traceLog, LogRead, unlogged, loggedIn, readAcceptedOf}
 
 -- Where the log is given
 
@@ -63,10 +65,25 @@ abbrev pub AcceptedRefusedExactly : Type 0
 AcceptedRefusedExactly = (text : List ℕ) (p : ℕ) (times actions : List ℕ) (code line : ℕ) → code ≢ 0
     → (readAcceptedOf text p times actions ≡ unlogged code line times actions) ↔ Unreadable text p times actions code line
 
--- [13.130] there is no more in the log than there are steps, and lists of 8,187 places are never too short
+-- [13.130] there is no more in the log than there are steps
+abbrev pub LogShort : Type 0
+LogShort = (k : Parameters) (events : List Event) (p : ℕ) → length (traceLog k events p) ≤ length events
+
+-- [13.130] and lists of 8,187 places are never too short
 abbrev pub AcceptedRoom : Type 0
-AcceptedRoom = (text : List ℕ) (p : ℕ) (times actions : List ℕ) (line : ℕ) (k : Parameters) (events : List Event) → Says text line k events
-    → (length (traceLog k events p) ≤ length events) × (length events ≤ 8187)
+AcceptedRoom = (text : List ℕ) (p : ℕ) (times actions : List ℕ) → 8187 ≤ length times → 8187 ≤ length actions
+    → readAcceptedOf text p times actions .answer .code ≢ 16
+
+-- The report of the same text
+
+-- [13.110] [11.10] of a trace, both come from the same answers, one to each step
+abbrev pub SameAnswers : Type 0
+SameAnswers = (text : List ℕ) (p : ℕ) (times actions : List ℕ) (line : ℕ) (k : Parameters) (events : List Event) → Says text line k events
+    → 1 ≤ p → p ≤ k .n
+    → (given : List Answer) × (length given ≡ length events)
+    × (reportText text ≡ answerNames ++ rowsText line (map answerNumbers given))
+    × (readAcceptedOf text p times actions
+    ≡ loggedIn (acceptedLog p (attemptsOf events (map (λ (a : Answer). a .code) given))) times actions)
 
 -- Every trace
 
@@ -89,11 +106,11 @@ InOrder from (x ∷ log) = (from ≤ x .time) × (x .time ≤ lastTime) × (1 �
 
 -- [13.135] [13.140]
 abbrev pub EveryLog : Type 0
-EveryLog = (k : Parameters) (events : List Event) (p : ℕ) → 1 ≤ p
+EveryLog = (text : List ℕ) (line : ℕ) (k : Parameters) (events : List Event) → Says text line k events → (p : ℕ) → 1 ≤ p
     → OneForEach p (attemptsFrom (freshOf k .state) events) (traceLog k events p) × InOrder 0 (traceLog k events p)
 
 -- [13.145] so only d, e and the local times can be past their bounds where a local log is held against it
 abbrev pub BoundsLocal : Type 0
-BoundsLocal = (k : Parameters) (events : List Event) (p d e : ℕ) (local : List Entry) (r : Comparison) → 1 ≤ p
-    → Compared d e local (traceLog k events p) r
+BoundsLocal = (text : List ℕ) (line : ℕ) (k : Parameters) (events : List Event) → Says text line k events → (p : ℕ) → 1 ≤ p
+    → (d e : ℕ) (local : List Entry) (r : Comparison) → Compared d e local (traceLog k events p) r
     → (r .code ≡ 19) ↔ ((d ≤ mostShift) × (e ≤ mostShift) × InTime local → ⊥)

@@ -6,9 +6,16 @@ use execution::run_steps;
 use model::State;
 use values::least;
 ghost use mathlib.Core.Path.{_≡_};
+ghost use mathlib.Core.List.{[], _∷_};
 ghost use Prim.Native.Nat.{_+_, _≤_, _<_};
-ghost use lib.ListN.{length};
-ghost use Rattle.model.specs.Readings.{lent};
+ghost use lib.ListN.{length, getD, drop};
+ghost use Rattle.model.specs.Tallies.{attempt};
+ghost use Rattle.model.specs.Readings.{lists, lent};
+ghost use Rattle.model.specs.Writings.{eventsOf};
+ghost use Rattle.model.specs.Executions.{attemptsFrom};
+ghost use Rattle.execution.specs.Turns.{attemptsByRows};
+ghost use Rattle.accepted_log.specs.AcceptedLogs.{acceptedLog};
+ghost use Rattle.accepted_log.specs.Keeping.{Kept};
 
 // [13.110] The step in place i, answered with a code, goes to place `kept` if it was accepted and is of the process.
 fn keep(
@@ -19,7 +26,13 @@ fn keep(
     actions: &mut [u64],
     kept: usize,
     i: usize,
-) -> usize {
+) -> usize
+    requires { ⌜ (kept ≤ i) × (i < length (now processes)) ⌝ }
+    requires { ⌜ (length (now times) ≡ length (now processes)) × (length (now actions) ≡ length (now processes)) ⌝ }
+    ensures { λ r. ⌜ Kept
+        (acceptedLog process (attempt (getD (now (actions .entry)) i 0) (getD (now (processes .entry)) i 0) (getD (now (times .entry)) i 0) code ∷ []))
+        kept r (now (times .entry)) (now (actions .entry)) (now (times .exit)) (now (actions .exit)) ⌝ }
+{
     if code != 0 {
         return kept;
     }
@@ -42,7 +55,13 @@ fn keep_block(
     actions: &mut [u64],
     kept: usize,
     from: usize,
-) -> usize {
+) -> usize
+    requires { ⌜ (kept ≤ from) × (from + length (now answers) ≤ length (now processes)) ⌝ }
+    requires { ⌜ (length (now times) ≡ length (now processes)) × (length (now actions) ≡ length (now processes)) ⌝ }
+    ensures { λ r. ⌜ Kept (acceptedLog process (attemptsByRows
+        (lists (drop from (now (times .entry))) (drop from (now (processes .entry))) (drop from (now (actions .entry)))) (now (answers .entry))))
+        kept r (now (times .entry)) (now (actions .entry)) (now (times .exit)) (now (actions .exit)) ⌝ }
+{
     let mut size = kept;
     let mut i: usize = 0;
     while i < answers.len() {
@@ -60,7 +79,11 @@ pub(crate) fn keep_steps(
     times: &mut [u64],
     processes: &[u64],
     actions: &mut [u64],
-) -> usize {
+) -> usize
+    requires { ⌜ (length (now times) ≡ length (now processes)) × (length (now actions) ≡ length (now processes)) ⌝ }
+    ensures { λ r. ⌜ Kept (acceptedLog process (attemptsFrom first (eventsOf (lent (times .entry) (processes .entry) (actions .entry)))))
+        0 r (now (times .entry)) (now (actions .entry)) (now (times .exit)) (now (actions .exit)) ⌝ }
+{
     let mut answers = answer_rows();
     let mut state = first;
     let mut kept: usize = 0;

@@ -20,6 +20,7 @@ ghost use Rattle.model.specs.Reports.{reportOf};
 ghost use Rattle.trace.specs.ReadingTo.{readToGave, readToOf};
 ghost use Rattle.intervals.specs.Intervals.{writeIntervalsOf};
 ghost use Rattle.local_log.specs.Comparisons.{entriesOf, Compared};
+ghost use Rattle.local_log.specs.Formulas.{comparedOf};
 ghost use Rattle.accepted_log.specs.AcceptedLogs.{logGave, readAcceptedOf};
 ghost use Rattle.layout.specs.Layouts.{layoutNumber};
 ghost use Rattle.layout.specs.Interface.{lentGave, lentFresh, lentStep, recordGave, lentRecord, summaryGave, lentSummary};
@@ -162,8 +163,10 @@ pub extern "C" fn funnelfawn_compare_notebook(
     d: u64,
     e: u64,
 ) -> Comparison
-    ensures { λ r. ⌜ Compared d e (entriesOf (now (stamps .entry)) (now (claims .entry)))
+    ensures means { λ r. ⌜ Compared d e (entriesOf (now (stamps .entry)) (now (claims .entry)))
         (entriesOf (now (times .entry)) (now (actions .entry))) r ⌝ }
+    ensures equals { λ r. ⌜ r ≡ comparedOf d e (entriesOf (now (stamps .entry)) (now (claims .entry)))
+        (entriesOf (now (times .entry)) (now (actions .entry))) ⌝ }
 {
     compare(stamps, claims, times, actions, d, e)
 }

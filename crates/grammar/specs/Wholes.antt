@@ -29,6 +29,13 @@ wholeInput = wholeHead ++ wholeSteps
 abbrev pub newInput : List ℕ
 newInput = newHead ++ wholeSteps
 
+-- [11.105] [13.165] a trace in which both processes enter, with refused actions between
+abbrev pub twoInput : List ℕ
+twoInput =
+    bytes "windows,a,b,c\n2,5,8,12\ntime,window,act\n"
+    ++ bytes "0,1,try\n1,1,test\n2,1,set\n10,1,check\n10,2,crit\n12,1,crit\n11,1,exit\n"
+    ++ bytes "13,2,exit\n16,1,exit\n18,1,reset\n18,2,try\n20,2,test\n21,2,set\n22,1,rem\n29,2,check\n31,2,crit\n"
+
 -- [7.60] the report
 abbrev pub wholeOutput : List ℕ
 wholeOutput =

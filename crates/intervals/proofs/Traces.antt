@@ -8,12 +8,10 @@ use lib.ListN.{length}
 use Rattle.model.specs.declared.Parameters.{Parameters}
 use Rattle.model.specs.Answers.{freshOf}
 use Rattle.model.specs.Facts.{IsFresh}
-use Rattle.model.specs.States.{countStands, limitsStand}
 use Rattle.model.specs.Texts.{Event}
 use Rattle.model.specs.Writings.{eventsOf, fitted}
 use Rattle.model.specs.Executions.{Started}
-use Rattle.model.proofs.Tests.{and-true-iff}
-use Rattle.theory.proofs.Soundness.{fresh-is}
+use Rattle.theory.proofs.Soundness.{stand-fresh}
 use Rattle.grammar.specs.Exact.{Says}
 use Rattle.grammar.specs.RoundTrips.{firstOf}
 use Rattle.grammar.proofs.Exact.{read-exactly}
@@ -27,10 +25,7 @@ use Rattle.intervals.proofs.Passes.{pass-text, pass-short}
 
 module _ {text : List ℕ} {line : ℕ} {k : Parameters} {events : List Event} (says : Says text line k events) where
   starts-fresh : IsFresh (freshOf k .state)
-  unfolding freshOf
-  starts-fresh =
-      let stand = and-true-iff (countStands (k .n)) (limitsStand k) .0 (says .stand) in
-      fresh-is k (rw (stand .0, stand .1))
+  starts-fresh = stand-fresh k (says .stand)
 
   trace-text : passText (freshOf k .state) events ≡ intervalsText (traceIntervals k events)
   trace-text = pass-text starts-fresh events

@@ -25,7 +25,7 @@ pub times-from : (times actions : List ℕ) (k : ℕ)
     → take (min (length times) (length actions) - k) (drop k times) ≡ timesFrom k (entriesOf times actions)
 times-from times actions k =
     ap (λ (n : ℕ). take n (drop k times)) {x = min (length times) (length actions) - k} {y = min (length (drop k times)) (length (drop k actions))}
-      (simp length-drop (omega arith))
+    (simp length-drop (omega arith))
     ∙ sym (times-of (drop k times) (drop k actions)) ∙ ap (map (λ (x : Entry). x .time)) (entries-from k times actions)
 
 -- all times tell those from any place on

@@ -83,12 +83,12 @@ pub sub-le : (a b k : ℕ) → (subℕ a k ≤ℤ subℕ b k) ↔ (a ≤ b)
 sub-le a b k = if-lt a k
     (λ h. if-lt b k
     (λ g. rw (sub-below a k h, sub-below b k g)
-      (λ o. omega (arith, leb→le (k - suc b) (k - suc a) (o .le)), λ l. record { le = le→leb (k - suc b) (k - suc a) (omega arith) }))
+    (λ o. omega (arith, leb→le (k - suc b) (k - suc a) (o .le)), λ l. record { le = le→leb (k - suc b) (k - suc a) (omega arith) }))
     (λ g. rw (sub-below a k h, sub-above b k g) (λ o. omega arith, λ l. record { le = tt })))
     (λ h. if-lt b k
     (λ g. rw (sub-above a k h, sub-below b k g) (λ o. absurd (o .le), λ l. absurd (omega arith)))
     (λ g. rw (sub-above a k h, sub-above b k g)
-      (λ o. omega (arith, leb→le (a - k) (b - k) (o .le)), λ l. record { le = le→leb (a - k) (b - k) (omega arith) })))
+    (λ o. omega (arith, leb→le (a - k) (b - k) (o .le)), λ l. record { le = le→leb (a - k) (b - k) (omega arith) })))
 
 -- what is not below -d is a difference to any k that d does not pass
 pub from-neg : (d k : ℕ) → d ≤ k → (s : ℤ) → negℤ (pos d) ≤ℤ s → (a : ℕ) × (s ≡ subℕ a k)
@@ -102,7 +102,7 @@ from-neg d k h (negsuc n) o = (k - suc n, neg-is (suc n) k (far d n o h))
 -- In 64 bits
 
 -- the difference of a number and the clock's end, as it is computed
-module _ (a : ℕ) (small : a ≤ 4_000_000_000_000) where
+module _ (a : ℕ) (small : a ≤ 2_000_000_000_000) where
   half : a < 2 ^ 63
   half = omega arith
 

@@ -35,9 +35,11 @@ module _ {s t : ℤ} where
       let x = difference-of s in
       let y = difference-of t in
       x .is ∙ sub-same (x .more) (x .less) (y .more) (y .less)
-      (omega (arith,
+      (omega (
+        arith,
         across (x .more) (x .less) (y .more) (y .less) .0 (rw (x .is, y .is) at h),
-        across (y .more) (y .less) (x .more) (x .less) .0 (rw (x .is, y .is) at g))) ∙ sym (y .is)
+        across (y .more) (y .less) (x .more) (x .less) .0 (rw (x .is, y .is) at g),
+      )) ∙ sym (y .is)
 
 module _ {s t u : ℤ} where
   pub ≤ℤ-trans : s ≤ℤ t → t ≤ℤ u → s ≤ℤ u
@@ -47,9 +49,11 @@ module _ {s t u : ℤ} where
       let z = difference-of u in
       rw (x .is, z .is)
       (across (x .more) (x .less) (z .more) (z .less) .1
-      (omega (arith,
+      (omega (
+        arith,
         across (x .more) (x .less) (y .more) (y .less) .0 (rw (x .is, y .is) at h),
-        across (y .more) (y .less) (z .more) (z .less) .0 (rw (y .is, z .is) at g))))
+        across (y .more) (y .less) (z .more) (z .less) .0 (rw (y .is, z .is) at g),
+      )))
 
 -- -d is not above d
 pub neg-below : (d : ℕ) → negℤ (pos d) ≤ℤ pos d
@@ -95,10 +99,12 @@ module _ (e : ℕ) (x y : Entry) (s : ℤ) where
       let w = difference-of t in
       rw (w .is)
       (near-across e (w .more) (w .less) x y .1
-      (omega (arith,
+      (omega (
+        arith,
         lowest-across e (w .more) (w .less) x y .0 (rw (w .is) at l),
         across (w .more) (w .less) (z .more) (z .less) .0 (rw (w .is, z .is) at h),
-        near-across e (z .more) (z .less) x y .0 (rw (z .is) at n))))
+        near-across e (z .more) (z .less) x y .0 (rw (z .is) at n),
+      )))
 
   -- two of them are not further apart than twice e
   pub near-apart : (t : ℤ) → Near e s x y → Near e t x y → s ≤ℤ (t +ℤ pos (e + e))
@@ -107,9 +113,11 @@ module _ (e : ℕ) (x y : Entry) (s : ℤ) where
       let w = difference-of t in
       rw (z .is, w .is, add-pos (w .more) (w .less) (e + e))
       (across (z .more) (z .less) (w .more + (e + e)) (w .less) .1
-      (omega (arith,
+      (omega (
+        arith,
         near-across e (z .more) (z .less) x y .0 (rw (z .is) at n),
-        near-across e (w .more) (w .less) x y .0 (rw (w .is) at m))))
+        near-across e (w .more) (w .less) x y .0 (rw (w .is) at m),
+      )))
 
   -- with more tolerance
   pub near-looser : (f : ℕ) → e ≤ f → Near e s x y → Near f s x y
@@ -141,8 +149,11 @@ touches-least e x y s t h n =
     sum z = rw (z .is, pos-add (x .time) (z .more) (z .less), add-pos (x .time + z .more) (z .less) e)
 
     met : (z : Difference s) → x .time + z .more + e ≤ y .time + z .less
-    met z = omega (arith, across (x .time + z .more + e) (z .less) (0 + y .time) 0 .0
-        (rw (← sum z, ← h, ← pos-is (y .time) 0) (≤ℤ-refl (pos (y .time)))))
+    met z = omega (
+      arith,
+      across (x .time + z .more + e) (z .less) (0 + y .time) 0 .0
+          (rw (← sum z, ← h, ← pos-is (y .time) 0) (≤ℤ-refl (pos (y .time)))),
+    )
 
 -- Tests
 

@@ -58,7 +58,7 @@ in-time-by [] ys = (λ t. t, λ t. t)
 in-time-by (x ∷ xs) [] = (λ t. t, λ t. t)
 in-time-by (x ∷ xs) (y ∷ ys) = by-test (goesOn x y)
     (λ e. let h = goes-passed x y e in rw e
-      (λ t. (h .local-time, in-time-by xs ys .0 t), λ t. (h .other-time, in-time-by xs ys .1 t)))
+    (λ t. (h .local-time, in-time-by xs ys .0 t), λ t. (h .other-time, in-time-by xs ys .1 t)))
     (λ e. rw e (λ t. t, λ t. t))
 
 -- all are passed: the actions are the same

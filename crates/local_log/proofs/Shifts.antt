@@ -15,7 +15,7 @@ use Rattle.model.proofs.Tests.{by-test, if-lt}
 use Rattle.local_log.specs.declared.Comparison.{Comparison}
 use Rattle.local_log.specs.declared.Differences.{Differences}
 use Rattle.local_log.specs.Comparisons.{Entry, mostShift, Within, SameActions, Near, AllNear, Serves, Least, Compared, no-shift, agree}
-use Rattle.local_log.specs.Passes.{twice, goesOn, difference, noDifferences, noted, passFrom, passOf, lowest, boundedOf}
+use Rattle.local_log.specs.Passes.{twice, goesOn, difference, noDifferences, noted, passFrom, passOf, lowest, highest, boundedOf}
 use Rattle.local_log.proofs.Integers.{pos-is, neg-is, pos-add, pos-less, nat-abs, sub-le, from-neg}
 use Rattle.local_log.proofs.Passes.{goes-passed}
 use Rattle.local_log.proofs.Passed.{passed}
@@ -48,10 +48,11 @@ module _ (e w : ℕ) where
   all-near-iff p (x ∷ xs) (y ∷ ys) = by-test (goesOn x y)
       (λ g. rw g (λ h. (
         λ b. let n = near-iff x y (goes-passed x y g .local-time) .0 (b .1 .0) in
-          all-near-iff (noted p x y) xs ys (omega arith) .0 ((omega (arith, b .0, n .0), omega (arith, b .0, n .1)), b .1 .1),
-        λ b. let k = all-near-iff (noted p x y) xs ys (omega arith) .1 b in
-          ((omega (arith, k .0), omega (arith, k .0)),
-          (near-iff x y (goes-passed x y g .local-time) .1 (omega (arith, k .0), omega (arith, k .0)), k .1)),
+            all-near-iff (noted p x y) xs ys (omega arith) .0 ((omega (arith, b .0, n .0), omega (arith, b .0, n .1)), b .1 .1),
+        λ b. let k = all-near-iff (noted p x y) xs ys (omega arith) .1 b in (
+          (omega (arith, k .0), omega (arith, k .0)),
+          (near-iff x y (goes-passed x y g .local-time) .1 (omega (arith, k .0), omega (arith, k .0)), k .1),
+        ),
       )))
       (λ g. rw g (λ h. absurd (omega arith)))
 
@@ -106,8 +107,6 @@ module _ (d e : ℕ) (xs ys : List Entry) (range : d ≤ mostShift) (tolerance :
   -- so the interval tells the answer
   pub bounded-compared : Within d e xs ys → SameActions xs ys → Compared d e xs ys (boundedOf (kept .smallest) (kept .largest) d e)
   unfolding boundedOf
-  bounded-compared b a = if-lt (lastTime + d) low
+  bounded-compared b a = if-lt (highest (kept .smallest) d e) low
       (λ h. rw (lt-ltb _ _ h) (no-shift b a (none (λ k l. omega arith))))
-      (λ h. if-lt (kept .smallest + e) low
-      (λ g. rw (le-ltb _ _ h, lt-ltb _ _ g) (no-shift b a (none (λ k l. omega arith))))
-      (λ g. rw (le-ltb _ _ h, le-ltb _ _ g) (agree b a (subℕ low lastTime) (least-is h g))))
+      (λ h. rw (le-ltb _ _ h) (agree b a (subℕ low lastTime) (least-is (omega arith) (omega arith))))

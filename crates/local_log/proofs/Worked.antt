@@ -36,7 +36,7 @@ same-iff [] (y ∷ ys) = (λ e. absurd (clash refl (sym e)), λ h. absurd (omega
 same-iff (x ∷ xs) [] = (λ e. absurd (clash refl (sym e)), λ h. absurd (omega (arith, ap length h)))
 same-iff (x ∷ xs) (y ∷ ys) = (
   λ e. let h : (x ≡ y) × (sameNumbers xs ys ≡ true) = simp tests at e in
-    ap (λ (a : ℕ). a ∷ xs) (h .0) ∙ ap (λ (l : List ℕ). y ∷ l) (same-iff xs ys .0 (h .1)),
+      ap (λ (a : ℕ). a ∷ xs) (h .0) ∙ ap (λ (l : List ℕ). y ∷ l) (same-iff xs ys .0 (h .1)),
   λ h. simp tests (head-same h, same-iff xs ys .1 (tail-same h)),
 )
 
@@ -53,14 +53,14 @@ module _ (d e : ℕ) (xs ys : List Entry) where
   pub within-iff : (within d e xs ys ≡ true) ↔ Within d e xs ys
   within-iff = (
     λ h. let k : (((d ≤ mostShift) × (e ≤ mostShift)) × (inTime xs ≡ true)) × (inTime ys ≡ true) = simp tests at h in
-      record { range = k .0 .0 .0; tolerance = k .0 .0 .1; local-times = in-time-iff xs .0 (k .0 .1); other-times = in-time-iff ys .0 (k .1) },
+        record { range = k .0 .0 .0; tolerance = k .0 .0 .1; local-times = in-time-iff xs .0 (k .0 .1); other-times = in-time-iff ys .0 (k .1) },
     λ w. simp tests (((w .range, w .tolerance), in-time-iff xs .1 (w .local-times)), in-time-iff ys .1 (w .other-times)),
   )
 
   serves-iff : (s : ℤ) → (serves d e xs ys s ≡ true) ↔ Serves d e xs ys s
   serves-iff s = (
     λ h. let k : ((leZ (negℤ (pos d)) s ≡ true) × (leZ s (pos d) ≡ true)) × (allNear e s xs ys ≡ true) = simp tests at h in
-      record { from = le-test _ _ (k .0 .0); to = le-test _ _ (k .0 .1); near = near-iff e s xs ys .0 (k .1) },
+        record { from = le-test _ _ (k .0 .0); to = le-test _ _ (k .0 .1); near = near-iff e s xs ys .0 (k .1) },
     λ v. simp tests ((le-true _ _ (v .from), le-true _ _ (v .to)), near-iff e s xs ys .1 (v .near)),
   )
 

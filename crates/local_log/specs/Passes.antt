@@ -49,12 +49,14 @@ passFrom p (x ∷ xs) (y ∷ ys) = cond (goesOn x y) (passFrom (noted p x y) xs 
 abbrev pub passOf : List Entry → List Entry → Differences
 passOf local other = passFrom noDifferences local other
 
--- the least shift of the interval, and the clock's end more
+-- the ends of the interval of shifts, and the clock's end more
 abbrev pub lowest : ℕ → ℕ → ℕ → ℕ
 lowest largest d e = max (lastTime - d + e) largest - e
 
--- the least shift of the interval, or that it is empty
+abbrev pub highest : ℕ → ℕ → ℕ → ℕ
+highest smallest d e = min (lastTime + d) (smallest + e)
+
+-- its least shift, or that it is empty
 unfoldable pub boundedOf : ℕ → ℕ → ℕ → ℕ → Comparison
 boundedOf smallest largest d e =
-    cond (ltb (lastTime + d) (lowest largest d e) || ltb (smallest + e) (lowest largest d e)) (comparison 21 (pos 0))
-    (comparison 0 (subℕ (lowest largest d e) lastTime))
+    cond (ltb (highest smallest d e) (lowest largest d e)) (comparison 21 (pos 0)) (comparison 0 (subℕ (lowest largest d e) lastTime))

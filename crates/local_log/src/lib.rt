@@ -4,7 +4,8 @@ use values::greater;
 use values::least;
 ghost use mathlib.Core.Path.{_≡_};
 ghost use Prim.Native.Nat.{_≤_, min};
-ghost use lib.IntN.{pos};
+ghost use lib.IntN.{pos, subℕ};
+ghost use Rattle.model.specs.States.{lastTime};
 ghost use Rattle.local_log.specs.Comparisons.{entry, entriesOf, mostShift, comparison, Compared};
 ghost use Rattle.local_log.specs.Formulas.{comparedOf};
 ghost use Rattle.local_log.specs.Passes.{pastEnd, goesOn, twice, passOf, boundedOf};
@@ -109,6 +110,15 @@ fn find_differences(stamps: &[u64], claims: &[u64], times: &[u64], actions: &[u6
     }
 }
 
+// A number less the clock's end, with its sign.
+fn shift_of(number: u64) -> i64
+    requires { ⌜ number ≤ twice ⌝ }
+    ensures { λ r. ⌜ r ≡ subℕ number lastTime ⌝ }
+{
+    let signed = number as i64;
+    signed - 1000000000000
+}
+
 // [13.50] [13.60] The least shift that serves where the differences of all places lie between these two, or the refusal where none does.
 fn bounded(smallest: u64, largest: u64, d: u64, e: u64) -> Comparison
     requires { ⌜ d ≤ mostShift ⌝ }
@@ -117,16 +127,15 @@ fn bounded(smallest: u64, largest: u64, d: u64, e: u64) -> Comparison
     ensures { λ r. ⌜ r ≡ boundedOf smallest largest d e ⌝ }
 {
     let low = greater(LAST - d + e, largest) - e;
-    if LAST + d < low {
+    let high = lesser(LAST + d, smallest + e);
+    if high < low {
         return refused(21);
     }
-    if smallest + e < low {
-        return refused(21);
-    }
+    let shift = shift_of(low);
     Comparison {
         code: 0,
         process: 0,
-        shift: (low as i64) - 1000000000000,
+        shift: shift,
     }
 }
 

@@ -15,7 +15,7 @@ use Rattle.model.specs.declared.Parameters.{Parameters}
 use Rattle.model.specs.declared.State.{State}
 use Rattle.model.specs.declared.Answer.{Answer}
 use Rattle.model.specs.declared.Outcome.{Outcome}
-use Rattle.model.specs.States.{limitsIn, equalLimits, parametersOf, noParameters, countStands, ownStand, limitsStand, lastTime, entry, idle, initial, stageOf}
+use Rattle.model.specs.States.{limitsIn, equalLimits, parametersOf, noParameters, countStands, ownStand, limitsStand, parametersStand, lastTime, entry, idle, initial, stageOf}
 use Rattle.model.specs.States.{entrySound, entriesSound, soundOf, entryOf}
 use Rattle.model.specs.Answers.{answerOf, answers, blank, freshOf}
 use Rattle.model.specs.Facts.{Accepted, IsFresh, Arrival}
@@ -203,6 +203,13 @@ fresh-is-plain k = made-table (made k)
 -- an accepted call gives a fresh table
 pub fresh-is : (k : Parameters) → Accepted (freshOf k) → IsFresh (freshOf k .state)
 fresh-is k e = record { parameters = k; accepted = e; is = refl }
+
+-- and it is accepted with parameters that stand
+pub stand-fresh : (k : Parameters) → parametersStand k ≡ true → IsFresh (freshOf k .state)
+unfolding freshOf
+stand-fresh k e =
+    let stand = and-true-iff (countStands (k .n)) (limitsStand k) .0 e in
+    fresh-is k (rw (stand .0, stand .1))
 
 -- A sound state with two critical processes
 

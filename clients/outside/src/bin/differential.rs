@@ -1,10 +1,11 @@
-//! differential [COUNT [SEED]]: makes COUNT random calls of the library, and then as many of its second engine, and compares all that comes
-//! of them with the reference.
+//! differential [COUNT [SEED]]: makes COUNT random calls of the library, then as many of its second engine, and then a tenth as many of notebooks
+//! and of accepted acts, and compares all that comes of them with the reference.
 //! Exit status 0 only if the archive has the layout that is written out here, none differs, each number of an answer came up, from boards,
-//! from spans and from the second engine too, and so did all that `sights` names.
+//! from spans, from the second engine, from accepted acts and from notebooks too, and so did all that `sights` names.
 
 use outside::boards;
 use outside::calls::{self, Verdict};
+use outside::days::Day;
 use outside::deadline_walks::DeadlineWalk;
 use outside::sights::Sight;
 use outside::tally::{of_board, Tally};
@@ -17,7 +18,7 @@ use std::process::exit;
 
 const COUNT: u64 = 300_000;
 const SEED: u64 = 1;
-/// The calls of a walk at most.
+/// The calls of a walk or a day at most.
 const LONGEST: u64 = 120;
 /// The calls of a list on one board.
 const LISTED: u64 = 6_000;
@@ -41,6 +42,11 @@ fn main() {
     }
     while tally.calls < 2 * count {
         deadline_walk(seed, index, 2 * count, &mut tally);
+        index += 1;
+    }
+    let all = 2 * count + count / 10;
+    while tally.calls < all {
+        day(seed, index, all, &mut tally);
         index += 1;
     }
     exit(if tally.report() { 0 } else { 1 });
@@ -69,6 +75,15 @@ fn deadline_walk(seed: u64, index: u64, count: u64, tally: &mut Tally) {
         tally.count(walk.call(), || format!("seed {seed}, walk {index} of deadlines, call {call}"));
     }
     tally.sights.add(&walk.sights);
+}
+
+fn day(seed: u64, index: u64, count: u64, tally: &mut Tally) {
+    let mut day = Day::new(Random::new(seed, index));
+    let length = day.length(LONGEST).min(count - tally.calls);
+    for call in 0..length {
+        tally.count(day.call(), || format!("seed {seed}, day {index}, call {call}"));
+    }
+    tally.sights.add(&day.sights);
 }
 
 /// Calls of one board from setting up on, each with the numbers that the one before left. The answers are also held to the request's own

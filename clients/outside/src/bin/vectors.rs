@@ -1,4 +1,4 @@
-//! vectors DIRECTORY CORPUS: makes the stored calls of the nine files in DIRECTORY (reference/vectors) and compares all that comes of them;
+//! vectors DIRECTORY CORPUS: makes the stored calls of the eleven files in DIRECTORY (reference/vectors) and compares all that comes of them;
 //! and runs the recordings of CORPUS (reference/corpus) by the second engine, whose answers are the stored lines of `replay`.
 //! Exit status 0 only if the archive has the layout that is written out here, each file has its calls, all of them, all recordings that can
 //! be read are there, and none differs.
@@ -15,7 +15,7 @@ type Call = Box<dyn FnMut(&str) -> Verdict>;
 const RECORDINGS: usize = 276;
 
 /// The lines of each.
-fn files() -> [(&'static str, usize, Call); 9] {
+fn files() -> [(&'static str, usize, Call); 11] {
     let mut board = stored::Board::new();
     [
         ("fresh.txt", 63, Box::new(stored::fresh)),
@@ -26,6 +26,8 @@ fn files() -> [(&'static str, usize, Call); 9] {
         ("spans.txt", 171, Box::new(stored::spans)),
         ("deadline.txt", 513, Box::new(stored::deadline)),
         ("matching.txt", 198, Box::new(stored::matching)),
+        ("accepted.txt", 120, Box::new(stored::accepted)),
+        ("notebook.txt", 412, Box::new(stored::notebook)),
         ("board.txt", 141, Box::new(move |line| board.call(line))),
     ]
 }

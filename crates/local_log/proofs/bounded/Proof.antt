@@ -1,17 +1,38 @@
--- `local_log::bounded` meets its contract. Assumes nothing.
-use Prim.Native.Nat.{_-_, _≤_}
+-- `local_log::bounded` meets its contract: the ends of the interval, and what they tell. Assumes nothing.
+use Prim.Native.Nat.{ℕ, _+_, _-_, _≤_, _<_, min, max}
 use mathlib.Core.Path.{_≡_, refl, sym, ap, _∙_}
 use native.Mathlib.Omega.{arith}
+use lib.IntN.{pos, subℕ}
+use mir.Syntax.{w64}
+use mir.Facts.{toZ-ofZ}
 use borrow.Author.Needs.{needs}
 use borrow.Author.Tests.{lt-ltb, le-ltb}
+use Rattle.model.specs.States.{lastTime}
+use Rattle.local_log.specs.Comparisons.{comparison}
 use Rattle.local_log.specs.Passes.{boundedOf}
-use Rattle.local_log.proofs.Integers.{shift-fits, shift-is}
 use Rattle.local_log.proofs.bounded.Statement.{statement}
 use Rattle.local_log.proofs.bounded.Tie as tie
 
--- the least shift of an interval that is not empty is not far from the clock's end
-low : (c : tie.Else2) → c .before .before .greater .result - c .before .before .before .args .e ≤ 4_000_000_000_000
-low c = omega (arith, c .before .if1 .left, c .before .before .before .pre)
+-- Where the interval has been found
+
+-- its ends
+ends : (c : tie.After-lesser) → let s = c .before .before .args in
+    (c .before .greater .result ≡ max (lastTime - s .d + s .e) (s .largest)) × (c .lesser .result ≡ min (lastTime + s .d) (s .smallest + s .e))
+ends c = (c .before .greater .ensures, c .lesser .ensures)
+
+abbrev low : tie.After-lesser → ℕ
+low c = c .before .greater .result - c .before .before .args .e
+
+-- and what it tells
+empty : (c : tie.After-lesser) → let s = c .before .before .args in
+    c .lesser .result < low c → boundedOf (s .smallest) (s .largest) (s .d) (s .e) ≡ comparison 21 (pos 0)
+unfolding boundedOf
+empty c h = rw (← ends c .0, ← ends c .1, lt-ltb _ _ h) refl
+
+filled : (c : tie.After-lesser) → let s = c .before .before .args in
+    low c ≤ c .lesser .result → boundedOf (s .smallest) (s .largest) (s .d) (s .e) ≡ comparison 0 (subℕ (low c) lastTime)
+unfolding boundedOf
+filled c h = rw (← ends c .0, ← ends c .1, le-ltb _ _ h) refl
 
 sub-greater : tie.Need-sub-greater
 sub-greater c = search needs
@@ -25,38 +46,29 @@ greater-requires c κs = search needs
 sub-low : tie.Need-sub-low
 sub-low c = search needs
 
-add-if1 : tie.Need-add-if1
-add-if1 c = search needs
+add-lesser : tie.Need-add-lesser
+add-lesser c = search needs
+
+add-lesser-2 : tie.Need-add-lesser-2
+add-lesser-2 c = search needs
+
+lesser-requires : tie.Need-lesser-requires
+lesser-requires c κs = search needs
 
 refused-requires : tie.Need-refused-requires
 refused-requires c κs = search needs
 
 returns : tie.Need-returns
-unfolding boundedOf
-returns c =
-    rw (sym (c .before .before .greater .ensures), lt-ltb _ _ (c .before .if1 .taken)) (c .refused .ensures)
+returns c = c .refused .ensures ∙ sym (empty (c .before .before) (c .before .if1 .taken))
 
-add-if2 : tie.Need-add-if2
-add-if2 c = omega arith
-
-refused-requires-2 : tie.Need-refused-requires-2
-refused-requires-2 c κs = search needs
+shift-of-requires : tie.Need-shift-of-requires
+shift-of-requires c κs = omega (arith, c .if1 .left, ends (c .before) .1, c .before .before .before .pre)
 
 returns-2 : tie.Need-returns-2
-unfolding boundedOf
 returns-2 c =
-    rw (sym (c .before .before .before .greater .ensures), le-ltb _ _ (c .before .before .if1 .left), lt-ltb _ _ (c .before .if2 .taken)) (c .refused2 .ensures)
-
-cast-t10 : tie.Need-cast-t10
-cast-t10 c = record { sfits = omega (arith, low c) }
-
-sub-t11 : tie.Need-sub-t11
-sub-t11 c = shift-fits _ (low c)
-
-returns-3 : tie.Need-returns-3
-unfolding boundedOf
-returns-3 c =
-    rw (shift-is _ (low c), sym (c .before .before .greater .ensures), le-ltb _ _ (c .before .if1 .left), le-ltb _ _ (c .if2 .left)) refl
+    let d = c .before in
+    let back = toZ-ofZ {w = w64} {z = c .shift-of .result} (record { sfits = c .shift-of .ok }) in
+    ap (comparison 0) (back ∙ c .shift-of .ensures) ∙ sym (filled (d .before) (d .if1 .left))
 
 pub bounded-spec : {M : Type 1} → statement M
 bounded-spec =
@@ -66,12 +78,10 @@ bounded-spec =
     add-greater
     greater-requires
     sub-low
-    add-if1
+    add-lesser
+    add-lesser-2
+    lesser-requires
     refused-requires
     returns
-    add-if2
-    refused-requires-2
-    returns-2
-    cast-t10
-    sub-t11
-    returns-3)
+    shift-of-requires
+    returns-2)

@@ -116,14 +116,14 @@ returns c =
     let v = c .before .loop in
     let a = c .before .before .before .before .before .before .before .before .before .args in
     sym (pass-ends (a .stamps .now) (a .claims .now) (a .times .now) (a .actions .now) (v .i) (rw (length-entries, length-entries) (omega arith))
-      (differences (v .i) (v .smallest) (v .largest))) ∙ v .inv .2
+    (differences (v .i) (v .smallest) (v .largest))) ∙ v .inv .2
 
 returns-2 : tie.Need-returns-2 Inv-loop μ-loop
 returns-2 c =
     let v = c .before .before .before .before .before .before .before .loop in
     let a = c .before .before .before .before .before .before .before .before .before .before .before .before .before .before .before .args in
     sym (pass-stops (a .stamps .now) (a .claims .now) (a .times .now) (a .actions .now) (v .i) (omega arith)
-      (differences (v .i) (v .smallest) (v .largest)) (sym (c .before .goes-on .ensures) ∙ not-true _ (c .if1 .taken))) ∙ v .inv .2
+    (differences (v .i) (v .smallest) (v .largest)) (sym (c .before .goes-on .ensures) ∙ not-true _ (c .if1 .taken))) ∙ v .inv .2
 
 pub find-differences-spec : {M : Type 1} → statement M
 find-differences-spec =
