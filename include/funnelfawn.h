@@ -1,9 +1,9 @@
 /* Funnelfawn for C and C++: Fischer's timed lock over a table of up to 96 sales windows.
  *
  * Link with libfunnelfawn.a (x86-64 Linux) and the C library, of which only memcpy and memset are used. No function keeps state, allocates,
- * prints or blocks; each takes any numbers at all and returns. funnelfawn_replay, funnelfawn_spans and
- * funnelfawn_accepted_acts need about 216 KB of stack, funnelfawn_read less than 10 KB, funnelfawn_fresh less than 8 KB, funnelfawn_fresh_deadlines and funnelfawn_write less than 6 KB, the
- * others less than 1 KB, and a step, recorded or not and of either engine, less than 512 bytes. The library is proved against
+ * prints or blocks; each takes any numbers at all and returns. funnelfawn_replay, funnelfawn_spans and funnelfawn_accepted_acts need about
+ * 216 KB of stack, funnelfawn_read less than 10 KB, funnelfawn_fresh less than 8 KB, funnelfawn_fresh_deadlines and funnelfawn_write less
+ * than 6 KB, the others less than 1 KB, and a step, recorded or not and of either engine, less than 512 bytes. The library is proved against
  * docs/SPECIFICATION.md; numbers such as [9.50] are its clauses, and its section 1 has the words that it uses for the windows, places,
  * moments and acts of this header.
  *
@@ -225,7 +225,8 @@ enum funnelfawn_number {
     FUNNELFAWN_REFUSED_SHORT_OUTPUT = 16, /* a list that is only an output is too short */
     FUNNELFAWN_REFUSED_WIDTH = 17,        /* the W of a board is outside 1 to 1,000,000,000 */
     FUNNELFAWN_REFUSED_BOARD_FULL = 18,   /* FUNNELFAWN_BOARD_PLACES entries of the board still count */
-    FUNNELFAWN_REFUSED_NOTEBOOK_BOUNDS = 19, /* d or e is above 1,000,000, or a moment that counts above 1,000,000,000,000 */
+    FUNNELFAWN_REFUSED_NOTEBOOK_BOUNDS = 19,
+                                          /* d or e is above 1,000,000, or a moment that counts above 1,000,000,000,000 */
     FUNNELFAWN_REFUSED_OTHER_ACTS = 20,   /* the notebook's acts are not those that it is held against, in their order, or not as many */
     FUNNELFAWN_REFUSED_NO_SHIFT = 21      /* the acts are the same, but no shift from -d to d brings all moments within e */
 };
@@ -381,7 +382,7 @@ struct funnelfawn_answer funnelfawn_spans(const uint8_t *FUNNELFAWN_RESTRICT tex
 /* Notebooks: section 13 of the specification
  *
  * A till may write down its own acts by its own clock. Such a notebook is a list of moments and a list of acts; the shorter of the two sets its
- * length, and what stands in the longer one past that does not count, whatever it is [13.10]. It is held against the like list of what the box
+ * length, and what stands in the longer one past that does not count, whatever it is [13.10]. It is held against the list of what the box
  * accepted of that window, which funnelfawn_accepted_acts takes out of a recording. */
 
 /* [13.120] The accepted acts of a window in a recording: its steps are run as `replay` runs them, once, and the moments and the acts of the
@@ -389,7 +390,8 @@ struct funnelfawn_answer funnelfawn_spans(const uint8_t *FUNNELFAWN_RESTRICT tex
  *   0, 0, how many there are, with the moments in the first places of `moments` and the acts in those of `acts`; later places stay;
  *   or, for a faulty recording, the number of its first fault, 0, and the line, as funnelfawn_spans has it; or 7, where the window is none of 1
  *   to n; or, last, 16, where the shorter of the two lists has fewer places. Refused, both lists are as they were [13.125].
- *   FUNNELFAWN_MOST_STEPS places in each always suffice [13.130]. */
+ *   FUNNELFAWN_MOST_STEPS places in each always suffice [13.130]. Hand on to funnelfawn_compare_notebook only as many places of each as were told:
+ *   later ones would count as acts [13.122]. */
 struct funnelfawn_answer funnelfawn_accepted_acts(const uint8_t *FUNNELFAWN_RESTRICT text, size_t text_length, uint64_t window,
                                                   uint64_t *FUNNELFAWN_RESTRICT moments, size_t moments_length,
                                                   uint64_t *FUNNELFAWN_RESTRICT acts, size_t acts_length);
@@ -401,11 +403,11 @@ struct funnelfawn_comparison {
     int64_t shift;   /* 0 where the number is not 0 */
 };
 
-/* [13.90] A till's notebook held against the box's accepted acts of its window. They agree if the acts are the same, in their order, and some
- * whole shift s from -d to d makes each of the box's moments differ from the till's moment + s by at most e.
+/* [13.90] A till's notebook held against the box's accepted acts of its window. They agree if both have the same acts in the same order and one
+ * shift s, -d <= s <= d, added to every moment of the till, leaves it no further than e from the box's [13.50].
  *   0, 0, the smallest such s: it is above 0 where the till's clock is behind the box's. Where the clock is behind by s, give or take e at each
- *   act, the shift that is told is at most s and, if there is an act, at least s - 2e; with e = 0 it is s [13.80]. Two notebooks without an
- *   act give -d [13.75].
+ *   act, the shift that is told is at most s and, if there is an act, at least s - 2e; so with e = 0 it is s [13.80]. To know the
+ *   greatest such s too, exchange the two notebooks and the sign [13.87]. Two notebooks without an act give -d [13.75].
  *   Or 19 if d or e is above FUNNELFAWN_MOST_SHIFT, or a moment that counts is above 1,000,000,000,000, be it in either notebook and at whichever
  *   place; or else 20 if the acts differ, or there are more in one of the two; or else 21 if no shift serves.
  *   All four lists are only read. Any acts are compared, numbers that are no act among them. */

@@ -7,10 +7,11 @@ use Rattle.grammar.specs.Wholes.{twoInput}
 use Rattle.local_log.specs.Comparisons.{Entry, entriesOf}
 use Rattle.accepted_log.specs.AcceptedLogs.{unlogged, loggedIn, readAcceptedOf}
 
--- [13.165] the logs of both processes
+-- [13.165] that of process 1
 abbrev pub firstLog : List Entry
 firstLog = entriesOf (0 ∷ 1 ∷ 2 ∷ 10 ∷ 12 ∷ 16 ∷ 18 ∷ 22 ∷ []) (1 ∷ 2 ∷ 3 ∷ 4 ∷ 5 ∷ 6 ∷ 7 ∷ 8 ∷ [])
 
+-- [13.165] that of process 2
 abbrev pub secondLog : List Entry
 secondLog = entriesOf (18 ∷ 20 ∷ 21 ∷ 29 ∷ 31 ∷ []) (1 ∷ 2 ∷ 3 ∷ 4 ∷ 5 ∷ [])
 

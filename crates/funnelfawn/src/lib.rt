@@ -139,7 +139,7 @@ pub extern "C" fn funnelfawn_spans(text: &[u8], out: &mut [u8]) -> Answer
     write_intervals(text, out)
 }
 
-// [13.120] [13.170] [21.110] The accepted acts of a window in a recording: their times and acts go to two lists.
+// [13.120] [13.148] [21.110] The accepted acts of a window in a recording: their times and acts go to two lists.
 #[no_mangle]
 pub extern "C" fn funnelfawn_accepted_acts(
     text: &[u8],
@@ -153,7 +153,7 @@ pub extern "C" fn funnelfawn_accepted_acts(
     read_accepted(text, process, times, actions)
 }
 
-// [13.90] [13.170] [21.110] A till's notebook, its stamps and claims, held against a list of accepted acts.
+// [13.90] [13.148] [21.110] A till's notebook, its stamps and claims, held against a list of accepted acts.
 #[no_mangle]
 pub extern "C" fn funnelfawn_compare_notebook(
     stamps: &[u64],

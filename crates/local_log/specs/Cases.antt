@@ -4,10 +4,11 @@ use mathlib.Core.List.{List, [], _∷_}
 use lib.IntN.{pos, negsuc}
 use Rattle.local_log.specs.Comparisons.{Entry, entriesOf, comparison, Compared}
 
--- [13.150] the local log, and the other one, which is 1,200 later
+-- [13.150] the local log
 abbrev pub behindLog : List Entry
 behindLog = entriesOf (18800 ∷ 19800 ∷ 23800 ∷ []) (1 ∷ 2 ∷ 3 ∷ [])
 
+-- [13.150] the other one, which is 1,200 later
 abbrev pub rightLog : List Entry
 rightLog = entriesOf (20000 ∷ 21000 ∷ 25000 ∷ []) (1 ∷ 2 ∷ 3 ∷ [])
 
