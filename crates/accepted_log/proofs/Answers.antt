@@ -1,25 +1,23 @@
 -- The accepted log of a process in a text is given exactly where the text is a trace, the process one of it, and there is room for the log; it is
 -- refused exactly for want of these, in this order; and the report of the text has the same answers. Assumes nothing.
-use Prim.Native.Nat.{ℕ, _≤_, _<_, min}
-use mathlib.Core.Path.{_≡_, refl, sym, ap, _∙_, subst₂}
+use Prim.Native.Nat.{ℕ, _≤_, min}
+use mathlib.Core.Path.{_≡_, refl, sym, ap, subst₂}
 use mathlib.Core.Logic.{_≢_, _↔_}
-use mathlib.Core.Bool.{true, false, cond}
-use mathlib.Core.List.{List, [], _∷_, _++_, map}
+use mathlib.Core.Bool.{true}
+use mathlib.Core.List.{List, [], _∷_}
 use native.Mathlib.Omega.{arith}
 use lib.Dec.{ltb}
 use lib.ListN.{length, take, drop, length-map}
 use lib.Seq.{take-append-seam, drop-append-seam}
 use borrow.Author.Tests.{lt-ltb, le-ltb, ltb-true, ltb-false}
 use Rattle.model.specs.declared.Parameters.{Parameters}
-use Rattle.model.specs.declared.Answer.{Answer}
-use Rattle.model.specs.Answers.{answerOf, freshOf}
+use Rattle.model.specs.Answers.{freshOf}
 use Rattle.model.specs.Texts.{Event}
 use Rattle.model.specs.Readings.{Trace, refused, trace, traceOf, over}
 use Rattle.model.specs.Executions.{answersFrom}
 use Rattle.model.specs.Reports.{reportText}
 use Rattle.model.proofs.Tests.{by-test, by-cond, clash, tests}
 use Rattle.model.proofs.Folds.{length-results}
-use Rattle.grammar.specs.Exact.{Says}
 use Rattle.grammar.proofs.Faults.{fault-some}
 use Rattle.grammar.proofs.Exact.{TraceTells, trace-tells, read-exactly, refused-exactly}
 use Rattle.grammar.proofs.Fits.{events-fit}

@@ -1,7 +1,6 @@
 -- The cases of accepted logs, computed. Assumes nothing.
-use Prim.Native.Nat.{ℕ, min}
-use mathlib.Core.Path.{_≡_, refl, _∙_}
-use mathlib.Core.List.{List}
+use Prim.Native.Nat.{min}
+use mathlib.Core.Path.{refl, _∙_}
 use native.Mathlib.Omega.{arith}
 use lib.ListN.{length}
 use borrow.Author.Tests.{lt-ltb}
@@ -14,7 +13,7 @@ use Rattle.model.specs.Readings.{startsWith, numberFrom, wordFrom, eventAt, num
 use Rattle.model.specs.Executions.{attemptsOf}
 use Rattle.local_log.specs.Comparisons.{entriesOf}
 use Rattle.accepted_log.specs.AcceptedLogs.{acceptedLog, loggedIn, readAcceptedOf}
-use Rattle.accepted_log.specs.Cases.{firstLog, TwoLogs, ShortLists}
+use Rattle.accepted_log.specs.Cases.{TwoLogs, ShortLists}
 
 -- [13.165]
 pub two-logs : TwoLogs

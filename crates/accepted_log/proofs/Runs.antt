@@ -1,13 +1,11 @@
 -- What holds of the accepted log of every run from a fresh state: an entry for each accepted action of the process, and times that do not fall.
 -- Assumes nothing.
-use Prim.Native.Nat.{ℕ, _+_, _≤_}
-use mathlib.Core.Path.{_≡_, refl, sym, ap, _∙_}
+use Prim.Native.Nat.{ℕ, _≤_}
+use mathlib.Core.Path.{_≡_, refl}
 use mathlib.Core.Logic.{_↔_, _⊎_, inl, inr, _≢_}
-use mathlib.Core.Bool.{true, false, cond, _&&_}
+use mathlib.Core.Bool.{true}
 use mathlib.Core.List.{List, [], _∷_}
 use native.Mathlib.Omega.{arith}
-use lib.Dec.{eqb}
-use lib.ListN.{length}
 use borrow.Author.Tests.{eq-eqb, ne-eqb}
 use Rattle.model.specs.declared.Parameters.{Parameters}
 use Rattle.model.specs.declared.Location.{Location}
@@ -18,15 +16,14 @@ use Rattle.model.specs.Facts.{Accepted}
 use Rattle.model.specs.Folds.{resultsBy}
 use Rattle.model.specs.Tallies.{Attempt, attempted}
 use Rattle.model.specs.Texts.{Event}
-use Rattle.model.specs.Executions.{stepBy, stateAfter, codesFrom, attemptsOf, attemptsFrom}
+use Rattle.model.specs.Executions.{stepBy, stateAfter, attemptsOf, attemptsFrom}
 use Rattle.model.proofs.Tests.{by-test, if-eq, clash, tests}
 use Rattle.theory.specs.Acceptance.{From, Waits, Acts}
 use Rattle.theory.proofs.Acceptance.{refused-stays}
 use Rattle.theory.proofs.Soundness.{stand-fresh}
 use Rattle.lists.proofs.Reached.{Reached, fresh-reached, step-tells, step-reached}
 use Rattle.grammar.specs.Exact.{Says}
-use Rattle.local_log.specs.declared.Comparison.{Comparison}
-use Rattle.local_log.specs.Comparisons.{Entry, entry, mostShift, InTime, Within, Compared}
+use Rattle.local_log.specs.Comparisons.{Entry, entry, InTime}
 use Rattle.local_log.proofs.Answers.{answered-exactly}
 use Rattle.accepted_log.specs.AcceptedLogs.{isAcceptedOf, acceptedLog, traceLog}
 use Rattle.accepted_log.proofs.Keeping.{run-few}

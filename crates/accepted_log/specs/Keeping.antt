@@ -2,11 +2,9 @@
 -- nothing.
 use Prim.Native.Nat.{ℕ, _+_}
 use mathlib.Core.Path.{_≡_}
-use mathlib.Core.Bool.{cond}
 use mathlib.Core.List.{List}
 use lib.ListN.{length}
 use lib.Seq.{sets}
-use Rattle.model.specs.Tallies.{Attempt}
 use Rattle.local_log.specs.Comparisons.{Entry, actionsIn}
 use Rattle.accepted_log.specs.AcceptedLogs.{timesIn}
 

@@ -1,16 +1,16 @@
 -- What holds of every comparison. Assumes nothing.
 use Prim.Native.Nat.{ℕ, _+_, _≤_}
-use mathlib.Core.Path.{_≡_, refl, sym, ap, _∙_, subst}
-use mathlib.Core.Logic.{_↔_, _≢_}
+use mathlib.Core.Path.{_≡_, refl, ap, _∙_, subst}
+use mathlib.Core.Logic.{_≢_}
 use mathlib.Core.List.{List, [], _∷_}
 use native.Mathlib.Omega.{arith}
 use lib.IntN.{ℤ, pos, negℤ, negℤ-negℤ, +ℤ-idr, _+ℤ_}
 use lib.Signed.{_≤ℤ_, ≤ℤ-refl}
 use lib.ListN.{length}
 use Rattle.local_log.specs.declared.Comparison.{Comparison}
-use Rattle.local_log.specs.Comparisons.{Entry, mostShift, Within, SameActions, AllNear, Serves, Least, comparison}
+use Rattle.local_log.specs.Comparisons.{Entry, Within, SameActions, AllNear, Serves, Least}
 use Rattle.local_log.specs.Comparisons.{Compared, past-bounds, other-actions, no-shift, agree}
-use Rattle.local_log.specs.Answers.{Exactly, AnsweredExactly, RefusedWithout, NoEntries, ClockOff, Wider, OtherWayRound}
+use Rattle.local_log.specs.Answers.{AnsweredExactly, RefusedWithout, NoEntries, ClockOff, Wider, OtherWayRound}
 use Rattle.local_log.proofs.Orders.{≤ℤ-antisym, ≤ℤ-trans, neg-below, near-apart, near-looser, near-round, neg-order, pos-order}
 
 -- [13.65]

@@ -1,19 +1,17 @@
 -- The answers of a comparison, each where it is given: by what the pass over the places leaves to be looked at. Assumes nothing.
-use Prim.Native.Nat.{ℕ, zero, suc, _+_, _-_, _≤_, _<_, min}
-use mathlib.Core.Path.{_≡_, refl, sym, ap, _∙_}
+use Prim.Native.Nat.{ℕ, zero, suc, _-_, _≤_, _<_, min}
+use mathlib.Core.Path.{_≡_, sym, ap, _∙_}
 use mathlib.Core.Bool.{true, false}
 use mathlib.Core.List.{List, [], _∷_, map}
 use native.Mathlib.Omega.{arith}
 use lib.IntN.{pos}
 use lib.ListN.{length, take, drop, length-drop}
-use Rattle.model.specs.States.{lastTime}
-use Rattle.model.proofs.Tests.{by-test, clash, if-lt}
-use Rattle.local_log.specs.declared.Comparison.{Comparison}
-use Rattle.local_log.specs.Comparisons.{Entry, entriesOf, mostShift, InTime, Within, SameActions, comparison, Compared, past-bounds, other-actions}
+use Rattle.model.proofs.Tests.{by-test, clash}
+use Rattle.local_log.specs.Comparisons.{Entry, entriesOf, mostShift, InTime, Within, comparison, Compared, past-bounds, other-actions}
 use Rattle.local_log.specs.Passes.{pastEnd, goesOn, noDifferences, noted, passFrom, passOf, boundedOf}
 use Rattle.local_log.specs.declared.Differences.{Differences}
-use Rattle.local_log.proofs.Entries.{entriesFrom, entries-from, times-of}
-use Rattle.local_log.proofs.Passed.{in-time-iff, passed, places-are, passed-few, in-time-by, all-same, same-all}
+use Rattle.local_log.proofs.Entries.{entries-from, times-of}
+use Rattle.local_log.proofs.Passed.{in-time-iff, passed, places-are, in-time-by, all-same, same-all}
 use Rattle.local_log.proofs.Shifts.{bounded-compared}
 
 -- helper: the times of a log from place k on

@@ -1,17 +1,15 @@
 -- The least shift: the one that is worked out is not above any that serves, and serves where any does. Assumes nothing.
-use Prim.Native.Nat.{ℕ, _+_, _≤_}
-use mathlib.Core.Path.{_≡_, refl, sym, ap, _∙_, subst}
-use mathlib.Core.Logic.{_↔_, _⊎_, inl, inr}
-use mathlib.Core.Bool.{Bool, true, false, cond}
+use Prim.Native.Nat.{ℕ}
+use mathlib.Core.Path.{_≡_, refl, _∙_}
+use mathlib.Core.Logic.{_⊎_, inl, inr}
 use mathlib.Core.List.{List, [], _∷_}
-use lib.Dec.{T}
-use lib.IntN.{ℤ, pos, negℤ, _+ℤ_}
+use lib.IntN.{ℤ, pos, negℤ}
 use lib.Signed.{leZ, _≤ℤ_, ≤ℤ-refl}
 use Rattle.model.proofs.Tests.{by-test}
-use Rattle.local_log.specs.Comparisons.{Entry, Near, AllNear, Serves, Least}
+use Rattle.local_log.specs.Comparisons.{Entry, AllNear, Serves, Least}
 use Rattle.local_log.specs.Formulas.{greaterOf, leastShift}
 use Rattle.local_log.specs.Answers.{Touches, here, later, LeastTouches, WhichShift}
-use Rattle.local_log.proofs.Orders.{≤ℤ-antisym, ≤ℤ-trans, neg-below, lowestFor, near-lowest, near-between, touches-lowest, touches-least}
+use Rattle.local_log.proofs.Orders.{≤ℤ-antisym, ≤ℤ-trans, lowestFor, near-lowest, near-between, touches-lowest, touches-least}
 use Rattle.local_log.proofs.Orders.{le-test, le-other}
 
 -- The greater of two
@@ -87,7 +85,10 @@ touches-or d e (x ∷ xs) [] s h = inl h
 touches-or d e (x ∷ xs) (y ∷ ys) s h =
     by-either (greater-either (lowestFor e x y) (leastShift d e xs ys)) (touches-or d e xs ys s)
   where
-    by-either : (greaterOf (lowestFor e x y) (leastShift d e xs ys) ≡ lowestFor e x y) ⊎ (greaterOf (lowestFor e x y) (leastShift d e xs ys) ≡ leastShift d e xs ys)
+    rest : ℤ
+    rest = leastShift d e xs ys
+
+    by-either : (greaterOf (lowestFor e x y) rest ≡ lowestFor e x y) ⊎ (greaterOf (lowestFor e x y) rest ≡ rest)
         → (s ≡ leastShift d e xs ys → (s ≡ negℤ (pos d)) ⊎ Touches e s xs ys) → (s ≡ negℤ (pos d)) ⊎ Touches e s (x ∷ xs) (y ∷ ys)
     by-either (inl k) more = inr (here {x = x} {y = y} (rw (h ∙ k) (touches-lowest e x y)))
     by-either (inr k) more = further (more (h ∙ k))

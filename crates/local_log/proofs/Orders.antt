@@ -1,10 +1,10 @@
 -- The order of whole numbers by the sums across, and the shifts between which two entries are near. Assumes nothing.
-use Prim.Native.Nat.{ℕ, zero, suc, _+_, _-_, _≤_}
-use mathlib.Core.Path.{_≡_, refl, sym, ap, _∙_, subst}
+use Prim.Native.Nat.{ℕ, suc, _+_, _-_, _≤_}
+use mathlib.Core.Path.{_≡_, sym, ap, _∙_, subst}
 use mathlib.Core.Logic.{_↔_}
-use mathlib.Core.Bool.{true, false, cond}
+use mathlib.Core.Bool.{true, false}
 use native.Mathlib.Omega.{arith}
-use lib.IntN.{ℤ, pos, negsuc, negℤ, natAbs, subℕ, _+ℤ_, _-ℤ_}
+use lib.IntN.{ℤ, pos, negsuc, negℤ, subℕ, _+ℤ_, _-ℤ_}
 use lib.Dec.{T, le→leb}
 use lib.Signed.{leZ, leZ-yes, _≤ℤ_, ≤ℤ-refl}
 use Rattle.model.proofs.Tests.{by-test, if-lt, clash}
@@ -20,7 +20,11 @@ pub record Difference (s : ℤ) : Type 0 where
 
 pub difference-of : (s : ℤ) → Difference s
 difference-of (pos n) = record { more = n; less = 0; is = pos-is n 0 ∙ sub-same (0 + n) 0 n 0 (omega arith) }
-difference-of (negsuc n) = record { more = 0; less = suc n; is = neg-is (suc n) (suc n) (omega arith) ∙ sub-same (suc n - suc n) (suc n) 0 (suc n) (omega arith) }
+difference-of (negsuc n) = record {
+  more = 0;
+  less = suc n;
+  is = neg-is (suc n) (suc n) (omega arith) ∙ sub-same (suc n - suc n) (suc n) 0 (suc n) (omega arith);
+}
 
 -- Order
 

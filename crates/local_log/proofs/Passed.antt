@@ -1,20 +1,19 @@
 -- What the places that were passed tell of two logs: that their times are within bounds and their actions the same, and that the logs part where the
 -- pass stopped before the end of one of them. Assumes nothing.
-use Prim.Native.Nat.{ℕ, zero, suc, _+_, _-_, _≤_, _<_}
-use mathlib.Core.Path.{_≡_, refl, sym, ap, _∙_}
+use Prim.Native.Nat.{ℕ, suc, _+_, _≤_}
+use mathlib.Core.Path.{_≡_, refl, ap, _∙_}
 use mathlib.Core.Logic.{_↔_}
-use mathlib.Core.Bool.{Bool, true, false, cond, _||_}
+use mathlib.Core.Bool.{false, cond}
 use mathlib.Core.List.{List, [], _∷_, map}
 use native.Mathlib.Omega.{arith}
-use lib.Dec.{ltb}
 use lib.ListN.{length, drop}
-use borrow.Author.Tests.{ltb-true, ltb-false, lt-ltb, le-ltb, le-leb, eq-eqb}
+use borrow.Author.Tests.{lt-ltb, le-ltb, le-leb, eq-eqb}
 use Rattle.model.specs.States.{lastTime}
-use Rattle.model.proofs.Tests.{by-test, by-cond, clash, if-lt}
+use Rattle.model.proofs.Tests.{by-test, clash, if-lt}
 use Rattle.local_log.specs.declared.Differences.{Differences}
 use Rattle.local_log.specs.Comparisons.{Entry, InTime, actionsIn, SameActions}
 use Rattle.local_log.specs.Passes.{pastEnd, goesOn, noted, passFrom}
-use Rattle.local_log.proofs.Passes.{Passed, goes-passed}
+use Rattle.local_log.proofs.Passes.{goes-passed}
 
 -- Times
 

@@ -1,22 +1,21 @@
 -- The shifts that serve two logs whose places are all passed: an interval, between the largest and the smallest difference, of which the least is
 -- told. Assumes nothing.
-use Prim.Native.Nat.{ℕ, suc, _+_, _-_, _≤_, _<_, max}
-use mathlib.Core.Path.{_≡_, refl, sym, ap, _∙_, subst}
+use Prim.Native.Nat.{ℕ, _+_, _-_, _≤_}
+use mathlib.Core.Path.{_≡_, sym, subst}
 use mathlib.Core.Logic.{_↔_}
-use mathlib.Core.Bool.{true, false, cond, _||_}
 use mathlib.Core.List.{List, [], _∷_}
 use native.Mathlib.Omega.{arith}
-use lib.IntN.{ℤ, pos, negℤ, natAbs, subℕ, _+ℤ_, _-ℤ_}
+use lib.IntN.{ℤ, subℕ}
 use lib.Signed.{_≤ℤ_}
 use lib.ListN.{length}
 use borrow.Author.Tests.{lt-ltb, le-ltb}
 use Rattle.model.specs.States.{lastTime}
 use Rattle.model.proofs.Tests.{by-test, if-lt}
-use Rattle.local_log.specs.declared.Comparison.{Comparison}
 use Rattle.local_log.specs.declared.Differences.{Differences}
 use Rattle.local_log.specs.Comparisons.{Entry, mostShift, Within, SameActions, Near, AllNear, Serves, Least, Compared, no-shift, agree}
-use Rattle.local_log.specs.Passes.{twice, goesOn, difference, noDifferences, noted, passFrom, passOf, lowest, highest, boundedOf}
-use Rattle.local_log.proofs.Integers.{pos-is, neg-is, pos-add, pos-less, nat-abs, sub-le, from-neg}
+use Rattle.local_log.specs.Passes.{goesOn, difference, noDifferences, noted, passFrom, passOf, lowest, highest, boundedOf}
+use Rattle.local_log.proofs.Integers.{pos-is, neg-is, sub-le, from-neg}
+use Rattle.local_log.proofs.Orders.{near-across}
 use Rattle.local_log.proofs.Passes.{goes-passed}
 use Rattle.local_log.proofs.Passed.{passed}
 
@@ -26,14 +25,12 @@ module _ (e w : ℕ) where
   abbrev shift : ℤ
   shift = subℕ w lastTime
 
-  off : (x y : Entry) → pos (y .time) -ℤ (pos (x .time) +ℤ shift) ≡ subℕ (y .time + lastTime) (x .time + w)
-  off x y = ap (λ (z : ℤ). pos (y .time) -ℤ z) (pos-add (x .time) w lastTime) ∙ pos-less (y .time) (x .time + w) lastTime
-
   pub near-iff : (x y : Entry) → x .time ≤ lastTime → Near e shift x y ↔ ((difference x y ≤ w + e) × (w ≤ difference x y + e))
   near-iff x y h =
-      let n = nat-abs (y .time + lastTime) (x .time + w) e in
-      rw (off x y)
-      (λ k. (omega (arith, n .0 k), omega (arith, n .0 k)), λ (k : (difference x y ≤ w + e) × (w ≤ difference x y + e)). n .1 (omega (arith, k .0, k .1)))
+      let n = near-across e w lastTime x y in (
+        λ k. (omega (arith, n .0 k), omega (arith, n .0 k)),
+        λ (k : (difference x y ≤ w + e) × (w ≤ difference x y + e)). n .1 (omega (arith, k .0, k .1)),
+      )
 
   -- it lies between those that p has kept
   abbrev pub Between : Differences → Type 0

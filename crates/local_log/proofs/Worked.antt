@@ -1,17 +1,15 @@
 -- The answer that is worked out: its tests say what they are named after, so that it is an answer, and the only one. Assumes nothing.
-use Prim.Native.Nat.{ℕ, _≤_, _<_}
+use Prim.Native.Nat.{ℕ, _≤_}
 use mathlib.Core.Path.{_≡_, refl, sym, ap, _∙_, subst}
-use mathlib.Core.Logic.{_↔_, _≢_}
-use mathlib.Core.Bool.{Bool, true, false, cond, not, _&&_}
+use mathlib.Core.Logic.{_↔_}
+use mathlib.Core.Bool.{true}
 use mathlib.Core.List.{List, [], _∷_}
 use native.Mathlib.Omega.{arith}
-use lib.Dec.{leb, eqb}
 use lib.IntN.{ℤ, pos, negℤ}
-use lib.Signed.{leZ, _≤ℤ_}
+use lib.Signed.{leZ}
 use lib.ListN.{length}
-use Rattle.model.proofs.Tests.{by-test, by-cond, clash, tests}
-use Rattle.local_log.specs.declared.Comparison.{Comparison}
-use Rattle.local_log.specs.Comparisons.{Entry, mostShift, InTime, Within, actionsIn, SameActions, AllNear, Serves, Least, comparison}
+use Rattle.model.proofs.Tests.{by-test, clash, tests}
+use Rattle.local_log.specs.Comparisons.{Entry, mostShift, InTime, Within, actionsIn, AllNear, Serves, comparison}
 use Rattle.local_log.specs.Comparisons.{Compared, past-bounds, other-actions, no-shift, agree}
 use Rattle.local_log.specs.Formulas.{leastShift, inTime, within, sameNumbers, allNear, serves, comparedOf}
 use Rattle.local_log.specs.Answers.{SomeAnswer, OneAnswer, ComparedExactly}

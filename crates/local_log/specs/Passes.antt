@@ -1,10 +1,10 @@
 -- The comparison as it is worked out: one pass over the places of two logs, the smallest and the largest difference, and the interval of shifts
 -- between them. For the proofs only. Assumes nothing.
 use Prim.Native.Nat.{ℕ, _+_, _-_, min, max}
-use mathlib.Core.Bool.{Bool, true, false, cond, _&&_, _||_}
+use mathlib.Core.Bool.{Bool, false, cond, _&&_, _||_}
 use mathlib.Core.List.{List, [], _∷_}
 use lib.Dec.{leb, ltb, eqb}
-use lib.IntN.{ℤ, pos, subℕ}
+use lib.IntN.{pos, subℕ}
 use Rattle.model.specs.States.{lastTime}
 use Rattle.local_log.specs.declared.Comparison.{Comparison}
 use Rattle.local_log.specs.declared.Differences.{Differences}

@@ -15,8 +15,8 @@ use Rattle.model.specs.declared.Parameters.{Parameters}
 use Rattle.model.specs.declared.State.{State}
 use Rattle.model.specs.declared.Answer.{Answer}
 use Rattle.model.specs.declared.Outcome.{Outcome}
-use Rattle.model.specs.States.{limitsIn, equalLimits, parametersOf, noParameters, countStands, ownStand, limitsStand, parametersStand, lastTime, entry, idle, initial, stageOf}
-use Rattle.model.specs.States.{entrySound, entriesSound, soundOf, entryOf}
+use Rattle.model.specs.States.{limitsIn, equalLimits, parametersOf, noParameters, countStands, ownStand, limitsStand, parametersStand, lastTime}
+use Rattle.model.specs.States.{entry, idle, initial, stageOf, entrySound, entriesSound, soundOf, entryOf}
 use Rattle.model.specs.Answers.{answerOf, answers, blank, freshOf}
 use Rattle.model.specs.Facts.{Accepted, IsFresh, Arrival}
 use Rattle.theory.specs.Soundness.{CountStands, LimitsStand, ParametersStand, Sound, SoundIffPlain, TwoCriticalMayBeSound}

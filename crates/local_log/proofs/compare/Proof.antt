@@ -1,8 +1,8 @@
 -- `local_log::compare` meets its contract: the bounds of d and e, the pass, the times that it has not passed, the lengths, and the interval.
 -- Assumes nothing.
-use Prim.Native.Nat.{ℕ, _-_, _≤_, min}
-use mathlib.Core.Path.{_≡_, refl, sym, ap, _∙_, subst}
-use mathlib.Core.Bool.{true, false}
+use Prim.Native.Nat.{ℕ, _-_, _≤_}
+use mathlib.Core.Path.{_≡_, sym, ap, _∙_, subst}
+use mathlib.Core.Bool.{false}
 use mathlib.Core.List.{List}
 use native.Mathlib.Omega.{arith}
 use lib.ListN.{length, take, drop}
@@ -61,12 +61,14 @@ few c =
     (omega (arith, k .0, p, local-long c), omega (arith, k .1, p, other-long c))
 
 -- the times that are looked at after the pass
-local-times : (c : Found) → take (c .before .before .least .result - places c) (drop (places c) (start c .args .stamps .now)) ≡ timesFrom (places c) (local (start c))
+local-times : (c : Found)
+    → take (c .before .before .least .result - places c) (drop (places c) (start c .args .stamps .now)) ≡ timesFrom (places c) (local (start c))
 local-times c =
     ap (λ (n : ℕ). take (n - places c) (drop (places c) (start c .args .stamps .now))) (c .before .before .least .ensures)
     ∙ (times-from (start c .args .stamps .now) (start c .args .claims .now) (places c))
 
-other-times : (c : Found) → take (c .before .least2 .result - places c) (drop (places c) (start c .args .times .now)) ≡ timesFrom (places c) (other (start c))
+other-times : (c : Found)
+    → take (c .before .least2 .result - places c) (drop (places c) (start c .args .times .now)) ≡ timesFrom (places c) (other (start c))
 other-times c =
     ap (λ (n : ℕ). take (n - places c) (drop (places c) (start c .args .times .now))) (c .before .least2 .ensures)
     ∙ (times-from (start c .args .times .now) (start c .args .actions .now) (places c))
@@ -203,7 +205,8 @@ returns-7 : tie.Need-returns-7
 returns-7 c =
     let i = c .before .before .before in
     let s = at i in
-    answered s (c .bounded .ensures ∙ ap (λ (p : Differences). boundedOf (p .smallest) (p .largest) (s .args .d) (s .args .e)) (found i .find-differences .ensures))
+    let told = ap (λ (p : Differences). boundedOf (p .smallest) (p .largest) (s .args .d) (s .args .e)) (found i .find-differences .ensures) in
+    answered s (c .bounded .ensures ∙ told)
     (both-passed (s .args .d) (s .args .e) (local s) (other s) (range i) (tolerance i) (places (found i)) (places-is (found i)) (local-in i) (other-in i)
     (omega (arith, c .before .before .if5 .left, local-long (found i))) (omega (arith, c .before .if6 .left, other-long (found i))))
 

@@ -1,14 +1,13 @@
 -- `local_log::find_differences` meets its contract: the places passed and those left come to the whole pass. Assumes nothing.
-use Prim.Native.Nat.{ℕ, _+_, _-_, _≤_, _<_, min, max}
-use mathlib.Core.Path.{_≡_, refl, sym, ap, _∙_}
-use mathlib.Core.Bool.{true, false}
-use mathlib.Core.List.{List}
+use Prim.Native.Nat.{_-_, _≤_, min}
+use mathlib.Core.Path.{_≡_, refl, sym, _∙_}
+use mathlib.Core.Bool.{true}
 use native.Mathlib.Omega.{arith}
-use lib.ListN.{length, getD}
+use lib.ListN.{length}
 use borrow.Author.Needs.{needs}
 use borrow.Author.Tests.{not-true, not-false}
 use Rattle.local_log.specs.Comparisons.{Entry, entriesOf}
-use Rattle.local_log.specs.Passes.{differences, goesOn, noted, passFrom, passOf}
+use Rattle.local_log.specs.Passes.{differences, goesOn, noted, passOf}
 use Rattle.local_log.proofs.Passes.{Passed, goes-passed, localAt, otherAt, passLeft, pass-next, pass-stops, pass-ends}
 use Rattle.local_log.proofs.Entries.{length-entries}
 use Rattle.local_log.proofs.find_differences.Statement.{statement}
@@ -108,7 +107,8 @@ loop-again c =
     let d = c .before .before in
     let v = head d .loop in
     let a = start d .args in
-    let next = pass-next (a .stamps .now) (a .claims .now) (a .times .now) (a .actions .now) (v .i) (omega arith) (differences (v .i) (v .smallest) (v .largest)) (goes d) in
+    let next = pass-next (a .stamps .now) (a .claims .now) (a .times .now) (a .actions .now) (v .i) (omega arith)
+    (differences (v .i) (v .smallest) (v .largest)) (goes d) in
     (omega arith, v .inv .1, rw (c .before .lesser .ensures, c .greater .ensures) (sym next ∙ v .inv .2))
 
 returns : tie.Need-returns Inv-loop μ-loop

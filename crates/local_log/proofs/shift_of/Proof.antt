@@ -1,5 +1,4 @@
 -- `local_log::shift_of` meets its contract: the number and the difference both fit. Assumes nothing.
-use native.Mathlib.Omega.{arith}
 use borrow.Author.Needs.{needs}
 use Rattle.local_log.proofs.Integers.{shift-fits, shift-is}
 use Rattle.local_log.proofs.shift_of.Statement.{statement}
