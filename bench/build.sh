@@ -29,12 +29,12 @@ quietly cargo build --release --offline --quiet --manifest-path reference/Cargo.
 mkdir -p target/bench
 compile twin twin
 compile twin_apart twin --cfg apart
-for name in reference board_reference; do
+for name in reference board_reference notebook_reference; do
     compile $name $name --extern reference=reference/target/release/libreference.rlib
 done
 compile reference_told reference --extern reference=reference/target/release/libreference.rlib --cfg told
 
-for name in library board_library recording_library stack; do
+for name in library board_library notebook_library recording_library stack; do
     compile $name $name -L native=target/staticlib -l static=funnelfawn
 done
 for way in recorded told deadlines; do

@@ -3,18 +3,20 @@
 # bytes of code and constants in the archive
 archive_bytes() { size target/staticlib/libfunnelfawn.a | awk 'NR > 1 { all += $4 } END { print all }'; }
 
-# the most bytes of stack, of all cases, that a step takes, that a recorded step does, and that a step of the second engine does
+# stack_bytes CASE..: the most bytes of stack, of all these, that a step takes, that a recorded step does, and that a step of the second engine
+# does; or, of cases of notebooks, that a comparison does
 stack_bytes() {
-    for case in $step_cases; do
+    for case; do
         target/bench/stack "$case" || fail "case $case: target/bench/stack"
     done >"$work/stack"
-    awk '{ for (i = 1; i <= 3; i++) if ($i > most[i]) most[i] = $i } END { print most[1], most[2], most[3] }' "$work/stack"
+    awk '{ for (i = 1; i <= NF; i++) if ($i > most[i]) most[i] = $i } END { for (i = 1; i in most; i++) printf "%d ", most[i] }' "$work/stack"
 }
 
 # goals: a line for each; the status is 1 if one is not met, or if a row that it speaks of was not measured
 goals() {
-    stack=$(stack_bytes)
-    awk -v archive="$(archive_bytes)" -v stacks="$stack" '
+    stack=$(stack_bytes $step_cases)
+    notebook_stack=$(stack_bytes $notebook_cases)
+    awk -v archive="$(archive_bytes)" -v stacks="$stack" -v notebook_stack="$notebook_stack" '
         BEGIN {
             split(stacks, stack, " ")
             split("a step through the C library;a recorded step through the C library;a step of the second engine through it", called, ";")
@@ -24,6 +26,7 @@ goals() {
         $2 ~ /^([12][123]|83)$/ { note($1 " idle") }
         $2 ~ /^([456][123]|73)$/ { note($1 " busy") }
         $2 ~ /^(43|73)$/ { note($1 " busy 96") }
+        $1 == "notebook" && $2 ~ /^30[134]$/ { rows["linear"]++; agreeing[$2] = $3 }
         $1 == "board" && ($2 == 201 || $2 == 205) { empty++; if ($3 / $5 > dearest) dearest = $3 / $5 }
         function note(goal) { rows[goal]++; if ($3 / $4 > most[goal]) most[goal] = $3 / $4 }
         function met(goal, expected, bound) { return rows[goal] == expected && most[goal] <= bound }
@@ -78,9 +81,15 @@ goals() {
             judge("deadlines_within", 30, 1.38, "the same in every row, as it is")
             judge("board", 8, 1.0, "a board through the C library, in every row, of the reference")
             judge_number(dearest, empty == 2 && dearest < 200, "an empty board, adding or showing: less than 200 instructions")
-            # 20,147 before each window had an a of its own
-            judge_number(archive, archive > 0 && archive <= 26000, "the archive: at most 26,000 bytes of code and constants")
+            judge("notebook", 8, 1.0, "a till\047s notebook through the C library, in every row, of the reference")
+            a_hundred = agreeing[303] - agreeing[301]
+            most["linear"] = a_hundred > 0 ? (agreeing[304] - agreeing[301]) / a_hundred : 1000
+            judge("linear", 3, 10.5, "the same with 1,000 entries, of that with 100, each less that with none")
+            judge("accepted_acts_call", 2, 1.0, "funnelfawn_accepted_acts, of funnelfawn_replay")
+            # 25,854 before notebooks were compared
+            judge_number(archive, archive > 0 && archive <= 27500, "the archive: at most 27,500 bytes of code and constants")
             for (k = 1; k <= 3; k++) judge_number(stack[k], stack[k] > 0 && stack[k] < 1024, called[k] ": less than 1,024 bytes of stack")
+            judge_number(notebook_stack, notebook_stack > 0 && notebook_stack < 512, "a comparison of notebooks: less than 512 bytes of stack")
             exit missed
         }' "$work/rows"
 }

@@ -80,16 +80,29 @@ call_counted() {
     echo $((with - without))
 }
 
-# spans_calls: with an output that is as long as the recording the steps are run once, as those of a report are
-spans_calls() {
-    echo 'spans through the C library, output as long as the recording; replay'
+# expected_of CALL: how much it puts, of the recording `$text`: the bytes of the program `spans`, or the acts of window 1 that `replay` accepts
+expected_of() {
+    case $1 in
+    spans) target/bin/spans <"$text" | wc -c ;;
+    accepted_acts)
+        target/bin/replay <"$text" | awk -F, '
+            NR == FNR { is_accepted[$1] = $2 == "0"; next }
+            is_accepted[FNR] && $2 == "1" { acts++ }
+            END { print acts + 0 }' - "$text"
+        ;;
+    esac
+}
+
+# calls_beside_replay CALL TITLE: the steps are run once, as those of a report are; so it is with spans if the output is as long as the recording
+calls_beside_replay() {
+    echo "$2; replay"
     library=target/bench/recording_library
     for name in tries sales; do
         text=target/bench/$name
-        [ "$($library spans <"$text")" = "$(target/bin/spans <"$text" | wc -c)" ] || fail "the recording $text: the library puts other spans"
-        count=$(call_counted spans)
+        [ "$($library "$1" <"$text")" = "$(expected_of "$1")" ] || fail "the recording $text: $1 of the library puts something else"
+        count=$(call_counted "$1")
         count_beside=$(call_counted replay)
-        times=$(target/bench/timer "${RUNS:-100}" "$text" $library spans -- $library none -- $library replay -- $library none)
-        row spans_call $name "$name" 1 "$count" "$count_beside" $(echo $times | awk '{ print $1 - $2, $3 - $4 }')
+        times=$(target/bench/timer "${RUNS:-100}" "$text" $library "$1" -- $library none -- $library replay -- $library none)
+        row "${1}_call" $name "$name" 1 "$count" "$count_beside" $(echo $times | awk '{ print $1 - $2, $3 - $4 }')
     done
 }

@@ -1,7 +1,9 @@
-# The rows of bench/run that are made of steps, or of calls on a board, by the cases of bench/cases.rs and bench/boards.rs. Sourced by it.
+# The rows of bench/run that are made of steps, of calls on a board, or of comparisons of notebooks, by the cases of bench/cases.rs,
+# bench/boards.rs and bench/notebooks.rs. Sourced by it.
 
 # idle tables, busy ones, busy ones whose clock moves with each act, with equal values of a and at last with unequal ones, and the single cases
 step_cases='11 12 13 21 22 23 31 32 33 41 42 43 51 52 53 61 62 63 73 111 112 113 131 132 133 123 153 83 93 94'
+notebook_cases='301 302 303 304 305 306 307 308'
 
 # parts DO: DO NAME PROGRAM PROGRAM_BESIDE TITLE CASE.. for each part of the table
 parts() {
@@ -16,6 +18,7 @@ parts() {
     "$1" deadlines bench/library_deadlines bench/library 'a step of the second engine through the C library; of the first' $step_cases
     "$1" deadlines_within bin/bench_deadlines bin/bench 'a step of the second engine within Rattle, inlined; of the first' $step_cases
     "$1" board bench/board_library bench/board_reference 'a board through the C library; the reference' 201 202 203 204 205 206 207 208
+    "$1" notebook bench/notebook_library bench/notebook_reference "a till's notebook through the C library; the reference" $notebook_cases
 }
 
 size_of() { case $1 in *1) echo 2 ;; *2) echo 24 ;; *) echo 96 ;; esac; }
@@ -47,6 +50,14 @@ label_of() {
     206) echo 'showing, 100 kept' ;;
     207) echo 'showing, 1,024 kept' ;;
     208) echo 'showing, 1,024 kept around the end' ;;
+    301) echo 'agrees, no entries' ;;
+    302) echo 'agrees, 10 entries' ;;
+    303) echo 'agrees, 100 entries' ;;
+    304) echo 'agrees, 1,000 entries' ;;
+    305) echo 'refused 21, no shift, 1,000 entries' ;;
+    306) echo 'refused 20, the last act, 1,000 entries' ;;
+    307) echo 'refused 20, the first act, 1,000 entries' ;;
+    308) echo 'refused 19, the last moment, 1,000 entries' ;;
     esac
 }
 

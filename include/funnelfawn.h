@@ -225,8 +225,7 @@ enum funnelfawn_number {
     FUNNELFAWN_REFUSED_SHORT_OUTPUT = 16, /* a list that is only an output is too short */
     FUNNELFAWN_REFUSED_WIDTH = 17,        /* the W of a board is outside 1 to 1,000,000,000 */
     FUNNELFAWN_REFUSED_BOARD_FULL = 18,   /* FUNNELFAWN_BOARD_PLACES entries of the board still count */
-    FUNNELFAWN_REFUSED_NOTEBOOK_BOUNDS = 19,
-                                          /* d or e is above 1,000,000, or a moment that counts above 1,000,000,000,000 */
+    FUNNELFAWN_REFUSED_BOUNDS = 19,       /* of notebooks: d or e is above 1,000,000, or a moment that counts above 1,000,000,000,000 */
     FUNNELFAWN_REFUSED_OTHER_ACTS = 20,   /* the notebook's acts are not those that it is held against, in their order, or not as many */
     FUNNELFAWN_REFUSED_NO_SHIFT = 21      /* the acts are the same, but no shift from -d to d brings all moments within e */
 };
@@ -390,7 +389,7 @@ struct funnelfawn_answer funnelfawn_spans(const uint8_t *FUNNELFAWN_RESTRICT tex
  *   0, 0, how many there are, with the moments in the first places of `moments` and the acts in those of `acts`; later places stay;
  *   or, for a faulty recording, the number of its first fault, 0, and the line, as funnelfawn_spans has it; or 7, where the window is none of 1
  *   to n; or, last, 16, where the shorter of the two lists has fewer places. Refused, both lists are as they were [13.125].
- *   FUNNELFAWN_MOST_STEPS places in each always suffice [13.130]. Hand on to funnelfawn_compare_notebook only as many places of each as were told:
+ *   FUNNELFAWN_MOST_STEPS places in each always suffice [13.130]. Hand on to funnelfawn_compare_logs only as many places of each as were told:
  *   later ones would count as acts [13.122]. */
 struct funnelfawn_answer funnelfawn_accepted_acts(const uint8_t *FUNNELFAWN_RESTRICT text, size_t text_length, uint64_t window,
                                                   uint64_t *FUNNELFAWN_RESTRICT moments, size_t moments_length,
@@ -413,9 +412,9 @@ struct funnelfawn_comparison {
  *   All four lists are only read. Any acts are compared, numbers that are no act among them. */
 enum { FUNNELFAWN_MOST_SHIFT = 1000000 };
 
-struct funnelfawn_comparison funnelfawn_compare_notebook(const uint64_t *till_moments, size_t till_moments_length, const uint64_t *till_acts,
-                                                         size_t till_acts_length, const uint64_t *box_moments, size_t box_moments_length,
-                                                         const uint64_t *box_acts, size_t box_acts_length, uint64_t d, uint64_t e);
+struct funnelfawn_comparison funnelfawn_compare_logs(const uint64_t *till_moments, size_t till_moments_length, const uint64_t *till_acts,
+                                                     size_t till_acts_length, const uint64_t *box_moments, size_t box_moments_length,
+                                                     const uint64_t *box_acts, size_t box_acts_length, uint64_t d, uint64_t e);
 
 #ifdef __cplusplus
 }

@@ -803,7 +803,7 @@ static struct funnelfawn_comparison compare(struct notebook till, struct noteboo
 {
     const struct notebook lent[] = {till, other};
     struct funnelfawn_comparison found =
-        funnelfawn_compare_notebook(till.moments, till.moments_length, till.acts, till.acts_length, other.moments, other.moments_length,
+        funnelfawn_compare_logs(till.moments, till.moments_length, till.acts, till.acts_length, other.moments, other.moments_length,
                                     other.acts, other.acts_length, d, e);
 
     CHECK(memcmp(&lent[0], &till, sizeof till) == 0 && memcmp(&lent[1], &other, sizeof other) == 0 && found.window == 0);
@@ -847,7 +847,7 @@ static void notebook_refusals(void)
     const struct notebook none = {{0}, {0}, 0, 0}, till = {{7, end + 1}, {1, 2}, 2, 2}, other = {{7, 8}, {1, 3}, 2, 2};
     struct notebook edited = till;
 
-    CHECK(differs(till, other, 5, 0, FUNNELFAWN_REFUSED_NOTEBOOK_BOUNDS) && differs(other, till, 5, 0, FUNNELFAWN_REFUSED_NOTEBOOK_BOUNDS));
+    CHECK(differs(till, other, 5, 0, FUNNELFAWN_REFUSED_BOUNDS) && differs(other, till, 5, 0, FUNNELFAWN_REFUSED_BOUNDS));
     /* what the shorter list leaves out, be it of the acts or of the moments */
     edited.acts_length = 1;
     CHECK(differs(edited, other, 5, 0, FUNNELFAWN_REFUSED_OTHER_ACTS) && agrees(edited, (struct notebook){{7}, {1}, 1, 4}, 5, 0, 0));
@@ -856,12 +856,12 @@ static void notebook_refusals(void)
     edited = till, edited.moments[1] = end;
     CHECK(differs(edited, other, 5, 0, FUNNELFAWN_REFUSED_OTHER_ACTS) && agrees(edited, edited, 5, 2, -2));
     edited.acts[0] = edited.acts[1] = UINT64_MAX;
-    CHECK(agrees(edited, edited, 5, 0, 0) && differs(edited, till, 5, 0, FUNNELFAWN_REFUSED_NOTEBOOK_BOUNDS));
-    CHECK(differs(none, none, most + 1, 0, FUNNELFAWN_REFUSED_NOTEBOOK_BOUNDS) && differs(none, none, 0, most + 1, FUNNELFAWN_REFUSED_NOTEBOOK_BOUNDS));
-    CHECK(differs(none, none, UINT64_MAX, 0, FUNNELFAWN_REFUSED_NOTEBOOK_BOUNDS) && differs(none, none, 0, UINT64_MAX, FUNNELFAWN_REFUSED_NOTEBOOK_BOUNDS));
+    CHECK(agrees(edited, edited, 5, 0, 0) && differs(edited, till, 5, 0, FUNNELFAWN_REFUSED_BOUNDS));
+    CHECK(differs(none, none, most + 1, 0, FUNNELFAWN_REFUSED_BOUNDS) && differs(none, none, 0, most + 1, FUNNELFAWN_REFUSED_BOUNDS));
+    CHECK(differs(none, none, UINT64_MAX, 0, FUNNELFAWN_REFUSED_BOUNDS) && differs(none, none, 0, UINT64_MAX, FUNNELFAWN_REFUSED_BOUNDS));
     CHECK(agrees(none, none, most, most, -FUNNELFAWN_MOST_SHIFT) && agrees(none, none, 5, 0, -5) && agrees(none, none, 0, 0, 0));
     CHECK(differs(none, other, 5, 0, FUNNELFAWN_REFUSED_OTHER_ACTS) && differs(other, none, 5, 0, FUNNELFAWN_REFUSED_OTHER_ACTS));
-    CHECK(funnelfawn_compare_notebook(NULL, 0, NULL, 0, NULL, 0, NULL, 0, 3, 2).shift == -3);
+    CHECK(funnelfawn_compare_logs(NULL, 0, NULL, 0, NULL, 0, NULL, 0, 3, 2).shift == -3);
 }
 
 /* The accepted acts of a window, into two lists of so many places. */

@@ -51,7 +51,7 @@ static int refuse(const char *what, struct funnelfawn_answer answer)
 
 static struct funnelfawn_comparison compare(const struct notebook *one, const struct notebook *other)
 {
-    return funnelfawn_compare_notebook(one->moments, one->count, one->acts, one->count, other->moments, other->count, other->acts,
+    return funnelfawn_compare_logs(one->moments, one->count, one->acts, one->count, other->moments, other->count, other->acts,
                                        other->count, D, E);
 }
 

@@ -189,7 +189,7 @@ static uint64_t compare(void)
 {
     if (sigsetjmp(before_the_call, 1) != 0)
         return FAULTED;
-    return funnelfawn_compare_notebook(notes[0].list, notes[0].length, notes[1].list, notes[1].length, notes[2].list, notes[2].length,
+    return funnelfawn_compare_logs(notes[0].list, notes[0].length, notes[1].list, notes[1].length, notes[2].list, notes[2].length,
                                        notes[3].list, notes[3].length, 10, 1)
         .number;
 }
@@ -477,9 +477,9 @@ static void notebooks_compared(void)
         {{0, 4, 4, 0}, FUNNELFAWN_OK},
         {{3, 3, 3, 2}, FUNNELFAWN_REFUSED_OTHER_ACTS},
         {{1, 3, 3, 3}, FUNNELFAWN_REFUSED_OTHER_ACTS},
-        {{4, 4, 3, 3}, FUNNELFAWN_REFUSED_NOTEBOOK_BOUNDS},
-        {{3, 3, 4, 4}, FUNNELFAWN_REFUSED_NOTEBOOK_BOUNDS},
-        {{2, 2, 4, 4}, FUNNELFAWN_REFUSED_NOTEBOOK_BOUNDS},
+        {{4, 4, 3, 3}, FUNNELFAWN_REFUSED_BOUNDS},
+        {{3, 3, 4, 4}, FUNNELFAWN_REFUSED_BOUNDS},
+        {{2, 2, 4, 4}, FUNNELFAWN_REFUSED_BOUNDS},
     };
     static const uint64_t noted[4][4] = {{0, 1, 2, UINT64_MAX}, {1, 2, 3, 4}, {10, 11, 12, UINT64_MAX}, {1, 2, 3, 4}};
     static const uint64_t shaken[] = {10, 14, 12};

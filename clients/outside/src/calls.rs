@@ -198,11 +198,11 @@ pub fn accepted_acts(
 }
 
 /// All four lists are only read.
-pub fn compare_notebook(lent: &Notebooks, wanted: Comparison) -> Verdict {
+pub fn compare_logs(lent: &Notebooks, wanted: Comparison) -> Verdict {
     let Notebooks { till, kept, d, e } = lent;
     let lists = [&till.times, &till.acts, &kept.times, &kept.acts];
     let [mut till_times, mut till_acts, mut times, mut acts] = lists.map(|list| Lent::new(list, GUARD));
-    let got = raw::compare_notebook(till_times.list(), till_acts.list(), times.list(), acts.list(), *d, *e);
+    let got = raw::compare_logs(till_times.list(), till_acts.list(), times.list(), acts.list(), *d, *e);
     let names = ["till's times", "till's acts", "box's times", "box's acts"];
     let left = [&till_times, &till_acts, &times, &acts];
     let mut read = names.into_iter().zip(left).zip(lists);

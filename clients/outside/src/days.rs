@@ -54,6 +54,6 @@ fn compare(random: &mut Random, accepted: &Lists, sights: &mut Sights) -> (Compa
     let made = notebooks(random, accepted);
     let due = made.due();
     made.look(due, sights);
-    let verdict = calls::compare_notebook(&made, due);
+    let verdict = calls::compare_logs(&made, due);
     (due, verdict.map_err(|what| format!("{made:?}: {what}")))
 }

@@ -86,12 +86,12 @@ pub fn notebook(line: &str) -> Verdict {
     let kept = Lists { times: numbers(times)?, acts: numbers(acts)? };
     let ([d, e], wanted) = (fixed(reaches)?, comparison_in(answer)?);
     let lent = Notebooks { till, kept, d, e };
-    calls::compare_notebook(&lent, wanted)?;
+    calls::compare_logs(&lent, wanted)?;
     for behind_times in [true, false] {
         let mut longer = lent.clone();
         longer.till.longer(behind_times).extend([u64::MAX; 3]);
         longer.kept.longer(behind_times).extend([u64::MAX; 3]);
-        calls::compare_notebook(&longer, wanted).map_err(|what| format!("{longer:?}: {what}"))?;
+        calls::compare_logs(&longer, wanted).map_err(|what| format!("{longer:?}: {what}"))?;
     }
     Ok(())
 }

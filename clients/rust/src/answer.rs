@@ -44,7 +44,7 @@ pub enum Refusal {
     ShortOutput,
     Width,
     BoardFull,
-    NotebookBounds,
+    Bounds,
     OtherActs,
     NoShift,
 }
@@ -86,7 +86,7 @@ impl Answer {
             16 => Refusal::ShortOutput,
             17 => Refusal::Width,
             18 => Refusal::BoardFull,
-            19 => Refusal::NotebookBounds,
+            19 => Refusal::Bounds,
             20 => Refusal::OtherActs,
             21 => Refusal::NoShift,
             _ => panic!("the library gives no answer with the number {number}"),
@@ -143,7 +143,7 @@ impl Refusal {
             Refusal::ShortOutput => 16,
             Refusal::Width => 17,
             Refusal::BoardFull => 18,
-            Refusal::NotebookBounds => 19,
+            Refusal::Bounds => 19,
             Refusal::OtherActs => 20,
             Refusal::NoShift => 21,
         }
@@ -173,7 +173,7 @@ impl Display for Refusal {
             Refusal::ShortOutput => write!(to, "a lent output is too short"),
             Refusal::Width => write!(to, "the W of a board is outside 1 to 1,000,000,000"),
             Refusal::BoardFull => write!(to, "1,024 entries of the board still count"),
-            Refusal::NotebookBounds => {
+            Refusal::Bounds => {
                 write!(to, "d or e is above 1,000,000, or a noted moment is past the clock's end")
             }
             Refusal::OtherActs => write!(to, "the two notebooks have not the same acts"),

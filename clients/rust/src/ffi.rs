@@ -134,7 +134,7 @@ extern "C" {
         acts_length: usize,
     ) -> Answer;
 
-    pub fn funnelfawn_compare_notebook(
+    pub fn funnelfawn_compare_logs(
         till_moments: *const u64,
         till_moments_length: usize,
         till_acts: *const u64,

@@ -55,12 +55,12 @@ impl Notebook {
     /// Two notebooks without a note give -d. With the two in each other's place the shifts that serve are the same but for their signs: so
     /// the largest one is `-accepted.held_against(&till, d, e)?`, and the middle of both is the best guess.
     ///
-    /// [`NotebookBounds`](Refusal::NotebookBounds) comes first, where d or e is above [`raw::MOST_SHIFT`] or a moment in either is past the
+    /// [`Bounds`](Refusal::Bounds) comes first, where d or e is above [`raw::MOST_SHIFT`] or a moment in either is past the
     /// clock's end; then [`OtherActs`](Refusal::OtherActs), also where one of the two has more of them; then [`NoShift`](Refusal::NoShift).
     pub fn held_against(&self, other: &Notebook, d: u64, e: u64) -> Result<i64, Refusal> {
         let (till_moments, till_acts) = self.lists();
         let (moments, acts) = other.lists();
-        raw::compare_notebook(&till_moments, &till_acts, &moments, &acts, d, e).result()
+        raw::compare_logs(&till_moments, &till_acts, &moments, &acts, d, e).result()
     }
 
     fn lists(&self) -> (Vec<u64>, Vec<u64>) {

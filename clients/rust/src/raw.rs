@@ -255,11 +255,11 @@ pub fn accepted_acts(text: &[u8], window: u64, moments: &mut [u64], acts: &mut [
 
 /// Of the two lists of a notebook the shorter one sets its length, and what stands in the longer one past that does not count.
 #[rustfmt::skip]
-pub fn compare_notebook(
+pub fn compare_logs(
     till_moments: &[u64], till_acts: &[u64], box_moments: &[u64], box_acts: &[u64], d: u64, e: u64,
 ) -> Comparison {
     unsafe {
-        funnelfawn_compare_notebook(
+        funnelfawn_compare_logs(
             till_moments.as_ptr(), till_moments.len(), till_acts.as_ptr(), till_acts.len(),
             box_moments.as_ptr(), box_moments.len(), box_acts.as_ptr(), box_acts.len(), d, e,
         )

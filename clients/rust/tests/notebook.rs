@@ -1,7 +1,7 @@
 //! Notebooks: what a window's accepted acts are, and what comes of holding a till's own against them.
 //! They are looked at as notebooks and, for places that do not count and lists that stay, through `raw`.
 
-use funnelfawn::raw::{self, accepted_acts, compare_notebook, Answer, Comparison};
+use funnelfawn::raw::{self, accepted_acts, compare_logs, Answer, Comparison};
 use funnelfawn::Act::*;
 use funnelfawn::{read, replay, spans, Fault, Note, Notebook, Refusal, Step};
 
@@ -79,21 +79,21 @@ fn no_note() {
 fn refusals_in_their_order() {
     let till = Notebook::from_iter([(7, Try), (END + 1, Test)]);
     let other = Notebook::from_iter([(7, Try), (8, Set)]);
-    assert_eq!(till.held_against(&other, 5, 0), Err(Refusal::NotebookBounds));
-    assert_eq!(other.held_against(&till, 5, 0), Err(Refusal::NotebookBounds));
+    assert_eq!(till.held_against(&other, 5, 0), Err(Refusal::Bounds));
+    assert_eq!(other.held_against(&till, 5, 0), Err(Refusal::Bounds));
     // in a place that the other one has not
-    assert_eq!(till.held_against(&notebook([7]), 5, 0), Err(Refusal::NotebookBounds));
-    assert_eq!(Notebook::default().held_against(&till, 5, 0), Err(Refusal::NotebookBounds));
+    assert_eq!(till.held_against(&notebook([7]), 5, 0), Err(Refusal::Bounds));
+    assert_eq!(Notebook::default().held_against(&till, 5, 0), Err(Refusal::Bounds));
     // with one act the second moment does not count, and there are fewer acts
-    let one_act = compare_notebook(&[7, END + 1], &[1], &[7, 8], &[1, 3], 5, 0);
+    let one_act = compare_logs(&[7, END + 1], &[1], &[7, 8], &[1, 3], 5, 0);
     assert_eq!(one_act, Comparison { number: 20, window: 0, shift: 0 });
     let at_the_end = Notebook::from_iter([(7, Try), (END, Test)]);
     assert_eq!(at_the_end.held_against(&other, 5, 0), Err(Refusal::OtherActs));
     assert_eq!(at_the_end.held_against(&at_the_end, 5, 0), Ok(0));
     let none = Notebook::default();
     for (d, e) in [(1_000_001, 0), (0, 1_000_001), (u64::MAX, 0), (0, u64::MAX), (u64::MAX, u64::MAX)] {
-        assert_eq!(none.held_against(&none, d, e), Err(Refusal::NotebookBounds));
-        assert_eq!(till.held_against(&other, d, e), Err(Refusal::NotebookBounds));
+        assert_eq!(none.held_against(&none, d, e), Err(Refusal::Bounds));
+        assert_eq!(till.held_against(&other, d, e), Err(Refusal::Bounds));
     }
 }
 
@@ -285,24 +285,24 @@ fn places_that_do_not_count() {
         [(&moments[..2], &acts[..]), (&moments[..], &acts[..2]), (&moments[..2], &acts[..2])]
     {
         for (other, other_more) in [(&box_moments[..2], &box_acts[..]), (&box_moments[..], &box_acts[..2])] {
-            assert_eq!(compare_notebook(counted, more, other, other_more, 5_000, 0), agreed);
+            assert_eq!(compare_logs(counted, more, other, other_more, 5_000, 0), agreed);
         }
     }
     // as soon as both have it, it counts
     let refused = |number| Comparison { number, window: 0, shift: 0 };
-    assert_eq!(compare_notebook(&moments[..3], &acts, &box_moments[..2], &box_acts, 5_000, 0), refused(19));
-    assert_eq!(compare_notebook(&moments[..2], &acts, &box_moments, &box_acts, 5_000, 0), refused(19));
-    assert_eq!(compare_notebook(&moments[..1], &acts, &box_moments[..2], &box_acts, 5_000, 0), refused(20));
-    assert_eq!(compare_notebook(&moments[..2], &acts, &box_moments[..2], &box_acts, 1_199, 0), refused(21));
+    assert_eq!(compare_logs(&moments[..3], &acts, &box_moments[..2], &box_acts, 5_000, 0), refused(19));
+    assert_eq!(compare_logs(&moments[..2], &acts, &box_moments, &box_acts, 5_000, 0), refused(19));
+    assert_eq!(compare_logs(&moments[..1], &acts, &box_moments[..2], &box_acts, 5_000, 0), refused(20));
+    assert_eq!(compare_logs(&moments[..2], &acts, &box_moments[..2], &box_acts, 1_199, 0), refused(21));
     // a notebook without acts has no note, however many moments it has
-    assert_eq!(compare_notebook(&moments, &[], &[], &box_acts, 3, 0).result(), Ok(-3));
+    assert_eq!(compare_logs(&moments, &[], &[], &box_acts, 3, 0).result(), Ok(-3));
 }
 
 #[test]
 fn answers_and_words() {
     let comparison = |number| Comparison { number, window: 0, shift: -7 }.result();
     assert_eq!(comparison(0), Ok(-7));
-    for (number, refusal) in [(19, Refusal::NotebookBounds), (20, Refusal::OtherActs), (21, Refusal::NoShift)]
+    for (number, refusal) in [(19, Refusal::Bounds), (20, Refusal::OtherActs), (21, Refusal::NoShift)]
     {
         assert_eq!(comparison(number), Err(refusal));
         assert_eq!(refusal.number(), number);

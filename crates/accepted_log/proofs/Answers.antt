@@ -21,8 +21,8 @@ use Rattle.model.proofs.Folds.{length-results}
 use Rattle.grammar.proofs.Faults.{fault-some}
 use Rattle.grammar.proofs.Exact.{TraceTells, trace-tells, read-exactly, refused-exactly}
 use Rattle.grammar.proofs.Fits.{events-fit}
-use Rattle.local_log.specs.Comparisons.{Entry, entriesOf, actionsIn}
-use Rattle.accepted_log.specs.AcceptedLogs.{traceLog, timesIn, LogRead, unlogged, logged, loggedIn, isProcess, logInto, readAcceptedOf}
+use Rattle.local_log.specs.Comparisons.{Entry, entriesOf, actionsIn, timesIn}
+use Rattle.accepted_log.specs.AcceptedLogs.{traceLog, LogRead, unlogged, logged, loggedIn, isProcess, logInto, readAcceptedOf}
 use Rattle.accepted_log.specs.Answers.{Readable, Gave, AcceptedTell, AcceptedIff, Unreadable, AcceptedRefusedExactly, AcceptedRoom, SameAnswers}
 use Rattle.accepted_log.proofs.Runs.{log-short}
 

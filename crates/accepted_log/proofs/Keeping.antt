@@ -20,8 +20,8 @@ use Rattle.model.proofs.Steps.{from}
 use Rattle.text.proofs.Putting.{sets-append}
 use Rattle.execution.specs.Turns.{attemptsByRows}
 use Rattle.execution.proofs.Attempts.{attempts-next}
-use Rattle.local_log.specs.Comparisons.{Entry, actionsIn}
-use Rattle.accepted_log.specs.AcceptedLogs.{isAcceptedOf, acceptedLog, timesIn}
+use Rattle.local_log.specs.Comparisons.{Entry, actionsIn, timesIn}
+use Rattle.accepted_log.specs.AcceptedLogs.{isAcceptedOf, acceptedLog}
 use Rattle.accepted_log.specs.Keeping.{Kept}
 
 -- Logs

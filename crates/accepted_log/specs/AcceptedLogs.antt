@@ -2,7 +2,7 @@
 -- `readAcceptedOf`, all that the call gives back. Assumes nothing.
 use Prim.Native.Nat.{ℕ, min}
 use mathlib.Core.Bool.{Bool, cond, _&&_}
-use mathlib.Core.List.{List, [], _∷_, map}
+use mathlib.Core.List.{List, [], _∷_}
 use lib.Dec.{leb, ltb, eqb}
 use lib.ListN.{length}
 use Rattle.model.specs.declared.Parameters.{Parameters}
@@ -12,7 +12,7 @@ use Rattle.model.specs.Tallies.{Attempt, isAccepted}
 use Rattle.model.specs.Texts.{Event}
 use Rattle.model.specs.Readings.{Trace, refused, trace, traceOf, over}
 use Rattle.model.specs.Executions.{attemptsFrom}
-use Rattle.local_log.specs.Comparisons.{Entry, entry, actionsIn}
+use Rattle.local_log.specs.Comparisons.{Entry, entry, timesIn, actionsIn}
 
 -- Accepted logs
 
@@ -30,10 +30,6 @@ abbrev pub traceLog : Parameters → List Event → ℕ → List Entry
 traceLog k events p = acceptedLog p (attemptsFrom (freshOf k .state) events)
 
 -- The call
-
--- helper: the times of a log
-abbrev pub timesIn : List Entry → List ℕ
-timesIn entries = map (λ (x : Entry). x .time) entries
 
 -- [13.120] the answer, and the two lent lists
 pub record LogRead : Type 0 where

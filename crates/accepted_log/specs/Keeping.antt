@@ -5,8 +5,7 @@ use mathlib.Core.Path.{_≡_}
 use mathlib.Core.List.{List}
 use lib.ListN.{length}
 use lib.Seq.{sets}
-use Rattle.local_log.specs.Comparisons.{Entry, actionsIn}
-use Rattle.accepted_log.specs.AcceptedLogs.{timesIn}
+use Rattle.local_log.specs.Comparisons.{Entry, actionsIn, timesIn}
 
 -- the log `log` has been put into the two lists from place `at` on, and `next` is the place behind it
 pub record Kept (log : List Entry) (at next : ℕ) (times actions times′ actions′ : List ℕ) : Type 0 where

@@ -155,7 +155,7 @@ pub extern "C" fn funnelfawn_accepted_acts(
 
 // [13.90] [13.148] [21.110] A till's notebook, its stamps and claims, held against a list of accepted acts.
 #[no_mangle]
-pub extern "C" fn funnelfawn_compare_notebook(
+pub extern "C" fn funnelfawn_compare_logs(
     stamps: &[u64],
     claims: &[u64],
     times: &[u64],

@@ -1,45 +1,63 @@
--- The answers of a comparison, each where it is given: by what the pass over the places leaves to be looked at. Assumes nothing.
-use Prim.Native.Nat.{ℕ, zero, suc, _-_, _≤_, _<_, min}
-use mathlib.Core.Path.{_≡_, sym, ap, _∙_}
-use mathlib.Core.Bool.{true, false}
-use mathlib.Core.List.{List, [], _∷_, map}
+-- The answers of a comparison, each where it is given: by what the passes over the lists tell of two logs. Assumes nothing.
+use Prim.Native.Nat.{ℕ, _+_, _≤_, _<_}
+use mathlib.Core.Path.{_≡_, refl, sym, ap, _∙_}
+use mathlib.Core.Logic.{_↔_}
+use mathlib.Core.Bool.{true, false, _&&_}
+use mathlib.Core.List.{List, [], _∷_}
 use native.Mathlib.Omega.{arith}
+use lib.Dec.{leb}
 use lib.IntN.{pos}
-use lib.ListN.{length, take, drop, length-drop}
-use Rattle.model.proofs.Tests.{by-test, clash}
-use Rattle.local_log.specs.Comparisons.{Entry, entriesOf, mostShift, InTime, Within, comparison, Compared, past-bounds, other-actions}
-use Rattle.local_log.specs.Passes.{pastEnd, goesOn, noDifferences, noted, passFrom, passOf, boundedOf}
-use Rattle.local_log.specs.declared.Differences.{Differences}
-use Rattle.local_log.proofs.Entries.{entries-from, times-of}
-use Rattle.local_log.proofs.Passed.{in-time-iff, passed, places-are, in-time-by, all-same, same-all}
+use lib.ListN.{length, length-map}
+use borrow.Author.Tests.{le-leb, lt-leb}
+use Rattle.model.specs.States.{lastTime}
+use Rattle.model.proofs.Tests.{by-test, clash, if-lt}
+use Rattle.local_log.specs.declared.passes.Differences.{Differences}
+use Rattle.local_log.specs.Comparisons.{Entry, timesIn, mostShift, InTime, Within, actionsIn, SameActions, comparison, Compared, past-bounds, other-actions}
+use Rattle.local_log.specs.Formulas.{sameNumbers}
+use Rattle.local_log.specs.Passes.{allInTime, noDifferences, noted, passFrom, passOf, boundedOf}
+use Rattle.local_log.proofs.Worked.{same-iff}
 use Rattle.local_log.proofs.Shifts.{bounded-compared}
 
--- helper: the times of a log from place k on
-abbrev pub timesFrom : ℕ → List Entry → List ℕ
-timesFrom k xs = map (λ (x : Entry). x .time) (drop k xs)
+-- What a pass tells
 
--- as they stand in its list of times
-pub times-from : (times actions : List ℕ) (k : ℕ)
-    → take (min (length times) (length actions) - k) (drop k times) ≡ timesFrom k (entriesOf times actions)
-times-from times actions k =
-    ap (λ (n : ℕ). take n (drop k times)) {x = min (length times) (length actions) - k} {y = min (length (drop k times)) (length (drop k actions))}
-    (simp length-drop (omega arith))
-    ∙ sym (times-of (drop k times) (drop k actions)) ∙ ap (map (λ (x : Entry). x .time)) (entries-from k times actions)
-
--- all times tell those from any place on
-from-place : (k : ℕ) (xs : List Entry) → InTime xs → InTime (drop k xs)
-from-place zero xs t = t
-from-place (suc k) [] t = t
-from-place (suc k) (x ∷ xs) t = from-place k xs (t .1)
+in-time-iff : (xs : List Entry) → (allInTime (timesIn xs) ≡ true) ↔ InTime xs
+unfolding allInTime
+in-time-iff [] = (λ e. tt, λ t. refl)
+in-time-iff (x ∷ xs) = if-lt lastTime (x .time)
+    (λ h. rw (lt-leb _ _ h) (λ e. absurd (clash e refl), λ t. absurd (omega (arith, t .0))))
+    (λ h. rw (le-leb _ _ h) (λ e. (h, in-time-iff xs .0 e), λ t. in-time-iff xs .1 (t .1)))
 
 -- the smallest difference is never above the one that it starts from
-pub smallest-small : (p : Differences) (xs ys : List Entry) → passFrom p xs ys .smallest ≤ p .smallest
+pub smallest-small : (p : Differences) (ss ts : List ℕ) → passFrom p ss ts .smallest ≤ p .smallest
 unfolding passFrom noted
-smallest-small p [] ys = omega arith
-smallest-small p (x ∷ xs) [] = omega arith
-smallest-small p (x ∷ xs) (y ∷ ys) = by-test (goesOn x y)
-    (λ e. rw e (omega (arith, smallest-small (noted p x y) xs ys)))
+smallest-small p [] ts = omega arith
+smallest-small p (s ∷ ss) [] = omega arith
+smallest-small p (s ∷ ss) (t ∷ ts) = by-test (leb s lastTime && leb t lastTime)
+    (λ e. rw e (omega (arith, smallest-small (noted p s t) ss ts)))
     (λ e. rw e (omega arith))
+
+-- it goes over all places of two logs exactly where both are in time
+places-in-time : (p : Differences) (xs ys : List Entry) → InTime xs → InTime ys → length xs ≡ length ys
+    → passFrom p (timesIn xs) (timesIn ys) .places ≡ p .places + length ys
+unfolding passFrom noted
+places-in-time p [] [] s t e = omega arith
+places-in-time p [] (y ∷ ys) s t e = absurd (omega arith)
+places-in-time p (x ∷ xs) [] s t e = absurd (omega arith)
+places-in-time p (x ∷ xs) (y ∷ ys) s t e =
+    rw (le-leb _ _ (s .0), le-leb _ _ (t .0)) (omega (arith, places-in-time (noted p (x .time) (y .time)) xs ys (s .1) (t .1) (omega arith)))
+
+places-all : (p : Differences) (xs ys : List Entry) → length xs ≡ length ys → p .places + length ys ≤ passFrom p (timesIn xs) (timesIn ys) .places
+    → InTime xs × InTime ys
+unfolding passFrom noted
+places-all p [] [] e = λ h. (tt, tt)
+places-all p [] (y ∷ ys) e = absurd (omega arith)
+places-all p (x ∷ xs) [] e = absurd (omega arith)
+places-all p (x ∷ xs) (y ∷ ys) e = if-lt lastTime (x .time)
+    (λ s. rw (lt-leb _ _ s) (λ h. absurd (omega arith)))
+    (λ s. if-lt lastTime (y .time)
+    (λ t. rw (le-leb _ _ s, lt-leb _ _ t) (λ h. absurd (omega arith)))
+    (λ t. rw (le-leb _ _ s, le-leb _ _ t)
+    (λ h. let more = places-all (noted p (x .time) (y .time)) xs ys (omega arith) (omega arith) in ((s, more .0), (t, more .1)))))
 
 module _ (d e : ℕ) (xs ys : List Entry) where
   pub past-range : mostShift < d → Compared d e xs ys (comparison 19 (pos 0))
@@ -48,35 +66,30 @@ module _ (d e : ℕ) (xs ys : List Entry) where
   pub past-tolerance : mostShift < e → Compared d e xs ys (comparison 19 (pos 0))
   past-tolerance h = past-bounds (λ b. omega (arith, b .tolerance))
 
-  pub past-local : (k : ℕ) → pastEnd (timesFrom k xs) ≡ true → Compared d e xs ys (comparison 19 (pos 0))
-  past-local k t = past-bounds (λ b. clash t (in-time-iff (drop k xs) .1 (from-place k xs (b .local-times))))
+  pub past-local : allInTime (timesIn xs) ≡ false → Compared d e xs ys (comparison 19 (pos 0))
+  past-local t = past-bounds (λ b. clash (in-time-iff xs .1 (b .local-times)) t)
 
-  pub past-other : (k : ℕ) → pastEnd (timesFrom k ys) ≡ true → Compared d e xs ys (comparison 19 (pos 0))
-  past-other k t = past-bounds (λ b. clash t (in-time-iff (drop k ys) .1 (from-place k ys (b .other-times))))
+  pub past-other : allInTime (timesIn ys) ≡ false → Compared d e xs ys (comparison 19 (pos 0))
+  past-other t = past-bounds (λ b. clash (in-time-iff ys .1 (b .other-times)) t)
 
-  -- d and e are within their bounds, and the times past those that were passed
-  module _ (range : d ≤ mostShift) (tolerance : e ≤ mostShift) (k : ℕ) (places : k ≡ passOf xs ys .places)
-      (local : pastEnd (timesFrom k xs) ≡ false) (other : pastEnd (timesFrom k ys) ≡ false) where
-    is-passed : k ≡ passed xs ys
-    is-passed = places ∙ omega (arith, places-are noDifferences xs ys)
+  module _ (range : d ≤ mostShift) (tolerance : e ≤ mostShift) where
+    within : InTime xs → InTime ys → Within d e xs ys
+    within s t = record { range = range; tolerance = tolerance; local-times = s; other-times = t }
 
-    within : Within d e xs ys
-    within = record {
-      range = range;
-      tolerance = tolerance;
-      local-times = in-time-by xs ys .0 (in-time-iff (drop (passed xs ys) xs) .0 (rw is-passed at local));
-      other-times = in-time-by xs ys .1 (in-time-iff (drop (passed xs ys) ys) .0 (rw is-passed at other));
-    }
+    pub not-same : sameNumbers (actionsIn xs) (actionsIn ys) ≡ false → allInTime (timesIn xs) ≡ true → allInTime (timesIn ys) ≡ true
+        → Compared d e xs ys (comparison 20 (pos 0))
+    not-same n s t = other-actions (within (in-time-iff xs .0 s) (in-time-iff ys .0 t)) (λ a. clash (same-iff _ _ .1 a) n)
 
-    pub local-longer : k < length xs → Compared d e xs ys (comparison 20 (pos 0))
-    local-longer h = other-actions within
-        (λ a. omega (arith, h, is-passed, same-all xs ys (within .local-times) (within .other-times) a .0))
+    -- both have the same actions
+    module _ (a : SameActions xs ys) where
+      same-length : length xs ≡ length ys
+      same-length = sym (length-map xs (λ (x : Entry). x .action)) ∙ ap length a ∙ length-map ys (λ (x : Entry). x .action)
 
-    pub other-longer : k < length ys → Compared d e xs ys (comparison 20 (pos 0))
-    other-longer h = other-actions within
-        (λ a. omega (arith, h, is-passed, same-all xs ys (within .local-times) (within .other-times) a .1))
+      pub past-place : passOf (timesIn xs) (timesIn ys) .places < length ys → Compared d e xs ys (comparison 19 (pos 0))
+      past-place h = past-bounds (λ b. omega (arith, h, places-in-time noDifferences xs ys (b .local-times) (b .other-times) same-length))
 
-    pub both-passed : length xs ≤ k → length ys ≤ k
-        → Compared d e xs ys (boundedOf (passOf xs ys .smallest) (passOf xs ys .largest) d e)
-    both-passed h g = bounded-compared d e xs ys range tolerance (omega (arith, h, is-passed)) within
-        (all-same xs ys (omega (arith, h, is-passed)) (omega (arith, g, is-passed)))
+      pub all-places : length ys ≤ passOf (timesIn xs) (timesIn ys) .places
+          → let p = passOf (timesIn xs) (timesIn ys) in Compared d e xs ys (boundedOf (p .smallest) (p .largest) d e)
+      all-places h =
+          let t = places-all noDifferences xs ys same-length (omega (arith, h)) in
+          bounded-compared d e xs ys (within (t .0) (t .1)) a

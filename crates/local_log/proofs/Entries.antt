@@ -1,34 +1,12 @@
 -- The entries of a log: how many there are, what stands in each place, and their times. Assumes nothing.
-use Prim.Native.Nat.{ℕ, zero, suc, _+_, _<_, min}
+use Prim.Native.Nat.{ℕ, zero, suc, _<_, min}
 use mathlib.Core.Path.{_≡_, refl, ap, _∙_}
-use mathlib.Core.List.{List, [], _∷_, map}
+use mathlib.Core.List.{List, [], _∷_}
 use native.Mathlib.Omega.{arith}
-use lib.ListN.{length, getD, take, drop}
+use lib.ListN.{length, getD, take}
 use lib.Seq.{take-nil}
-use Rattle.model.proofs.Lists.{drop-at}
-use Rattle.local_log.specs.Comparisons.{Entry, entry, entriesOf}
+use Rattle.local_log.specs.Comparisons.{Entry, entry, entriesOf, timesIn, actionsIn}
 use Rattle.local_log.specs.Answers.{EntriesInPlaces}
-
--- those from place i on
-abbrev pub entriesFrom : ℕ → List ℕ → List ℕ → List Entry
-entriesFrom i times actions = entriesOf (drop i times) (drop i actions)
-
-pub entries-at : (times actions : List ℕ) (i : ℕ) → i < length times → i < length actions
-    → entriesFrom i times actions ≡ entry (getD times i 0) (getD actions i 0) ∷ entriesFrom (i + 1) times actions
-unfolding entriesOf
-entries-at times actions i h g = rw (drop-at times i 0 h, drop-at actions i 0 g) refl
-
--- a log from place i on is the list of its entries from there on
-pub entries-from : (i : ℕ) (times actions : List ℕ) → entriesFrom i times actions ≡ drop i (entriesOf times actions)
-unfolding entriesOf
-entries-from zero times actions = refl
-entries-from (suc i) [] actions = refl
-entries-from (suc i) (t ∷ times) [] = none (drop i times)
-  where
-    none : (l : List ℕ) → entriesOf l [] ≡ []
-    none [] = refl
-    none (x ∷ l) = refl
-entries-from (suc i) (t ∷ times) (q ∷ actions) = entries-from i times actions
 
 pub length-entries : (times actions : List ℕ) → length (entriesOf times actions) ≡ min (length times) (length actions)
 unfolding entriesOf
@@ -48,12 +26,19 @@ in-place (t ∷ times) (q ∷ actions) (suc i) x h = in-place times actions i x 
 pub entries-in-places : EntriesInPlaces
 entries-in-places times actions = (length-entries times actions, in-place times actions)
 
--- the times of its entries are the first of its list of times
-pub times-of : (times actions : List ℕ)
-    → map (λ (x : Entry). x .time) (entriesOf times actions) ≡ take (min (length times) (length actions)) times
+-- of a log in two lists, they and its actions are the first of each
+pub times-of : (times actions : List ℕ) → timesIn (entriesOf times actions) ≡ take (min (length times) (length actions)) times
 unfolding entriesOf
 times-of [] actions = rw take-nil
 times-of (t ∷ times) [] = ap (λ (k : ℕ). take k (t ∷ times)) {x = 0} {y = min (suc (length times)) 0} (omega arith)
 times-of (t ∷ times) (q ∷ actions) =
     ap (λ (l : List ℕ). t ∷ l) (times-of times actions)
     ∙ ap (λ (k : ℕ). take k (t ∷ times)) {x = suc (min (length times) (length actions))} {y = min (suc (length times)) (suc (length actions))} (omega arith)
+
+pub actions-of : (times actions : List ℕ) → actionsIn (entriesOf times actions) ≡ take (min (length times) (length actions)) actions
+unfolding entriesOf
+actions-of [] actions = ap (λ (k : ℕ). take k actions) {x = 0} {y = min 0 (length actions)} (omega arith)
+actions-of (t ∷ times) [] = rw take-nil
+actions-of (t ∷ times) (q ∷ actions) =
+    ap (λ (l : List ℕ). q ∷ l) (actions-of times actions)
+    ∙ ap (λ (k : ℕ). take k (q ∷ actions)) {x = suc (min (length times) (length actions))} {y = min (suc (length times)) (suc (length actions))} (omega arith)

@@ -1,11 +1,10 @@
 pub mod Entries
-pub mod Passes
+pub mod Turns
 pub mod Integers
-pub mod Passed
-pub mod Shifts
-pub mod Compared
 pub mod Orders
 pub mod LeastShifts
 pub mod Worked
+pub mod Shifts
+pub mod Compared
 pub mod Answers
 pub mod Cases

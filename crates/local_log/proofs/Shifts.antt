@@ -1,4 +1,4 @@
--- The shifts that serve two logs whose places are all passed: an interval, between the largest and the smallest difference, of which the least is
+-- The shifts that serve two logs whose times are in time: an interval, between the largest and the smallest difference, of which the least is
 -- told. Assumes nothing.
 use Prim.Native.Nat.{ℕ, _+_, _-_, _≤_}
 use mathlib.Core.Path.{_≡_, sym, subst}
@@ -7,17 +7,14 @@ use mathlib.Core.List.{List, [], _∷_}
 use native.Mathlib.Omega.{arith}
 use lib.IntN.{ℤ, subℕ}
 use lib.Signed.{_≤ℤ_}
-use lib.ListN.{length}
-use borrow.Author.Tests.{lt-ltb, le-ltb}
+use borrow.Author.Tests.{le-leb, lt-ltb, le-ltb}
 use Rattle.model.specs.States.{lastTime}
-use Rattle.model.proofs.Tests.{by-test, if-lt}
-use Rattle.local_log.specs.declared.Differences.{Differences}
-use Rattle.local_log.specs.Comparisons.{Entry, mostShift, Within, SameActions, Near, AllNear, Serves, Least, Compared, no-shift, agree}
-use Rattle.local_log.specs.Passes.{goesOn, difference, noDifferences, noted, passFrom, passOf, lowest, highest, boundedOf}
+use Rattle.model.proofs.Tests.{if-lt}
+use Rattle.local_log.specs.declared.passes.Differences.{Differences}
+use Rattle.local_log.specs.Comparisons.{Entry, timesIn, InTime, Within, SameActions, Near, AllNear, Serves, Least, Compared, no-shift, agree}
+use Rattle.local_log.specs.Passes.{difference, noDifferences, noted, passFrom, passOf, lowest, highest, boundedOf}
 use Rattle.local_log.proofs.Integers.{pos-is, neg-is, sub-le, from-neg}
 use Rattle.local_log.proofs.Orders.{near-across}
-use Rattle.local_log.proofs.Passes.{goes-passed}
-use Rattle.local_log.proofs.Passed.{passed}
 
 -- One place, at the shift that is w less the clock's end
 
@@ -25,39 +22,39 @@ module _ (e w : ℕ) where
   abbrev shift : ℤ
   shift = subℕ w lastTime
 
-  pub near-iff : (x y : Entry) → x .time ≤ lastTime → Near e shift x y ↔ ((difference x y ≤ w + e) × (w ≤ difference x y + e))
+  between : Entry → Entry → Type 0
+  between x y = (difference (x .time) (y .time) ≤ w + e) × (w ≤ difference (x .time) (y .time) + e)
+
+  near-iff : (x y : Entry) → x .time ≤ lastTime → Near e shift x y ↔ between x y
+  unfolding between
   near-iff x y h =
-      let n = near-across e w lastTime x y in (
-        λ k. (omega (arith, n .0 k), omega (arith, n .0 k)),
-        λ (k : (difference x y ≤ w + e) × (w ≤ difference x y + e)). n .1 (omega (arith, k .0, k .1)),
-      )
+      let n = near-across e w lastTime x y in
+      (λ k. (omega (arith, n .0 k), omega (arith, n .0 k)), λ (k : between x y). n .1 (omega (arith, k .0, k .1)))
 
   -- it lies between those that p has kept
-  abbrev pub Between : Differences → Type 0
+  abbrev Between : Differences → Type 0
   Between p = (p .largest ≤ w + e) × (w ≤ p .smallest + e)
 
   -- all places
-  pub all-near-iff : (p : Differences) (xs ys : List Entry) → length xs ≤ passed xs ys
-      → (Between p × AllNear e shift xs ys) ↔ Between (passFrom p xs ys)
-  unfolding passFrom passed noted
-  all-near-iff p [] ys = λ h. (λ b. b .0, λ b. (b, tt))
-  all-near-iff p (x ∷ xs) [] = λ h. absurd (omega arith)
-  all-near-iff p (x ∷ xs) (y ∷ ys) = by-test (goesOn x y)
-      (λ g. rw g (λ h. (
-        λ b. let n = near-iff x y (goes-passed x y g .local-time) .0 (b .1 .0) in
-            all-near-iff (noted p x y) xs ys (omega arith) .0 ((omega (arith, b .0, n .0), omega (arith, b .0, n .1)), b .1 .1),
-        λ b. let k = all-near-iff (noted p x y) xs ys (omega arith) .1 b in (
-          (omega (arith, k .0), omega (arith, k .0)),
-          (near-iff x y (goes-passed x y g .local-time) .1 (omega (arith, k .0), omega (arith, k .0)), k .1),
-        ),
-      )))
-      (λ g. rw g (λ h. absurd (omega arith)))
+  all-near-iff : (p : Differences) (xs ys : List Entry) → InTime xs → InTime ys
+      → (Between p × AllNear e shift xs ys) ↔ Between (passFrom p (timesIn xs) (timesIn ys))
+  unfolding passFrom noted between
+  all-near-iff p [] ys s t = (λ b. b .0, λ b. (b, tt))
+  all-near-iff p (x ∷ xs) [] s t = (λ b. b .0, λ b. (b, tt))
+  all-near-iff p (x ∷ xs) (y ∷ ys) s t =
+      let more = all-near-iff (noted p (x .time) (y .time)) xs ys (s .1) (t .1) in
+      let near = near-iff x y (s .0) in
+      rw (le-leb _ _ (s .0), le-leb _ _ (t .0)) (
+        λ b. more .0 ((omega (arith, b .0, near .0 (b .1 .0)), omega (arith, b .0, near .0 (b .1 .0))), b .1 .1),
+        λ b. let k = more .1 b in
+            ((omega (arith, k .0), omega (arith, k .0)), (near .1 (omega (arith, k .0), omega (arith, k .0)), k .1)),
+      )
 
--- All shifts of two logs that are passed as a whole
+-- All shifts
 
-module _ (d e : ℕ) (xs ys : List Entry) (range : d ≤ mostShift) (tolerance : e ≤ mostShift) (whole : length xs ≤ passed xs ys) where
+module _ (d e : ℕ) (xs ys : List Entry) (bounds : Within d e xs ys) where
   abbrev kept : Differences
-  kept = passOf xs ys
+  kept = passOf (timesIn xs) (timesIn ys)
 
   abbrev low : ℕ
   low = lowest (kept .largest) d e
@@ -70,23 +67,23 @@ module _ (d e : ℕ) (xs ys : List Entry) (range : d ≤ mostShift) (tolerance :
 
   serves-inside : (w : ℕ) → Serves d e xs ys (subℕ w lastTime) → Inside w
   serves-inside w s =
-      let from = sub-le (lastTime - d) w lastTime .0 (subst (λ (z : ℤ). z ≤ℤ subℕ w lastTime) (neg-is d lastTime (omega arith)) (s .from)) in
+      let from = sub-le (lastTime - d) w lastTime .0 (subst (λ (z : ℤ). z ≤ℤ subℕ w lastTime) (neg-is d lastTime (omega (arith, bounds .range))) (s .from)) in
       let to = sub-le w (lastTime + d) lastTime .0 (subst (λ (z : ℤ). subℕ w lastTime ≤ℤ z) (pos-is d lastTime) (s .to)) in
-      let between = all-near-iff e w noDifferences xs ys whole .0 ((omega arith, omega arith), s .near) in
+      let between = all-near-iff e w noDifferences xs ys (bounds .local-times) (bounds .other-times) .0 ((omega arith, omega arith), s .near) in
       record { above = omega (arith, from, between .0); in-range = to; below = between .1 }
 
   inside-serves : (w : ℕ) → Inside w → Serves d e xs ys (subℕ w lastTime)
   inside-serves w i = record {
-    from = subst (λ (z : ℤ). z ≤ℤ subℕ w lastTime) (sym (neg-is d lastTime (omega arith)))
+    from = subst (λ (z : ℤ). z ≤ℤ subℕ w lastTime) (sym (neg-is d lastTime (omega (arith, bounds .range))))
         (sub-le (lastTime - d) w lastTime .1 (omega (arith, i .above)));
     to = subst (λ (z : ℤ). subℕ w lastTime ≤ℤ z) (sym (pos-is d lastTime)) (sub-le w (lastTime + d) lastTime .1 (i .in-range));
-    near = all-near-iff e w noDifferences xs ys whole .1 (omega (arith, i .above), i .below) .1;
+    near = all-near-iff e w noDifferences xs ys (bounds .local-times) (bounds .other-times) .1 (omega (arith, i .above), i .below) .1;
   }
 
   -- a shift that serves is in it
   found : (s : ℤ) → Serves d e xs ys s → (w : ℕ) × (s ≡ subℕ w lastTime) × Inside w
   found s h =
-      let w = from-neg d lastTime (omega arith) s (h .from) in
+      let w = from-neg d lastTime (omega (arith, bounds .range)) s (h .from) in
       (w .0, w .1, serves-inside (w .0) (subst (Serves d e xs ys) (w .1) h))
 
   none : (low ≤ lastTime + d → low ≤ kept .smallest + e → ⊥) → (s : ℤ) → Serves d e xs ys s → ⊥
@@ -102,8 +99,8 @@ module _ (d e : ℕ) (xs ys : List Entry) (range : d ≤ mostShift) (tolerance :
   }
 
   -- so the interval tells the answer
-  pub bounded-compared : Within d e xs ys → SameActions xs ys → Compared d e xs ys (boundedOf (kept .smallest) (kept .largest) d e)
+  pub bounded-compared : SameActions xs ys → Compared d e xs ys (boundedOf (kept .smallest) (kept .largest) d e)
   unfolding boundedOf
-  bounded-compared b a = if-lt (highest (kept .smallest) d e) low
-      (λ h. rw (lt-ltb _ _ h) (no-shift b a (none (λ k l. omega arith))))
-      (λ h. rw (le-ltb _ _ h) (agree b a (subℕ low lastTime) (least-is (omega arith) (omega arith))))
+  bounded-compared a = if-lt (highest (kept .smallest) d e) low
+      (λ h. rw (lt-ltb _ _ h) (no-shift bounds a (none (λ k l. omega arith))))
+      (λ h. rw (le-ltb _ _ h) (agree bounds a (subℕ low lastTime) (least-is (omega arith) (omega arith))))

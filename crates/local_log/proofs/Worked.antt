@@ -7,14 +7,13 @@ use mathlib.Core.List.{List, [], _∷_}
 use native.Mathlib.Omega.{arith}
 use lib.IntN.{ℤ, pos, negℤ}
 use lib.Signed.{leZ}
-use lib.ListN.{length}
+use lib.ListN.{length, drop}
 use Rattle.model.proofs.Tests.{by-test, clash, tests}
 use Rattle.local_log.specs.Comparisons.{Entry, mostShift, InTime, Within, actionsIn, AllNear, Serves, comparison}
 use Rattle.local_log.specs.Comparisons.{Compared, past-bounds, other-actions, no-shift, agree}
 use Rattle.local_log.specs.Formulas.{leastShift, inTime, within, sameNumbers, allNear, serves, comparedOf}
 use Rattle.local_log.specs.Answers.{SomeAnswer, OneAnswer, ComparedExactly}
 use Rattle.local_log.proofs.Orders.{≤ℤ-antisym, le-test, le-true}
-use Rattle.local_log.proofs.Passed.{head-same, tail-same}
 use Rattle.local_log.proofs.LeastShifts.{least-serves, least-is}
 
 -- The tests
@@ -27,7 +26,18 @@ in-time-iff (x ∷ xs) = (
   λ t. simp tests (t .0, in-time-iff xs .1 (t .1)),
 )
 
-same-iff : (xs ys : List ℕ) → (sameNumbers xs ys ≡ true) ↔ (xs ≡ ys)
+-- the head of a list, and what follows it
+head-same : {a b : ℕ} {l m : List ℕ} → _≡_ {A = List ℕ} (a ∷ l) (b ∷ m) → a ≡ b
+head-same e = ap (λ (k : List ℕ). head k) e
+  where
+    head : List ℕ → ℕ
+    head [] = 0
+    head (x ∷ l) = x
+
+tail-same : {a b : ℕ} {l m : List ℕ} → _≡_ {A = List ℕ} (a ∷ l) (b ∷ m) → l ≡ m
+tail-same e = ap (λ (k : List ℕ). drop 1 k) e
+
+pub same-iff : (xs ys : List ℕ) → (sameNumbers xs ys ≡ true) ↔ (xs ≡ ys)
 unfolding sameNumbers
 same-iff [] [] = (λ e. refl, λ h. refl)
 same-iff [] (y ∷ ys) = (λ e. absurd (clash refl (sym e)), λ h. absurd (omega (arith, ap length h)))

@@ -45,6 +45,10 @@ pub record Within (d e : ℕ) (local other : List Entry) : Type 0 where
 
 -- Agreement
 
+-- helper: the times of a log
+abbrev pub timesIn : List Entry → List ℕ
+timesIn entries = map (λ (x : Entry). x .time) entries
+
 -- helper: the actions of a log
 abbrev pub actionsIn : List Entry → List ℕ
 actionsIn entries = map (λ (x : Entry). x .action) entries

@@ -1,31 +1,27 @@
--- The comparison as it is worked out: one pass over the places of two logs, the smallest and the largest difference, and the interval of shifts
--- between them. For the proofs only. Assumes nothing.
+-- The comparison as it is worked out by the code: a pass over the times of two logs, the smallest and the largest difference, and the interval of
+-- shifts between them. For the proofs only. Assumes nothing.
 use Prim.Native.Nat.{ℕ, _+_, _-_, min, max}
-use mathlib.Core.Bool.{Bool, false, cond, _&&_, _||_}
+use mathlib.Core.Bool.{Bool, true, cond, _&&_}
 use mathlib.Core.List.{List, [], _∷_}
-use lib.Dec.{leb, ltb, eqb}
+use lib.Dec.{leb, ltb}
 use lib.IntN.{pos, subℕ}
 use Rattle.model.specs.States.{lastTime}
 use Rattle.local_log.specs.declared.Comparison.{Comparison}
-use Rattle.local_log.specs.declared.Differences.{Differences}
-use Rattle.local_log.specs.Comparisons.{Entry, comparison}
+use Rattle.local_log.specs.declared.passes.Differences.{Differences}
+use Rattle.local_log.specs.Comparisons.{comparison}
 
--- one of these times is past the clock's end
-unfoldable pub pastEnd : List ℕ → Bool
-pastEnd [] = false
-pastEnd (t ∷ times) = ltb lastTime t || pastEnd times
+-- no time is past the clock's end
+unfoldable pub allInTime : List ℕ → Bool
+allInTime [] = true
+allInTime (t ∷ times) = leb t lastTime && allInTime times
 
 -- helper: of its parts
 abbrev pub differences : ℕ → ℕ → ℕ → Differences
 differences places smallest largest = record { places = places; smallest = smallest; largest = largest }
 
--- two entries stop the pass unless they do this
-abbrev pub goesOn : Entry → Entry → Bool
-goesOn x y = leb (x .time) lastTime && leb (y .time) lastTime && eqb (x .action) (y .action)
-
 -- the other time less the local one, and the clock's end more
-abbrev pub difference : Entry → Entry → ℕ
-difference x y = y .time + lastTime - x .time
+abbrev pub difference : ℕ → ℕ → ℕ
+difference stamp time = time + lastTime - stamp
 
 -- no difference is above it
 abbrev pub twice : ℕ
@@ -36,18 +32,18 @@ abbrev pub noDifferences : Differences
 noDifferences = differences 0 twice 0
 
 -- one place more
-unfoldable pub noted : Differences → Entry → Entry → Differences
-noted p x y = differences (p .places + 1) (min (p .smallest) (difference x y)) (max (p .largest) (difference x y))
+unfoldable pub noted : Differences → ℕ → ℕ → Differences
+noted p s t = differences (p .places + 1) (min (p .smallest) (difference s t)) (max (p .largest) (difference s t))
 
--- the places that are left
-unfoldable pub passFrom : Differences → List Entry → List Entry → Differences
-passFrom p [] other = p
-passFrom p (x ∷ xs) [] = p
-passFrom p (x ∷ xs) (y ∷ ys) = cond (goesOn x y) (passFrom (noted p x y) xs ys) p
+-- the places that are left; two times stop the pass unless both are in time
+unfoldable pub passFrom : Differences → List ℕ → List ℕ → Differences
+passFrom p [] times = p
+passFrom p (s ∷ stamps) [] = p
+passFrom p (s ∷ stamps) (t ∷ times) = cond (leb s lastTime && leb t lastTime) (passFrom (noted p s t) stamps times) p
 
 -- all of them
-abbrev pub passOf : List Entry → List Entry → Differences
-passOf local other = passFrom noDifferences local other
+abbrev pub passOf : List ℕ → List ℕ → Differences
+passOf stamps times = passFrom noDifferences stamps times
 
 -- the ends of the interval of shifts, and the clock's end more
 abbrev pub lowest : ℕ → ℕ → ℕ → ℕ

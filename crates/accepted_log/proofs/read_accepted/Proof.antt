@@ -14,8 +14,8 @@ use Rattle.model.specs.Executions.{Started, startGave}
 use Rattle.model.proofs.Steps.{length-steps}
 use Rattle.grammar.specs.RoundTrips.{firstOf}
 use Rattle.execution.proofs.Starts.{Ready, ready, refusal}
-use Rattle.local_log.specs.Comparisons.{Entry, actionsIn}
-use Rattle.accepted_log.specs.AcceptedLogs.{timesIn, readAcceptedOf}
+use Rattle.local_log.specs.Comparisons.{Entry, actionsIn, timesIn}
+use Rattle.accepted_log.specs.AcceptedLogs.{readAcceptedOf}
 use Rattle.accepted_log.specs.Keeping.{Kept}
 use Rattle.accepted_log.proofs.Keeping.{run-few, times-front, actions-front}
 use Rattle.accepted_log.proofs.Given.{log-gave, startedLog, gave-low, gave-high, gave-short, gave-all}

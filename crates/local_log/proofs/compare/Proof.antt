@@ -1,26 +1,25 @@
--- `local_log::compare` meets its contract: the bounds of d and e, the pass, the times that it has not passed, the lengths, and the interval.
+-- `local_log::compare` meets its contract: the bounds of d and e, the actions, and then the differences of the times or only their bounds.
 -- Assumes nothing.
-use Prim.Native.Nat.{ℕ, _-_, _≤_}
+use Prim.Native.Nat.{ℕ, _≤_}
 use mathlib.Core.Path.{_≡_, sym, ap, _∙_, subst}
-use mathlib.Core.Bool.{false}
 use mathlib.Core.List.{List}
 use native.Mathlib.Omega.{arith}
-use lib.ListN.{length, take, drop}
+use lib.ListN.{length, take}
+use lib.Seq.{length-take-le}
 use borrow.Author.Needs.{needs}
+use borrow.Author.Tests.{not-true, not-false}
 use Rattle.local_log.specs.declared.Comparison.{Comparison}
-use Rattle.local_log.specs.declared.Differences.{Differences}
-use Rattle.local_log.specs.Comparisons.{Entry, entriesOf, mostShift, Compared}
-use Rattle.local_log.specs.Formulas.{comparedOf}
-use Rattle.local_log.specs.Passes.{pastEnd, noDifferences, passOf, boundedOf}
-use Rattle.local_log.proofs.Entries.{length-entries}
-use Rattle.local_log.proofs.Passed.{places-are, passed-few}
-use Rattle.local_log.proofs.Compared.{timesFrom, times-from, smallest-small, past-range, past-tolerance, past-local, past-other}
-use Rattle.local_log.proofs.Compared.{local-longer, other-longer, both-passed}
-use Rattle.local_log.proofs.Worked.{compared-exactly}
+use Rattle.local_log.specs.declared.passes.Differences.{Differences}
+use Rattle.local_log.specs.Comparisons.{Entry, entriesOf, mostShift, timesIn, actionsIn, SameActions, Compared}
+use Rattle.local_log.specs.Formulas.{sameNumbers, comparedOf}
+use Rattle.local_log.specs.Passes.{allInTime, noDifferences, passOf, boundedOf}
+use Rattle.local_log.proofs.Entries.{length-entries, times-of, actions-of}
+use Rattle.local_log.proofs.Worked.{same-iff, compared-exactly}
+use Rattle.local_log.proofs.Compared.{smallest-small, past-range, past-tolerance, past-local, past-other, not-same, past-place, all-places}
 use Rattle.local_log.proofs.compare.Statement.{statement}
 use Rattle.local_log.proofs.compare.Tie as tie
 
--- The two logs, and the places that were passed
+-- The two logs
 
 abbrev local : tie.Start → List Entry
 local s = entriesOf (s .args .stamps .now) (s .args .claims .now)
@@ -35,67 +34,70 @@ answered s {r} e h =
     let c = subst (Compared (s .args .d) (s .args .e) (local s) (other s)) (sym e) h in
     (c, compared-exactly (s .args .d) (s .args .e) (local s) (other s) r .0 c)
 
+-- Where their actions have been compared
+
+abbrev Looked : Type 0
+Looked = tie.After-same-numbers
+
+module _ (c : Looked) where
+  abbrev at : tie.Start
+  at = c .before .before .before .before .before .before .before .before .before .before .before .before .before
+
+  abbrev local-count : ℕ
+  local-count = c .before .before .before .before .before .before .least .result
+
+  abbrev count : ℕ
+  count = c .before .before .before .before .before .least2 .result
+
+  range : at .args .d ≤ mostShift
+  range = omega (arith, c .before .before .before .before .before .before .before .before .if1 .left)
+
+  tolerance : at .args .e ≤ mostShift
+  tolerance = omega (arith, c .before .before .before .before .before .before .before .if2 .left)
+
+  -- the parts of the lists that are lent are the logs
+  local-times : take local-count (at .args .stamps .now) ≡ timesIn (local at)
+  local-times =
+      ap (λ (n : ℕ). take n (at .args .stamps .now)) (c .before .before .before .before .before .before .least .ensures) ∙ sym (times-of (at .args .stamps .now) (at .args .claims .now))
+
+  other-times : take count (at .args .times .now) ≡ timesIn (other at)
+  other-times =
+      ap (λ (n : ℕ). take n (at .args .times .now)) (c .before .before .before .before .before .least2 .ensures) ∙ sym (times-of (at .args .times .now) (at .args .actions .now))
+
+  local-actions : take local-count (at .args .claims .now) ≡ actionsIn (local at)
+  local-actions =
+      ap (λ (n : ℕ). take n (at .args .claims .now)) (c .before .before .before .before .before .before .least .ensures) ∙ sym (actions-of (at .args .stamps .now) (at .args .claims .now))
+
+  other-actions : take count (at .args .actions .now) ≡ actionsIn (other at)
+  other-actions =
+      ap (λ (n : ℕ). take n (at .args .actions .now)) (c .before .before .before .before .before .least2 .ensures) ∙ sym (actions-of (at .args .times .now) (at .args .actions .now))
+
+  told : c .same-numbers .result ≡ sameNumbers (actionsIn (local at)) (actionsIn (other at))
+  told = c .same-numbers .ensures ∙ ap (λ (l : List ℕ). sameNumbers l (take count (at .args .actions .now))) local-actions
+      ∙ ap (sameNumbers (actionsIn (local at))) other-actions
+
+  other-long : count ≡ length (other at)
+  other-long = c .before .before .before .before .before .least2 .ensures ∙ sym (length-entries (at .args .times .now) (at .args .actions .now))
+
+-- Where they are the same
+
 abbrev Found : Type 0
 Found = tie.After-find-differences
 
-abbrev start : Found → tie.Start
-start c = c .before .before .before .before .before .before .before .before .before
+abbrev looked : Found → Looked
+looked c = c .before .before
 
-abbrev places : Found → ℕ
-places c = c .find-differences .result .places
+module _ (c : Found) where
+  same : SameActions (local (at (looked c))) (other (at (looked c)))
+  same = same-iff _ _ .0 (sym (told (looked c)) ∙ c .before .if3 .taken)
 
-places-is : (c : Found) → places c ≡ passOf (local (start c)) (other (start c)) .places
-places-is c = ap (λ (p : Differences). p .places) (c .find-differences .ensures)
+  found : c .find-differences .result ≡ passOf (timesIn (local (at (looked c)))) (timesIn (other (at (looked c))))
+  found = c .find-differences .ensures
+      ∙ ap (λ (l : List ℕ). passOf l (take (count (looked c)) (at (looked c) .args .times .now))) (local-times (looked c))
+      ∙ ap (passOf (timesIn (local (at (looked c))))) (other-times (looked c))
 
--- how long the two logs are
-local-long : (c : Found) → c .before .before .least .result ≡ length (local (start c))
-local-long c = c .before .before .least .ensures ∙ sym (length-entries (start c .args .stamps .now) (start c .args .claims .now))
-
-other-long : (c : Found) → c .before .least2 .result ≡ length (other (start c))
-other-long c = c .before .least2 .ensures ∙ sym (length-entries (start c .args .times .now) (start c .args .actions .now))
-
-few : (c : Found) → (places c ≤ c .before .before .least .result) × (places c ≤ c .before .least2 .result)
-few c =
-    let k = passed-few (local (start c)) (other (start c)) in
-    let p = places-is c ∙ places-are noDifferences (local (start c)) (other (start c)) in
-    (omega (arith, k .0, p, local-long c), omega (arith, k .1, p, other-long c))
-
--- the times that are looked at after the pass
-local-times : (c : Found)
-    → take (c .before .before .least .result - places c) (drop (places c) (start c .args .stamps .now)) ≡ timesFrom (places c) (local (start c))
-local-times c =
-    ap (λ (n : ℕ). take (n - places c) (drop (places c) (start c .args .stamps .now))) (c .before .before .least .ensures)
-    ∙ (times-from (start c .args .stamps .now) (start c .args .claims .now) (places c))
-
-other-times : (c : Found)
-    → take (c .before .least2 .result - places c) (drop (places c) (start c .args .times .now)) ≡ timesFrom (places c) (other (start c))
-other-times c =
-    ap (λ (n : ℕ). take (n - places c) (drop (places c) (start c .args .times .now))) (c .before .least2 .ensures)
-    ∙ (times-from (start c .args .times .now) (start c .args .actions .now) (places c))
-
--- Where both are in time
-
-abbrev In : Type 0
-In = tie.Else4
-
-abbrev found : In → Found
-found c = c .before .before .before .before .before .before
-
-module _ (c : In) where
-  abbrev at : tie.Start
-  at = start (found c)
-
-  range : at .args .d ≤ mostShift
-  range = omega (arith, found c .before .before .before .before .if1 .left)
-
-  tolerance : at .args .e ≤ mostShift
-  tolerance = omega (arith, found c .before .before .before .if2 .left)
-
-  local-in : pastEnd (timesFrom (places (found c)) (local at)) ≡ false
-  local-in = rw (← local-times (found c)) (sym (c .before .before .before .before .past-end .ensures) ∙ c .before .before .before .if3 .left)
-
-  other-in : pastEnd (timesFrom (places (found c)) (other at)) ≡ false
-  other-in = rw (← other-times (found c)) (sym (c .before .past-end2 .ensures) ∙ c .if4 .left)
+  places : c .find-differences .result .places ≡ passOf (timesIn (local (at (looked c)))) (timesIn (other (at (looked c)))) .places
+  places = ap (λ (p : Differences). p .places) found
 
 refused-requires : tie.Need-refused-requires
 refused-requires c κs = search needs
@@ -119,96 +121,88 @@ least-requires c κs = search needs
 least-requires-2 : tie.Need-least-requires-2
 least-requires-2 c κs = search needs
 
+slice-aggregate-local : tie.Need-slice-aggregate-local
+slice-aggregate-local c = sym (length-take-le _ _ (omega (arith, c .before .before .least .ensures)))
+
+slice-aggregate-other : tie.Need-slice-aggregate-other
+slice-aggregate-other c = sym (length-take-le _ _ (omega (arith, c .before .before .least2 .ensures)))
+
+slice-aggregate-same-numbers : tie.Need-slice-aggregate-same-numbers
+slice-aggregate-same-numbers c = sym (length-take-le _ _ (omega (arith, c .before .before .before .before .least .ensures)))
+
+slice-aggregate-same-numbers-2 : tie.Need-slice-aggregate-same-numbers-2
+slice-aggregate-same-numbers-2 c = sym (length-take-le _ _ (omega (arith, c .before .before .before .before .least2 .ensures)))
+
+same-numbers-requires : tie.Need-same-numbers-requires
+same-numbers-requires c κs = search needs
+
 find-differences-requires : tie.Need-find-differences-requires
 find-differences-requires c κs = search needs
-
-mul-past-end : tie.Need-mul-past-end
-mul-past-end c = omega (arith, few c, start c .good)
-
-sub-past-end : tie.Need-sub-past-end
-sub-past-end c = few c .0
-
-part-past-end-start : tie.Need-part-past-end-start
-part-past-end-start c = few c .0
-
-part-past-end-end : tie.Need-part-past-end-end
-part-past-end-end c = omega (arith, c .before .before .least .ensures)
-
-past-end-requires : tie.Need-past-end-requires
-past-end-requires c κs = search needs
 
 refused-requires-3 : tie.Need-refused-requires-3
 refused-requires-3 c κs = search needs
 
 returns-3 : tie.Need-returns-3
 returns-3 c =
-    let f = c .before .before .before .before in
-    let s = start f in
+    let f = c .before .before .before in
+    let l = looked f in
+    let s = at l in
     answered s (c .refused3 .ensures)
-    (past-local (s .args .d) (s .args .e) (local s) (other s) (places f)
-    (rw (← local-times f) (sym (c .before .before .past-end .ensures) ∙ c .before .if3 .taken)))
+    (past-place (s .args .d) (s .args .e) (local s) (other s) (range l) (tolerance l) (same f) (omega (arith, c .before .if4 .taken, places f, other-long l)))
 
-mul-past-end-2 : tie.Need-mul-past-end-2
-mul-past-end-2 c = omega (arith, few (c .before .before .before), start (c .before .before .before) .good)
+bounded-requires : tie.Need-bounded-requires
+bounded-requires c κs =
+    let f = c .before .before in
+    let l = looked f in
+    let small = smallest-small noDifferences (timesIn (local (at l))) (timesIn (other (at l))) in
+    (range l, (tolerance l, omega (arith, small, ap (λ (p : Differences). p .smallest) (found f))))
 
-sub-past-end-2 : tie.Need-sub-past-end-2
-sub-past-end-2 c = few (c .before .before .before) .1
+returns-4 : tie.Need-returns-4
+returns-4 c =
+    let f = c .before .before .before in
+    let l = looked f in
+    let s = at l in
+    let bounds = ap (λ (p : Differences). boundedOf (p .smallest) (p .largest) (s .args .d) (s .args .e)) (found f) in
+    answered s (c .bounded .ensures ∙ bounds)
+    (all-places (s .args .d) (s .args .e) (local s) (other s) (range l) (tolerance l) (same f) (omega (arith, c .before .if4 .left, places f, other-long l)))
 
-part-past-end-start-2 : tie.Need-part-past-end-start-2
-part-past-end-start-2 c = few (c .before .before .before) .1
-
-part-past-end-end-2 : tie.Need-part-past-end-end-2
-part-past-end-end-2 c = omega (arith, c .before .before .before .before .least2 .ensures)
-
-past-end-requires-2 : tie.Need-past-end-requires-2
-past-end-requires-2 c κs = search needs
+in-time-requires : tie.Need-in-time-requires
+in-time-requires c κs = search needs
 
 refused-requires-4 : tie.Need-refused-requires-4
 refused-requires-4 c κs = search needs
 
-returns-4 : tie.Need-returns-4
-returns-4 c =
-    let f = c .before .before .before .before .before .before .before in
-    let s = start f in
-    answered s (c .refused4 .ensures)
-    (past-other (s .args .d) (s .args .e) (local s) (other s) (places f)
-    (rw (← other-times f) (sym (c .before .before .past-end2 .ensures) ∙ c .before .if4 .taken)))
+returns-5 : tie.Need-returns-5
+returns-5 c =
+    let l = c .before .before .before .before in
+    let s = at l in
+    let late = sym (c .before .before .in-time .ensures) ∙ not-true _ (c .before .if5 .taken) in
+    answered s (c .refused4 .ensures) (past-local (s .args .d) (s .args .e) (local s) (other s) (ap allInTime (sym (local-times l)) ∙ late))
+
+in-time-requires-2 : tie.Need-in-time-requires-2
+in-time-requires-2 c κs = search needs
 
 refused-requires-5 : tie.Need-refused-requires-5
 refused-requires-5 c κs = search needs
 
-returns-5 : tie.Need-returns-5
-returns-5 c =
-    let i = c .before .before in
-    let s = at i in
-    answered s (c .refused5 .ensures)
-    (local-longer (s .args .d) (s .args .e) (local s) (other s) (range i) (tolerance i) (places (found i)) (places-is (found i)) (local-in i) (other-in i)
-    (omega (arith, c .before .if5 .taken, local-long (found i))))
+returns-6 : tie.Need-returns-6
+returns-6 c =
+    let l = c .before .before .before .before .before .before in
+    let s = at l in
+    let late = sym (c .before .before .in-time2 .ensures) ∙ not-true _ (c .before .if6 .taken) in
+    answered s (c .refused5 .ensures) (past-other (s .args .d) (s .args .e) (local s) (other s) (ap allInTime (sym (other-times l)) ∙ late))
 
 refused-requires-6 : tie.Need-refused-requires-6
 refused-requires-6 c κs = search needs
 
-returns-6 : tie.Need-returns-6
-returns-6 c =
-    let i = c .before .before .before in
-    let s = at i in
-    answered s (c .refused6 .ensures)
-    (other-longer (s .args .d) (s .args .e) (local s) (other s) (range i) (tolerance i) (places (found i)) (places-is (found i)) (local-in i) (other-in i)
-    (omega (arith, c .before .if6 .taken, other-long (found i))))
-
-bounded-requires : tie.Need-bounded-requires
-bounded-requires c κs =
-    let i = c .before .before in
-    (range i, (tolerance i, rw (found i .find-differences .ensures) (smallest-small noDifferences (local (at i)) (other (at i)))))
-
 returns-7 : tie.Need-returns-7
 returns-7 c =
-    let i = c .before .before .before in
-    let s = at i in
-    let told = ap (λ (p : Differences). boundedOf (p .smallest) (p .largest) (s .args .d) (s .args .e)) (found i .find-differences .ensures) in
-    answered s (c .bounded .ensures ∙ told)
-    (both-passed (s .args .d) (s .args .e) (local s) (other s) (range i) (tolerance i) (places (found i)) (places-is (found i)) (local-in i) (other-in i)
-    (omega (arith, c .before .before .if5 .left, local-long (found i))) (omega (arith, c .before .if6 .left, other-long (found i))))
+    let l = c .before .before .before .before .before .before in
+    let s = at l in
+    let n = sym (told l) ∙ c .before .before .before .before .before .if3 .left in
+    let t = ap allInTime (sym (local-times l)) ∙ sym (c .before .before .before .before .in-time .ensures) ∙ not-false _ (c .before .before .before .if5 .left) in
+    let u = ap allInTime (sym (other-times l)) ∙ sym (c .before .before .in-time2 .ensures) ∙ not-false _ (c .before .if6 .left) in
+    answered s (c .refused6 .ensures) (not-same (s .args .d) (s .args .e) (local s) (other s) (range l) (tolerance l) n t u)
 
 pub compare-spec : {M : Type 1} → statement M
 compare-spec =
@@ -220,24 +214,21 @@ compare-spec =
     returns-2
     least-requires
     least-requires-2
+    slice-aggregate-local
+    slice-aggregate-other
+    slice-aggregate-same-numbers
+    slice-aggregate-same-numbers-2
+    same-numbers-requires
     find-differences-requires
-    mul-past-end
-    sub-past-end
-    part-past-end-start
-    part-past-end-end
-    past-end-requires
     refused-requires-3
     returns-3
-    mul-past-end-2
-    sub-past-end-2
-    part-past-end-start-2
-    part-past-end-end-2
-    past-end-requires-2
-    refused-requires-4
-    returns-4
-    refused-requires-5
-    returns-5
-    refused-requires-6
-    returns-6
     bounded-requires
+    returns-4
+    in-time-requires
+    refused-requires-4
+    returns-5
+    in-time-requires-2
+    refused-requires-5
+    returns-6
+    refused-requires-6
     returns-7)
