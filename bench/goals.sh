@@ -26,6 +26,7 @@ goals() {
         $2 ~ /^([12][123]|83)$/ { note($1 " idle") }
         $2 ~ /^([456][123]|73)$/ { note($1 " busy") }
         $2 ~ /^(43|73)$/ { note($1 " busy 96") }
+        $1 == "notebook" && $2 != 308 { note($1 " in_range") }
         $1 == "notebook" && $2 ~ /^30[134]$/ { rows["linear"]++; agreeing[$2] = $3 }
         $1 == "board" && ($2 == 201 || $2 == 205) { empty++; if ($3 / $5 > dearest) dearest = $3 / $5 }
         function note(goal) { rows[goal]++; if ($3 / $4 > most[goal]) most[goal] = $3 / $4 }
@@ -81,7 +82,9 @@ goals() {
             judge("deadlines_within", 30, 1.38, "the same in every row, as it is")
             judge("board", 8, 1.0, "a board through the C library, in every row, of the reference")
             judge_number(dearest, empty == 2 && dearest < 200, "an empty board, adding or showing: less than 200 instructions")
-            judge("notebook", 8, 1.0, "a till\047s notebook through the C library, in every row, of the reference")
+            judge("notebook in_range", 7, 1.0, "a till\047s notebook through the C library, no moment past its bound, every row, of the reference")
+            tell("notebook", 8, 1.0, "the same in every row")
+            judge("notebook", 8, 1.80, "the same in every row, as it is")
             a_hundred = agreeing[303] - agreeing[301]
             most["linear"] = a_hundred > 0 ? (agreeing[304] - agreeing[301]) / a_hundred : 1000
             judge("linear", 3, 10.5, "the same with 1,000 entries, of that with 100, each less that with none")
