@@ -20,7 +20,7 @@ pub struct Case {
 // less than that, and no shift serves. The act at the last place differs in 306, and the one at the first in 307, where all moments are looked
 // at nevertheless. In 308 the last moment is past the clock's end, in the list that is looked at last.
 pub fn chosen_case() -> Case {
-    const NO_ACT: u64 = 9;
+    const OTHER_ACT: u64 = 9;
     const PAST_END: u64 = 1_000_000_000_001;
     let number = chosen();
     let count = match number {
@@ -32,8 +32,8 @@ pub fn chosen_case() -> Case {
     let till = notebook_of(count, |i| 10_000 * i + 8_800 + i * 7919 % 7 - 3);
     let mut kept = notebook_of(count, |i| 10_000 * (i + 1));
     match number {
-        306 => kept.acts[999] = NO_ACT,
-        307 => kept.acts[0] = NO_ACT,
+        306 => kept.acts[999] = OTHER_ACT,
+        307 => kept.acts[0] = OTHER_ACT,
         308 => kept.moments[999] = PAST_END,
         _ => {}
     }

@@ -11,7 +11,7 @@
  *   A list is a pointer and the count of its elements (not of bytes). The caller owns it; the library keeps no pointer past the call.
  *   The caller sees to these three things, which no test within a call can find out [9.160]: the pointer is aligned for its element and
  *   leads to that many elements (with a count of 0 nothing is read through it, and it may be null); lists that are lent to one call do not
- *   overlap; and nobody else touches them during the call. So one table, one summary or one board is for one thread at a time (to show a
+ *   overlap, unless they are only read; and nobody else touches them during the call. So one table, one summary or one board is for one thread at a time (to show a
  *   board writes it); two of them have nothing in common.
  *   Elements past those that a call speaks of stay as they are. A call that is refused leaves all that was lent as it was, but for the
  *   count of refused acts in a lent summary, which 4 to 10 raise by one [9.120], and for a board that is not set up, 17, whose list then
@@ -404,8 +404,8 @@ struct funnelfawn_comparison {
 
 /* [13.90] A till's notebook held against the box's accepted acts of its window. They agree if both have the same acts in the same order and one
  * shift s, -d <= s <= d, added to every moment of the till, leaves it no further than e from the box's [13.50].
- *   0, 0, the smallest such s: it is above 0 where the till's clock is behind the box's. Where the clock is behind by s, give or take e at each
- *   act, the shift that is told is at most s and, if there is an act, at least s - 2e; so with e = 0 it is s [13.80]. To know the
+ *   0, 0, the smallest such s: it is above 0 where the till's clock is behind the box's. Where the clock is behind by s, from -d to d, give or take
+ *   e at each act, the shift that is told is at most s and, if there is an act, at least s - 2e; so with e = 0 it is s [13.80]. To know the
  *   greatest such s too, exchange the two notebooks and the sign [13.87]. Two notebooks without an act give -d [13.75].
  *   Or 19 if d or e is above FUNNELFAWN_MOST_SHIFT, or a moment that counts is above 1,000,000,000,000, be it in either notebook and at whichever
  *   place; or else 20 if the acts differ, or there are more in one of the two; or else 21 if no shift serves.

@@ -804,7 +804,7 @@ static struct funnelfawn_comparison compare(struct notebook till, struct noteboo
     const struct notebook lent[] = {till, other};
     struct funnelfawn_comparison found =
         funnelfawn_compare_logs(till.moments, till.moments_length, till.acts, till.acts_length, other.moments, other.moments_length,
-                                    other.acts, other.acts_length, d, e);
+                                other.acts, other.acts_length, d, e);
 
     CHECK(memcmp(&lent[0], &till, sizeof till) == 0 && memcmp(&lent[1], &other, sizeof other) == 0 && found.window == 0);
     return found;

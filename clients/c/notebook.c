@@ -1,14 +1,15 @@
 /* A till's notebook held against the day's recording, for who looks after the clocks of the tills: `notebook WINDOW NOTEBOOK` reads the
  * recording on standard input, takes out what the box accepted of that window, and says by how much the till's clock is off. The notebook is
  * a file in the form of a recording too, with the till's acts by the till's clock: so the library reads it, and funnelfawn_write writes it.
- * Exit status: 0 where the two agree; 1 where the recording or the notebook is refused; 2 where the input or the output breaks; 3 where the
- * archive has another layout than the header; 4 where they do not agree. streams.h says more. */
+ * Exit status: 0 where the two agree; 1 where the recording or the notebook is refused; 2 where the arguments are not two, or the input or the
+ * output breaks; 3 where the archive has another layout than the header; 4 where they do not agree. streams.h says more. */
 #include "streams.h"
 
 #include <fcntl.h>
 #include <inttypes.h>
 #include <stdarg.h>
 #include <stdlib.h>
+#include <string.h>
 
 /* In microseconds: how far the clock of a till may be off, and how far from the moment of an act the till may note it. */
 enum { D = 5000, E = 100 };
@@ -52,7 +53,7 @@ static int refuse(const char *what, struct funnelfawn_answer answer)
 static struct funnelfawn_comparison compare(const struct notebook *one, const struct notebook *other)
 {
     return funnelfawn_compare_logs(one->moments, one->count, one->acts, one->count, other->moments, other->count, other->acts,
-                                       other->count, D, E);
+                                   other->count, D, E);
 }
 
 /* From the smallest shift to the largest all serve, and the clock is off by about the middle of them. */
@@ -144,6 +145,14 @@ static int read_notebook(const char *path)
     return read_steps(text, length);
 }
 
+/* What is no number, or one of more than 9 digits, gives 0, which is no window. */
+static uint64_t number_in(const char *text)
+{
+    size_t digits = strspn(text, "0123456789");
+
+    return digits <= 9 && text[digits] == '\0' ? strtoull(text, NULL, 10) : 0;
+}
+
 int main(int count, char **arguments)
 {
     int status;
@@ -154,8 +163,7 @@ int main(int count, char **arguments)
         fputs("usage: notebook WINDOW NOTEBOOK <RECORDING\n", stderr);
         return BROKEN;
     }
-    /* what is no number gives 0, which is no window */
-    window = strtoull(arguments[1], NULL, 10);
+    window = number_in(arguments[1]);
     status = read_notebook(arguments[2]);
     return status == GOOD ? run("notebook", "finding", hold) : status;
 }

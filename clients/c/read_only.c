@@ -190,7 +190,7 @@ static uint64_t compare(void)
     if (sigsetjmp(before_the_call, 1) != 0)
         return FAULTED;
     return funnelfawn_compare_logs(notes[0].list, notes[0].length, notes[1].list, notes[1].length, notes[2].list, notes[2].length,
-                                       notes[3].list, notes[3].length, 10, 1)
+                                   notes[3].list, notes[3].length, 10, 1)
         .number;
 }
 

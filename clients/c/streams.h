@@ -1,5 +1,5 @@
-/* What replay.c, spans.c and notebook.c share: a recording comes in on standard input, a text goes out on standard output, and there is a status to end
- * with. For a program of one source, to be included before all else. */
+/* What replay.c, spans.c and notebook.c share: a recording comes in on standard input, a text goes out on standard output, and there is a
+ * status to end with. For a program of one source, to be included before all else. */
 #ifndef STREAMS_H
 #define STREAMS_H
 

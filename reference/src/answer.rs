@@ -24,7 +24,7 @@ pub const LENGTH: u64 = 15;
 pub const SHORT_OUTPUT: u64 = 16;
 pub const WIDTH: u64 = 17;
 pub const BOARD_FULL: u64 = 18;
-pub const NOTEBOOK_BOUNDS: u64 = 19;
+pub const BOUNDS: u64 = 19;
 pub const OTHER_ACTS: u64 = 20;
 pub const NO_SHIFT: u64 = 21;
 

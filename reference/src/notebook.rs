@@ -30,7 +30,7 @@ pub fn compare(till: Notebook, kept: Notebook, d: u64, e: u64) -> Comparison {
     let (till_times, till_acts) = counted(till);
     let (times, acts) = counted(kept);
     if d > SHIFT_END || e > SHIFT_END || till_times.iter().chain(times).any(|&time| time > CLOCK_END) {
-        return comparison(NOTEBOOK_BOUNDS, 0);
+        return comparison(BOUNDS, 0);
     }
     if till_acts != acts {
         return comparison(OTHER_ACTS, 0);

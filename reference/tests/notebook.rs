@@ -92,7 +92,7 @@ impl Call {
     /// [13.60] As the clause says it.
     fn defined(&self) -> Comparison {
         if !self.is_within_bounds() {
-            return comparison(NOTEBOOK_BOUNDS, 0);
+            return comparison(BOUNDS, 0);
         }
         if !self.till.has_same_acts(&self.kept) {
             return comparison(OTHER_ACTS, 0);
@@ -203,7 +203,7 @@ fn a_search_finds_the_same() {
         *times.entry(answer.number).or_insert(0) += 1;
     }
     let numbers: Vec<u64> = times.keys().copied().collect();
-    assert_eq!(numbers, [ACCEPTED, NOTEBOOK_BOUNDS, OTHER_ACTS, NO_SHIFT]);
+    assert_eq!(numbers, [ACCEPTED, BOUNDS, OTHER_ACTS, NO_SHIFT]);
     assert!(times.values().all(|&times| times > 1_000), "{times:?}");
 }
 
@@ -248,7 +248,7 @@ fn without_an_entry_the_shift_is_minus_d() {
                 assert!([0, 1, 1_000_000].iter().all(|&e| answer(d, e) == comparison(ACCEPTED, -(d as i64))));
             }
             for (d, e) in [(1_000_001, 0), (0, 1_000_001), (u64::MAX, u64::MAX)] {
-                assert_eq!(answer(d, e), comparison(NOTEBOOK_BOUNDS, 0));
+                assert_eq!(answer(d, e), comparison(BOUNDS, 0));
             }
         }
     }
@@ -266,8 +266,8 @@ fn each_time_that_counts_has_a_bound() {
                 [(&[CLOCK_END; 5][..], &acts[..]), (&[9], &[1]), (&[9], &[2]), (&[], &[])]
             {
                 let (long, other) = ((&times[..], &acts[..]), (other_times, other_acts));
-                assert_eq!(compare(long, other, 3, 0), comparison(NOTEBOOK_BOUNDS, 0));
-                assert_eq!(compare(other, long, 3, 0), comparison(NOTEBOOK_BOUNDS, 0));
+                assert_eq!(compare(long, other, 3, 0), comparison(BOUNDS, 0));
+                assert_eq!(compare(other, long, 3, 0), comparison(BOUNDS, 0));
             }
             let counted = (&times[..], &acts[..place]);
             assert_eq!(compare(counted, (&[CLOCK_END; 5], &acts[..place]), 3, 3), comparison(ACCEPTED, -3));
@@ -356,7 +356,7 @@ fn cases_of_the_specification() {
     assert_eq!(held(till, shaken, 5_000, 45), comparison(ACCEPTED, 1_215));
     assert_eq!(held(till, shaken, 5_000, 44), comparison(NO_SHIFT, 0));
     let other: Notebook = (&[7, 8], &[1, 3]);
-    assert_eq!(compare((&[7, CLOCK_END + 1], &[1, 2]), other, 0, 0), comparison(NOTEBOOK_BOUNDS, 0));
+    assert_eq!(compare((&[7, CLOCK_END + 1], &[1, 2]), other, 0, 0), comparison(BOUNDS, 0));
     assert_eq!(compare((&[7, CLOCK_END + 1], &[1]), other, 0, 0), comparison(OTHER_ACTS, 0));
     assert_eq!(compare((&[7, CLOCK_END], &[1, 2]), other, 0, 0), comparison(OTHER_ACTS, 0));
 }
@@ -464,7 +464,7 @@ fn their_times_do_not_fall_and_are_within_bounds() {
             assert!(acts.iter().all(|act| (TRY..=LAST_ACT).contains(act)));
             assert_eq!(compare((times, acts), (times, acts), 7, 0).number, ACCEPTED);
             assert_eq!(compare((&[CLOCK_END], &[10]), (times, acts), 7, 0).number, OTHER_ACTS);
-            assert_eq!(compare((&[CLOCK_END + 1], &[10]), (times, acts), 7, 0).number, NOTEBOOK_BOUNDS);
+            assert_eq!(compare((&[CLOCK_END + 1], &[10]), (times, acts), 7, 0).number, BOUNDS);
         }
     }
 }

@@ -1,7 +1,7 @@
 //! What a comparison of notebooks is lent, what it has to answer, by the reference, and what it comes upon.
 
 use crate::sights::{Sight, Sights};
-use reference::answer::{ACCEPTED, NOTEBOOK_BOUNDS, NO_SHIFT, OTHER_ACTS};
+use reference::answer::{ACCEPTED, BOUNDS, NO_SHIFT, OTHER_ACTS};
 use reference::machine::{CLOCK_END, LAST_ACT};
 use reference::notebook::{compare, Comparison, SHIFT_END};
 
@@ -67,12 +67,12 @@ impl Notebooks {
         match due.number {
             ACCEPTED if self.kept.count() == 0 => sights.look(Sight::NoEntry, self.d > 0),
             ACCEPTED => self.look_at_shift(due.shift, sights),
-            NOTEBOOK_BOUNDS => self.look_at_bounds(sights),
+            BOUNDS => self.look_at_bounds(sights),
             OTHER_ACTS => self.look_at_acts(sights),
             NO_SHIFT => self.look_at_missed(sights),
             _ => {}
         }
-        if due.number != NOTEBOOK_BOUNDS {
+        if due.number != BOUNDS {
             self.look_behind(sights);
         }
     }

@@ -39,7 +39,7 @@ const OF_DEADLINES: [u64; 12] = [
 const OF_ACCEPTED: [u64; 8] = [ACCEPTED, NO_WINDOW, WINDOW_COUNT, LIMITS, NAMES, LINE, LENGTH, SHORT_OUTPUT];
 
 /// What notebooks that are compared may be answered.
-const OF_NOTEBOOKS: [u64; 4] = [ACCEPTED, NOTEBOOK_BOUNDS, OTHER_ACTS, NO_SHIFT];
+const OF_NOTEBOOKS: [u64; 4] = [ACCEPTED, BOUNDS, OTHER_ACTS, NO_SHIFT];
 
 /// The number that is due from a call, of one of these kinds or of a board and the rest, and whether it and all else came.
 pub struct Outcome {

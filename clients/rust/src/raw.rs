@@ -1,7 +1,7 @@
 //! The functions of the library for C, one by one, on slices of any length. include/funnelfawn.h says what each gives back.
 //!
-//! They are safe: what the header asks of a caller (aligned pointers to as many elements as are told, lists that do not overlap, nobody
-//! else at them during the call) is what a slice is, and the library is proved to keep within it.
+//! They are safe: what the header asks of a caller (aligned pointers to as many elements as are told, lists that do not overlap
+//! unless they are only read, nobody else at them during the call) is what a slice is, and the library is proved to keep within it.
 
 use crate::ffi::*;
 

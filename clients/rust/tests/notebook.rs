@@ -302,8 +302,7 @@ fn places_that_do_not_count() {
 fn answers_and_words() {
     let comparison = |number| Comparison { number, window: 0, shift: -7 }.result();
     assert_eq!(comparison(0), Ok(-7));
-    for (number, refusal) in [(19, Refusal::Bounds), (20, Refusal::OtherActs), (21, Refusal::NoShift)]
-    {
+    for (number, refusal) in [(19, Refusal::Bounds), (20, Refusal::OtherActs), (21, Refusal::NoShift)] {
         assert_eq!(comparison(number), Err(refusal));
         assert_eq!(refusal.number(), number);
     }

@@ -5,10 +5,10 @@ mod passes;
 use crate::passes::LAST;
 use crate::passes::find_differences;
 use crate::passes::in_time;
-use crate::passes::lesser;
 use crate::passes::same_numbers;
 use values::greater;
 use values::least;
+use values::lesser;
 ghost use mathlib.Core.Path.{_≡_};
 ghost use Prim.Native.Nat.{_≤_};
 ghost use lib.IntN.{pos, subℕ};
@@ -39,7 +39,7 @@ fn refused(code: u64) -> Comparison
     }
 }
 
-// A number less the clock's end, with its sign.
+// A number less the clock's end, LAST, with its sign.
 fn shift_of(number: u64) -> i64
     requires { ⌜ number ≤ twice ⌝ }
     ensures { λ r. ⌜ r ≡ subℕ number lastTime ⌝ }

@@ -3,8 +3,8 @@
 use std::num::wrapping_sub_u64;
 use values::greater;
 use values::least;
+use values::lesser;
 ghost use mathlib.Core.Path.{_≡_};
-ghost use Prim.Native.Nat.{min};
 ghost use lib.Dec.{leb, ltb};
 ghost use Rattle.values.specs.Within.{topBit};
 ghost use Rattle.model.specs.States.{lastTime};
@@ -56,12 +56,6 @@ pub(crate) fn in_time(times: &[u64]) -> bool
         i += 1;
     }
     bits < TOP
-}
-
-pub(crate) fn lesser(a: u64, b: u64) -> u64
-    ensures { λ r. ⌜ r ≡ min a b ⌝ }
-{
-    if a < b { a } else { b }
 }
 
 // What the pass over the times of two logs finds, up to the first place at which one is past the clock's end: how many places that are, and the

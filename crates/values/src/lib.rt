@@ -1,5 +1,5 @@
 // Small values that the step machine and the recordings share: an answer, parameters and which of them stand, the lesser of two sizes,
-// the greater of two numbers, the bits of many, a list copied over another.
+// the lesser and the greater of two numbers, the bits of many, a list copied over another.
 pub mod limits;
 
 use model::Answer;
@@ -43,6 +43,12 @@ pub fn no_parameters() -> Parameters
 }
 
 pub fn least(a: usize, b: usize) -> usize
+    ensures { λ r. ⌜ r ≡ min a b ⌝ }
+{
+    if a < b { a } else { b }
+}
+
+pub fn lesser(a: u64, b: u64) -> u64
     ensures { λ r. ⌜ r ≡ min a b ⌝ }
 {
     if a < b { a } else { b }
