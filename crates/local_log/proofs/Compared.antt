@@ -12,7 +12,8 @@ use borrow.Author.Tests.{le-leb, lt-leb}
 use Rattle.model.specs.States.{lastTime}
 use Rattle.model.proofs.Tests.{by-test, clash, if-lt}
 use Rattle.local_log.specs.declared.passes.Differences.{Differences}
-use Rattle.local_log.specs.Comparisons.{Entry, timesIn, mostShift, InTime, Within, actionsIn, SameActions, comparison, Compared, past-bounds, other-actions}
+use Rattle.local_log.specs.Comparisons.{Entry, timesIn, mostShift, InTime, Within, actionsIn, SameActions}
+use Rattle.local_log.specs.Comparisons.{comparison, Compared, past-bounds, other-actions}
 use Rattle.local_log.specs.Formulas.{sameNumbers}
 use Rattle.local_log.specs.Passes.{allInTime, noDifferences, noted, passFrom, passOf, boundedOf}
 use Rattle.local_log.proofs.Worked.{same-iff}

@@ -1,6 +1,6 @@
 -- `local_log::compare` meets its contract: the bounds of d and e, the actions, and then the differences of the times or only their bounds.
 -- Assumes nothing.
-use Prim.Native.Nat.{ℕ, _≤_}
+use Prim.Native.Nat.{ℕ, _≤_, min}
 use mathlib.Core.Path.{_≡_, sym, ap, _∙_, subst}
 use mathlib.Core.List.{List}
 use native.Mathlib.Omega.{arith}
@@ -55,29 +55,32 @@ module _ (c : Looked) where
   tolerance : at .args .e ≤ mostShift
   tolerance = omega (arith, c .before .before .before .before .before .before .before .if2 .left)
 
+  -- how many places each log has
+  local-long : local-count ≡ min (length (at .args .stamps .now)) (length (at .args .claims .now))
+  local-long = c .before .before .before .before .before .before .least .ensures
+
+  other-long : count ≡ min (length (at .args .times .now)) (length (at .args .actions .now))
+  other-long = c .before .before .before .before .before .least2 .ensures
+
   -- the parts of the lists that are lent are the logs
   local-times : take local-count (at .args .stamps .now) ≡ timesIn (local at)
-  local-times =
-      ap (λ (n : ℕ). take n (at .args .stamps .now)) (c .before .before .before .before .before .before .least .ensures) ∙ sym (times-of (at .args .stamps .now) (at .args .claims .now))
+  local-times = ap (λ (n : ℕ). take n (at .args .stamps .now)) local-long ∙ sym (times-of (at .args .stamps .now) (at .args .claims .now))
 
   other-times : take count (at .args .times .now) ≡ timesIn (other at)
-  other-times =
-      ap (λ (n : ℕ). take n (at .args .times .now)) (c .before .before .before .before .before .least2 .ensures) ∙ sym (times-of (at .args .times .now) (at .args .actions .now))
+  other-times = ap (λ (n : ℕ). take n (at .args .times .now)) other-long ∙ sym (times-of (at .args .times .now) (at .args .actions .now))
 
   local-actions : take local-count (at .args .claims .now) ≡ actionsIn (local at)
-  local-actions =
-      ap (λ (n : ℕ). take n (at .args .claims .now)) (c .before .before .before .before .before .before .least .ensures) ∙ sym (actions-of (at .args .stamps .now) (at .args .claims .now))
+  local-actions = ap (λ (n : ℕ). take n (at .args .claims .now)) local-long ∙ sym (actions-of (at .args .stamps .now) (at .args .claims .now))
 
   other-actions : take count (at .args .actions .now) ≡ actionsIn (other at)
-  other-actions =
-      ap (λ (n : ℕ). take n (at .args .actions .now)) (c .before .before .before .before .before .least2 .ensures) ∙ sym (actions-of (at .args .times .now) (at .args .actions .now))
+  other-actions = ap (λ (n : ℕ). take n (at .args .actions .now)) other-long ∙ sym (actions-of (at .args .times .now) (at .args .actions .now))
 
   told : c .same-numbers .result ≡ sameNumbers (actionsIn (local at)) (actionsIn (other at))
   told = c .same-numbers .ensures ∙ ap (λ (l : List ℕ). sameNumbers l (take count (at .args .actions .now))) local-actions
       ∙ ap (sameNumbers (actionsIn (local at))) other-actions
 
-  other-long : count ≡ length (other at)
-  other-long = c .before .before .before .before .before .least2 .ensures ∙ sym (length-entries (at .args .times .now) (at .args .actions .now))
+  other-size : count ≡ length (other at)
+  other-size = other-long ∙ sym (length-entries (at .args .times .now) (at .args .actions .now))
 
 -- Where they are the same
 
@@ -148,7 +151,7 @@ returns-3 c =
     let l = looked f in
     let s = at l in
     answered s (c .refused3 .ensures)
-    (past-place (s .args .d) (s .args .e) (local s) (other s) (range l) (tolerance l) (same f) (omega (arith, c .before .if4 .taken, places f, other-long l)))
+    (past-place (s .args .d) (s .args .e) (local s) (other s) (range l) (tolerance l) (same f) (omega (arith, c .before .if4 .taken, places f, other-size l)))
 
 bounded-requires : tie.Need-bounded-requires
 bounded-requires c κs =
@@ -164,7 +167,7 @@ returns-4 c =
     let s = at l in
     let bounds = ap (λ (p : Differences). boundedOf (p .smallest) (p .largest) (s .args .d) (s .args .e)) (found f) in
     answered s (c .bounded .ensures ∙ bounds)
-    (all-places (s .args .d) (s .args .e) (local s) (other s) (range l) (tolerance l) (same f) (omega (arith, c .before .if4 .left, places f, other-long l)))
+    (all-places (s .args .d) (s .args .e) (local s) (other s) (range l) (tolerance l) (same f) (omega (arith, c .before .if4 .left, places f, other-size l)))
 
 in-time-requires : tie.Need-in-time-requires
 in-time-requires c κs = search needs
@@ -200,7 +203,8 @@ returns-7 c =
     let l = c .before .before .before .before .before .before in
     let s = at l in
     let n = sym (told l) ∙ c .before .before .before .before .before .if3 .left in
-    let t = ap allInTime (sym (local-times l)) ∙ sym (c .before .before .before .before .in-time .ensures) ∙ not-false _ (c .before .before .before .if5 .left) in
+    let first = c .before .before .before in
+    let t = ap allInTime (sym (local-times l)) ∙ sym (first .before .in-time .ensures) ∙ not-false _ (first .if5 .left) in
     let u = ap allInTime (sym (other-times l)) ∙ sym (c .before .before .in-time2 .ensures) ∙ not-false _ (c .before .if6 .left) in
     answered s (c .refused6 .ensures) (not-same (s .args .d) (s .args .e) (local s) (other s) (range l) (tolerance l) n t u)
 

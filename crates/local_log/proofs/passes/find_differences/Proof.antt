@@ -58,26 +58,30 @@ unfolding noted
 loop-again c =
     let v = c .before .before .before .before .before .before .before .loop in
     let a = c .before .before .before .before .before .before .before .before .before .before .before .args in
-    let next = pass-next (a .stamps .now) (a .times .now) (v .i) (omega arith) (differences (v .i) (v .smallest) (v .largest)) (omega arith) (omega arith) in
+    let kept = differences (v .i) (v .smallest) (v .largest) in
+    let next = pass-next (a .stamps .now) (a .times .now) (v .i) (omega arith) kept (omega arith) (omega arith) in
     (omega arith, v .inv .1, rw (c .before .lesser .ensures, c .greater .ensures) (sym next ∙ v .inv .2))
 
 returns : tie.Need-returns Inv-loop μ-loop
 returns c =
     let v = c .before .loop in
     let a = c .before .before .before .before .before .args in
-    sym (pass-ends (a .stamps .now) (a .times .now) (v .i) (omega arith) (differences (v .i) (v .smallest) (v .largest))) ∙ v .inv .2
+    let kept = differences (v .i) (v .smallest) (v .largest) in
+    sym (pass-ends (a .stamps .now) (a .times .now) (v .i) (omega arith) kept) ∙ v .inv .2
 
 returns-2 : tie.Need-returns-2 Inv-loop μ-loop
 returns-2 c =
     let v = c .before .before .before .loop in
     let a = c .before .before .before .before .before .before .before .args in
-    sym (local-stops (a .stamps .now) (a .times .now) (v .i) (omega arith) (differences (v .i) (v .smallest) (v .largest)) (c .if1 .taken)) ∙ v .inv .2
+    let kept = differences (v .i) (v .smallest) (v .largest) in
+    sym (local-stops (a .stamps .now) (a .times .now) (v .i) (omega arith) kept (c .if1 .taken)) ∙ v .inv .2
 
 returns-3 : tie.Need-returns-3 Inv-loop μ-loop
 returns-3 c =
     let v = c .before .before .before .before .before .loop in
     let a = c .before .before .before .before .before .before .before .before .before .args in
-    sym (other-stops (a .stamps .now) (a .times .now) (v .i) (omega arith) (differences (v .i) (v .smallest) (v .largest)) (omega arith) (c .if2 .taken)) ∙ v .inv .2
+    let kept = differences (v .i) (v .smallest) (v .largest) in
+    sym (other-stops (a .stamps .now) (a .times .now) (v .i) (omega arith) kept (omega arith) (c .if2 .taken)) ∙ v .inv .2
 
 pub find-differences-spec : {M : Type 1} → statement M
 find-differences-spec =

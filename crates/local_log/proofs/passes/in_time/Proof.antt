@@ -39,7 +39,8 @@ loop-less c = search needs
 loop-again : tie.Need-loop-again Inv-loop μ-loop
 loop-again c =
     let v = c .before .before .before .loop in
-    (omega arith, in-time-next (v .bits) (c .fault .result) (c .before .before .before .before .before .args .times .now) (v .i) (omega arith) (c .fault .ensures) ∙ v .inv .1)
+    let l = c .before .before .before .before .before .args .times .now in
+    (omega arith, in-time-next (v .bits) (c .fault .result) l (v .i) (omega arith) (c .fault .ensures) ∙ v .inv .1)
 
 returns : tie.Need-returns Inv-loop μ-loop
 returns c =
