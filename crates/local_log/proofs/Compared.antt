@@ -1,7 +1,6 @@
 -- The answers of a comparison, each where it is given: by what the passes over the lists tell of two logs. Assumes nothing.
 use Prim.Native.Nat.{ℕ, _+_, _≤_, _<_}
-use mathlib.Core.Path.{_≡_, refl, sym, ap, _∙_}
-use mathlib.Core.Logic.{_↔_}
+use mathlib.Core.Path.{_≡_, sym, ap, _∙_}
 use mathlib.Core.Bool.{true, false, _&&_}
 use mathlib.Core.List.{List, [], _∷_}
 use native.Mathlib.Omega.{arith}
@@ -14,19 +13,12 @@ use Rattle.model.proofs.Tests.{by-test, clash, if-lt}
 use Rattle.local_log.specs.declared.passes.Differences.{Differences}
 use Rattle.local_log.specs.Comparisons.{Entry, timesIn, mostShift, InTime, Within, actionsIn, SameActions}
 use Rattle.local_log.specs.Comparisons.{comparison, Compared, past-bounds, other-actions}
-use Rattle.local_log.specs.Formulas.{sameNumbers}
-use Rattle.local_log.specs.Passes.{allInTime, noDifferences, noted, passFrom, passOf, boundedOf}
-use Rattle.local_log.proofs.Worked.{same-iff}
+use Rattle.local_log.specs.Formulas.{inTime, sameNumbers}
+use Rattle.local_log.specs.Passes.{noDifferences, noted, passFrom, passOf, boundedOf}
+use Rattle.local_log.proofs.Worked.{in-time-iff, same-iff}
 use Rattle.local_log.proofs.Shifts.{bounded-compared}
 
 -- What a pass tells
-
-in-time-iff : (xs : List Entry) → (allInTime (timesIn xs) ≡ true) ↔ InTime xs
-unfolding allInTime
-in-time-iff [] = (λ e. tt, λ t. refl)
-in-time-iff (x ∷ xs) = if-lt lastTime (x .time)
-    (λ h. rw (lt-leb _ _ h) (λ e. absurd (clash e refl), λ t. absurd (omega (arith, t .0))))
-    (λ h. rw (le-leb _ _ h) (λ e. (h, in-time-iff xs .0 e), λ t. in-time-iff xs .1 (t .1)))
 
 -- the smallest difference is never above the one that it starts from
 pub smallest-small : (p : Differences) (ss ts : List ℕ) → passFrom p ss ts .smallest ≤ p .smallest
@@ -67,17 +59,17 @@ module _ (d e : ℕ) (xs ys : List Entry) where
   pub past-tolerance : mostShift < e → Compared d e xs ys (comparison 19 (pos 0))
   past-tolerance h = past-bounds (λ b. omega (arith, b .tolerance))
 
-  pub past-local : allInTime (timesIn xs) ≡ false → Compared d e xs ys (comparison 19 (pos 0))
+  pub past-local : inTime (timesIn xs) ≡ false → Compared d e xs ys (comparison 19 (pos 0))
   past-local t = past-bounds (λ b. clash (in-time-iff xs .1 (b .local-times)) t)
 
-  pub past-other : allInTime (timesIn ys) ≡ false → Compared d e xs ys (comparison 19 (pos 0))
+  pub past-other : inTime (timesIn ys) ≡ false → Compared d e xs ys (comparison 19 (pos 0))
   past-other t = past-bounds (λ b. clash (in-time-iff ys .1 (b .other-times)) t)
 
   module _ (range : d ≤ mostShift) (tolerance : e ≤ mostShift) where
     within : InTime xs → InTime ys → Within d e xs ys
     within s t = record { range = range; tolerance = tolerance; local-times = s; other-times = t }
 
-    pub not-same : sameNumbers (actionsIn xs) (actionsIn ys) ≡ false → allInTime (timesIn xs) ≡ true → allInTime (timesIn ys) ≡ true
+    pub not-same : sameNumbers (actionsIn xs) (actionsIn ys) ≡ false → inTime (timesIn xs) ≡ true → inTime (timesIn ys) ≡ true
         → Compared d e xs ys (comparison 20 (pos 0))
     not-same n s t = other-actions (within (in-time-iff xs .0 s) (in-time-iff ys .0 t)) (λ a. clash (same-iff _ _ .1 a) n)
 

@@ -15,8 +15,8 @@ use Rattle.values.specs.Within.{topBit}
 use Rattle.values.proofs.Values.{top-of-both}
 use Rattle.values.proofs.Zeros.{or-zero}
 use Rattle.local_log.specs.declared.passes.Differences.{Differences}
-use Rattle.local_log.specs.Formulas.{sameNumbers}
-use Rattle.local_log.specs.Passes.{allInTime, noted, passFrom}
+use Rattle.local_log.specs.Formulas.{inTime, sameNumbers}
+use Rattle.local_log.specs.Passes.{noted, passFrom}
 
 -- Equal lists
 
@@ -59,13 +59,13 @@ fault-tells time over t o e = top-of-both time over ∙ if-lt lastTime time
     (λ h. rw (le-leb time lastTime h, lt-ltb time topBit (omega arith), lt-ltb over topBit (omega arith)) refl)
 
 pub in-time-next : (bits fault : ℕ) (ts : List ℕ) (i : ℕ) → i < length ts → ltb fault topBit ≡ leb (getD ts i 0) lastTime
-    → (ltb (bitOr bits fault) topBit && allInTime (drop (i + 1) ts)) ≡ (ltb bits topBit && allInTime (drop i ts))
-unfolding allInTime
+    → (ltb (bitOr bits fault) topBit && inTime (drop (i + 1) ts)) ≡ (ltb bits topBit && inTime (drop i ts))
+unfolding inTime
 in-time-next bits fault ts i h e =
-    rw (drop-at ts i 0 h, top-of-both bits fault, e) (and-assoc (ltb bits topBit) (leb (getD ts i 0) lastTime) (allInTime (drop (i + 1) ts)))
+    rw (drop-at ts i 0 h, top-of-both bits fault, e) (and-assoc (ltb bits topBit) (leb (getD ts i 0) lastTime) (inTime (drop (i + 1) ts)))
 
-pub in-time-end : (bits : ℕ) (ts : List ℕ) (i : ℕ) → length ts ≡ i → (ltb bits topBit && allInTime (drop i ts)) ≡ ltb bits topBit
-unfolding allInTime
+pub in-time-end : (bits : ℕ) (ts : List ℕ) (i : ℕ) → length ts ≡ i → (ltb bits topBit && inTime (drop i ts)) ≡ ltb bits topBit
+unfolding inTime
 in-time-end bits ts i e = rw (drop-end ts i (omega arith) (omega arith)) (and-true (ltb bits topBit))
 
 -- Differences, where the places before i have been passed

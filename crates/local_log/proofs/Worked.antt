@@ -9,7 +9,7 @@ use lib.IntN.{ℤ, pos, negℤ}
 use lib.Signed.{leZ}
 use lib.ListN.{length, drop}
 use Rattle.model.proofs.Tests.{by-test, clash, tests}
-use Rattle.local_log.specs.Comparisons.{Entry, mostShift, InTime, Within, actionsIn, AllNear, Serves, comparison}
+use Rattle.local_log.specs.Comparisons.{Entry, timesIn, mostShift, InTime, Within, actionsIn, AllNear, Serves, comparison}
 use Rattle.local_log.specs.Comparisons.{Compared, past-bounds, other-actions, no-shift, agree}
 use Rattle.local_log.specs.Formulas.{leastShift, inTime, within, sameNumbers, allNear, serves, comparedOf}
 use Rattle.local_log.specs.Answers.{SomeAnswer, OneAnswer, ComparedExactly}
@@ -18,11 +18,11 @@ use Rattle.local_log.proofs.LeastShifts.{least-serves, least-is}
 
 -- The tests
 
-in-time-iff : (xs : List Entry) → (inTime xs ≡ true) ↔ InTime xs
+pub in-time-iff : (xs : List Entry) → (inTime (timesIn xs) ≡ true) ↔ InTime xs
 unfolding inTime
 in-time-iff [] = (λ e. tt, λ t. refl)
 in-time-iff (x ∷ xs) = (
-  λ e. let h : (x .time ≤ _) × (inTime xs ≡ true) = simp tests at e in (h .0, in-time-iff xs .0 (h .1)),
+  λ e. let h : (x .time ≤ _) × (inTime (timesIn xs) ≡ true) = simp tests at e in (h .0, in-time-iff xs .0 (h .1)),
   λ t. simp tests (t .0, in-time-iff xs .1 (t .1)),
 )
 
@@ -60,7 +60,7 @@ near-iff e s (x ∷ xs) (y ∷ ys) = (
 module _ (d e : ℕ) (xs ys : List Entry) where
   pub within-iff : (within d e xs ys ≡ true) ↔ Within d e xs ys
   within-iff = (
-    λ h. let k : (((d ≤ mostShift) × (e ≤ mostShift)) × (inTime xs ≡ true)) × (inTime ys ≡ true) = simp tests at h in
+    λ h. let k : (((d ≤ mostShift) × (e ≤ mostShift)) × (inTime (timesIn xs) ≡ true)) × (inTime (timesIn ys) ≡ true) = simp tests at h in
         record { range = k .0 .0 .0; tolerance = k .0 .0 .1; local-times = in-time-iff xs .0 (k .0 .1); other-times = in-time-iff ys .0 (k .1) },
     λ w. simp tests (((w .range, w .tolerance), in-time-iff xs .1 (w .local-times)), in-time-iff ys .1 (w .other-times)),
   )

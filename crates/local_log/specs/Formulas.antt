@@ -8,7 +8,7 @@ use lib.IntN.{ℤ, pos, negℤ, natAbs, _+ℤ_, _-ℤ_}
 use lib.Signed.{leZ}
 use Rattle.model.specs.States.{lastTime}
 use Rattle.local_log.specs.declared.Comparison.{Comparison}
-use Rattle.local_log.specs.Comparisons.{Entry, mostShift, actionsIn, comparison}
+use Rattle.local_log.specs.Comparisons.{Entry, mostShift, timesIn, actionsIn, comparison}
 
 -- Which shift
 
@@ -24,14 +24,14 @@ leastShift d e (x ∷ xs) (y ∷ ys) = greaterOf (pos (y .time) -ℤ (pos (x .ti
 
 -- What is tested
 
--- [13.30]
-unfoldable pub inTime : List Entry → Bool
+-- [13.30] no time is past the clock's end
+unfoldable pub inTime : List ℕ → Bool
 inTime [] = true
-inTime (x ∷ xs) = leb (x .time) lastTime && inTime xs
+inTime (t ∷ times) = leb t lastTime && inTime times
 
 -- [13.30]
 abbrev pub within : ℕ → ℕ → List Entry → List Entry → Bool
-within d e local other = leb d mostShift && leb e mostShift && inTime local && inTime other
+within d e local other = leb d mostShift && leb e mostShift && inTime (timesIn local) && inTime (timesIn other)
 
 -- helper: equal lists
 unfoldable pub sameNumbers : List ℕ → List ℕ → Bool

@@ -1,7 +1,7 @@
 -- The comparison as it is worked out by the code: a pass over the times of two logs, the smallest and the largest difference, and the interval of
 -- shifts between them. For the proofs only. Assumes nothing.
 use Prim.Native.Nat.{ℕ, _+_, _-_, min, max}
-use mathlib.Core.Bool.{Bool, true, cond, _&&_}
+use mathlib.Core.Bool.{cond, _&&_}
 use mathlib.Core.List.{List, [], _∷_}
 use lib.Dec.{leb, ltb}
 use lib.IntN.{pos, subℕ}
@@ -9,11 +9,6 @@ use Rattle.model.specs.States.{lastTime}
 use Rattle.local_log.specs.declared.Comparison.{Comparison}
 use Rattle.local_log.specs.declared.passes.Differences.{Differences}
 use Rattle.local_log.specs.Comparisons.{comparison}
-
--- no time is past the clock's end
-unfoldable pub allInTime : List ℕ → Bool
-allInTime [] = true
-allInTime (t ∷ times) = leb t lastTime && allInTime times
 
 -- helper: of its parts
 abbrev pub differences : ℕ → ℕ → ℕ → Differences

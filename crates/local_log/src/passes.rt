@@ -8,8 +8,8 @@ ghost use mathlib.Core.Path.{_≡_};
 ghost use lib.Dec.{leb, ltb};
 ghost use Rattle.values.specs.Within.{topBit};
 ghost use Rattle.model.specs.States.{lastTime};
-ghost use Rattle.local_log.specs.Formulas.{sameNumbers};
-ghost use Rattle.local_log.specs.Passes.{allInTime, passOf};
+ghost use Rattle.local_log.specs.Formulas.{inTime, sameNumbers};
+ghost use Rattle.local_log.specs.Passes.{passOf};
 
 // [2.40] The clock's end.
 pub(crate) const LAST: u64 = 1000000000000;
@@ -46,7 +46,7 @@ fn fault(time: u64) -> u64
 
 // [13.30] Whether no time is past the clock's end; without a break, as above.
 pub(crate) fn in_time(times: &[u64]) -> bool
-    ensures { λ r. ⌜ r ≡ allInTime (now (times .entry)) ⌝ }
+    ensures { λ r. ⌜ r ≡ inTime (now (times .entry)) ⌝ }
 {
     let end = times.len();
     let mut bits: u64 = 0;

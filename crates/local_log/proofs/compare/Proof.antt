@@ -11,8 +11,8 @@ use borrow.Author.Tests.{not-true, not-false}
 use Rattle.local_log.specs.declared.Comparison.{Comparison}
 use Rattle.local_log.specs.declared.passes.Differences.{Differences}
 use Rattle.local_log.specs.Comparisons.{Entry, entriesOf, mostShift, timesIn, actionsIn, SameActions, Compared}
-use Rattle.local_log.specs.Formulas.{sameNumbers, comparedOf}
-use Rattle.local_log.specs.Passes.{allInTime, noDifferences, passOf, boundedOf}
+use Rattle.local_log.specs.Formulas.{inTime, sameNumbers, comparedOf}
+use Rattle.local_log.specs.Passes.{noDifferences, passOf, boundedOf}
 use Rattle.local_log.proofs.Entries.{length-entries, times-of, actions-of}
 use Rattle.local_log.proofs.Worked.{same-iff, compared-exactly}
 use Rattle.local_log.proofs.Compared.{smallest-small, past-range, past-tolerance, past-local, past-other, not-same, past-place, all-places}
@@ -180,7 +180,7 @@ returns-5 c =
     let l = c .before .before .before .before in
     let s = at l in
     let late = sym (c .before .before .in-time .ensures) ∙ not-true _ (c .before .if5 .taken) in
-    answered s (c .refused4 .ensures) (past-local (s .args .d) (s .args .e) (local s) (other s) (ap allInTime (sym (local-times l)) ∙ late))
+    answered s (c .refused4 .ensures) (past-local (s .args .d) (s .args .e) (local s) (other s) (ap inTime (sym (local-times l)) ∙ late))
 
 in-time-requires-2 : tie.Need-in-time-requires-2
 in-time-requires-2 c κs = search needs
@@ -193,7 +193,7 @@ returns-6 c =
     let l = c .before .before .before .before .before .before in
     let s = at l in
     let late = sym (c .before .before .in-time2 .ensures) ∙ not-true _ (c .before .if6 .taken) in
-    answered s (c .refused5 .ensures) (past-other (s .args .d) (s .args .e) (local s) (other s) (ap allInTime (sym (other-times l)) ∙ late))
+    answered s (c .refused5 .ensures) (past-other (s .args .d) (s .args .e) (local s) (other s) (ap inTime (sym (other-times l)) ∙ late))
 
 refused-requires-6 : tie.Need-refused-requires-6
 refused-requires-6 c κs = search needs
@@ -204,8 +204,8 @@ returns-7 c =
     let s = at l in
     let n = sym (told l) ∙ c .before .before .before .before .before .if3 .left in
     let first = c .before .before .before in
-    let t = ap allInTime (sym (local-times l)) ∙ sym (first .before .in-time .ensures) ∙ not-false _ (first .if5 .left) in
-    let u = ap allInTime (sym (other-times l)) ∙ sym (c .before .before .in-time2 .ensures) ∙ not-false _ (c .before .if6 .left) in
+    let t = ap inTime (sym (local-times l)) ∙ sym (first .before .in-time .ensures) ∙ not-false _ (first .if5 .left) in
+    let u = ap inTime (sym (other-times l)) ∙ sym (c .before .before .in-time2 .ensures) ∙ not-false _ (c .before .if6 .left) in
     answered s (c .refused6 .ensures) (not-same (s .args .d) (s .args .e) (local s) (other s) (range l) (tolerance l) n t u)
 
 pub compare-spec : {M : Type 1} → statement M

@@ -7,13 +7,13 @@ use lib.Dec.{ltb}
 use lib.ListN.{length, drop}
 use borrow.Author.Needs.{needs}
 use Rattle.values.specs.Within.{topBit}
-use Rattle.local_log.specs.Passes.{allInTime}
+use Rattle.local_log.specs.Formulas.{inTime}
 use Rattle.local_log.proofs.Turns.{in-time-next, in-time-end}
 use Rattle.local_log.proofs.passes.in_time.Statement.{statement}
 use Rattle.local_log.proofs.passes.in_time.Tie as tie
 
 abbrev Inv-loop : tie.InvT-loop
-Inv-loop times end bits₀ i₀ bits i = (i ≤ length times) × ((ltb bits topBit && allInTime (drop i times)) ≡ allInTime times)
+Inv-loop times end bits₀ i₀ bits i = (i ≤ length times) × ((ltb bits topBit && inTime (drop i times)) ≡ inTime times)
 
 abbrev μ-loop : tie.MeasureT-loop
 μ-loop times end bits₀ i₀ bits i = length times - i
