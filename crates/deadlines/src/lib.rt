@@ -1,5 +1,7 @@
 // The second engine: the lock over entries that hold the first and the last time at which a process may act. `fresh` makes a state of
 // deadlines, and `step` takes one action in it. The rows of the acts and the judgement are those of `rules`; the first engine is not used.
+#![tactic(auto)]
+
 pub mod bounds;
 pub mod locations;
 

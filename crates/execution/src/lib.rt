@@ -1,5 +1,7 @@
 // A trace that is run: it is read, and its steps are taken from a fresh state on, as many at a time as there are rows for their answers.
 // What prints or judges a trace by its answers stands on this, and needs no room for more of them than it looks at.
+#![tactic(auto)]
+
 ghost use Rattle.std.specs.Prelude.{◌≡◌, ◌<◌, length, replicate};
 ghost use Rattle.model.specs.Readings.{lent};
 ghost use Rattle.model.specs.Writings.{events_of};

@@ -1,5 +1,7 @@
 // Tables and summaries as lent numbers: what stands where, the functions that read and write it, and the calls on it. A step and a recorded
 // step are judged where the numbers lie: no state is made of them. No other code knows a place of theirs.
+#![tactic(auto)]
+
 mod counts;
 mod steps;
 mod summaries;

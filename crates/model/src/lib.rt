@@ -1,6 +1,8 @@
 // The declared types of the lock. What they mean, and every definition that a contract cites, stands in `specs/`,
 // one to three files for each of sections 2 to 8 of the specification; this crate has no function.
 
+#![tactic(auto)]
+
 // [2.70] [2.80] [21.20] Where a process is; the timed locations carry the time since which it is there.
 #[derive(Drop)]
 pub enum Location {

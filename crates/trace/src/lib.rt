@@ -1,5 +1,7 @@
 // Reader and writer of recordings: `scan`, `read` and `read_to` take a text apart into lent lists, `write` makes a text of lists. They take
 // anything, and give back what `scanned_of`, `read_of` and `write_of` of the model and `read_to_of` say, refusals included.
+#![tactic(auto)]
+
 mod lines;
 mod steps;
 mod texts;
