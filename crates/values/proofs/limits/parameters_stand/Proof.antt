@@ -7,7 +7,7 @@ use Rattle.model.proofs.Tests.{clash, and_true_iff}
 use Rattle.model.proofs.Lists.{part_is}
 use Rattle.model.proofs.OwnLimits.{limits_parts}
 use Rattle.values.specs.Bits.{are_zero}
-use Rattle.values.proofs.Values.{no_limit, not_stand, not_within, rest-decides}
+use Rattle.values.proofs.Values.{no_limit, not_stand, not_within, rest_decides}
 use Rattle.values.proofs.limits.parameters_stand.Statement.{statement}
 use Rattle.values.proofs.limits.parameters_stand.Tie as tie
 
@@ -17,14 +17,14 @@ count-stands-requires c κs = search rules
 returns : tie.Need-returns-then-not-count_stands
 returns c = simp (sym c.count_stands.ensures ∙ c.if-not-count_stands.true)
 
-count-is : (c : tie.Else-not-count_stands) → count_stands c.args.n ≡ true
-count-is c = sym c.count_stands.ensures ∙ c.if-not-count_stands.false
+count_is : (c : tie.Else-not-count_stands) → count_stands c.args.n ≡ true
+count_is c = sym c.count_stands.ensures ∙ c.if-not-count_stands.false
 
 count-from : (c : tie.Else-not-count_stands) → 1 ≤ c.args.n
-count-from c = let n = c.args.n in leb-true 1 n ((and_true_iff (leb 1 n) (leb n 96)).0 (count-is c)).0
+count-from c = let n = c.args.n in leb-true 1 n ((and_true_iff (leb 1 n) (leb n 96)).0 (count_is c)).0
 
 count-to : (c : tie.Else-not-count_stands) → c.args.n ≤ 96
-count-to c = let n = c.args.n in leb-true n 96 ((and_true_iff (leb 1 n) (leb n 96)).0 (count-is c)).1
+count-to c = let n = c.args.n in leb-true n 96 ((and_true_iff (leb 1 n) (leb n 96)).0 (count_is c)).1
 
 returns-2 : tie.Need-returns-then-a-ne96
 returns-2 c =
@@ -78,7 +78,7 @@ returns-7 c =
     let args = c.args in
     c.are_zero.ensures
     ∙ ap are_zero (part_is args.a.now args.n)
-    ∙ rest-decides args.n args.b args.c args.a.now (count-is c.before.before.before.before.before.before.before.before) (omega arith) (omega arith) (omega arith)
+    ∙ rest_decides args.n args.b args.c args.a.now (count_is c.before.before.before.before.before.before.before.before) (omega arith) (omega arith) (omega arith)
     (sym c.all_faults.ensures ∙ lt-ltb _ _ c.if-all_faults-ge9223372036854775808.false)
 
 pub parameters_stand_spec : {M : Type 1} → statement M
