@@ -36,7 +36,7 @@ pub fn answer_rows() -> [[u64; 3]; 64]
 }
 
 // [7.46] What was found of a text, and the state that its first step is taken in.
-#[derive(Drop)]
+#[derive(Clone, Copy)]
 pub struct Started {
     pub found: Scan,
     pub state: State,

@@ -203,7 +203,7 @@ pub extern "C" fn funnelfawn_show_board(board: &mut [u64], clock: u64) -> Answer
 
 // [10.200] The answer of a recorded step, and what the board answered.
 #[repr(C)]
-#[derive(Drop)]
+#[derive(Clone, Copy)]
 pub struct Told {
     pub answer: Answer,
     pub told: Answer,

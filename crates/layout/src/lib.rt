@@ -96,7 +96,7 @@ pub fn record(
 }
 
 // [5.90] [10.200] What a recorded step answers, and beside an accepted action the wait that it ends, if it is a crit.
-#[derive(Drop)]
+#[derive(Clone, Copy)]
 pub struct Entered {
     pub answer: Answer,
     pub wait: u64,

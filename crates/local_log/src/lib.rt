@@ -19,7 +19,7 @@ const MOST: u64 = 1000000;
 
 // [13.60] What a comparison answers: the third number has a sign. Its fields lie as in C, for `funnelfawn`.
 #[repr(C)]
-#[derive(Drop)]
+#[derive(Clone, Copy)]
 pub struct Comparison {
     pub code: u64,
     pub process: u64,

@@ -91,7 +91,7 @@ pub fn read(text: &[u8], times: &mut [u64], processes: &mut [u64], actions: &mut
 
 // [9.90] What a reading for the library answers; n, b and c are 0 where it is refused. Its fields lie as in C, for `funnelfawn`.
 #[repr(C)]
-#[derive(Drop)]
+#[derive(Clone, Copy)]
 pub struct ReadingTo {
     pub answer: Answer,
     pub n: u64,

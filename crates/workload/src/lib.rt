@@ -53,7 +53,7 @@ const UNEQUAL: u64 = 15;
 // The case whose n is 97.
 const UNSOUND_COUNT: u64 = 94;
 
-#[derive(Drop)]
+#[derive(Clone, Copy)]
 pub struct Act {
     pub action: u64,
     pub process: u64,
