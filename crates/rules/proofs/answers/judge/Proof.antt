@@ -7,6 +7,7 @@ use Rattle.rules.specs.Survey.{due_so_far}
 use Rattle.rules.specs.Judging.{turn_judged, overdue, judged}
 use Rattle.rules.proofs.answers.judge.Statement.{statement}
 use Rattle.rules.proofs.answers.judge.Tie as tie
+use Rattle.rules.proofs.answers.judge.Lts.{then-found-ne0-2+else-time_left-time, else-found-ne0-2}
 
 answer-with-requires : tie.Need-answer_with-requires
 answer-with-requires c κs = search rules
@@ -103,8 +104,10 @@ in-time : (c : tie.Joined-found-ne0-2)
     → (let a = c.args in
     overdue a.found a.scene.clock a.time ≡ false)
 in-time c =
-    ⊎_elim (λ w. simp (ne_eqb _ _ w.0.taken, rw w.1.ensures.0 at (le-ltb _ _ w.3.left)))
-    (λ w. simp (eq-eqb _ _ w.left)) c.if-found-ne0-2.branch
+    elim c.if-found-ne0-2.branch [
+      then-found-ne0-2+else-time_left-time w ↦ simp (ne_eqb _ _ w.if-found-ne0-2.true, rw w.time_left.ensures.0 at (le-ltb _ _ w.if-time_left-time.false))
+    | else-found-ne0-2 w ↦ simp (eq-eqb _ _ w.if-found-ne0-2.false)
+    ]
 
 -- nobody is late
 past6 : (c : tie.Joined-found-ne0-2)

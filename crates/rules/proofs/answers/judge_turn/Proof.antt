@@ -5,6 +5,7 @@ use Rattle.model.specs.Acts.{check_act}
 use Rattle.rules.specs.Judging.{turn_judged}
 use Rattle.rules.proofs.answers.judge_turn.Statement.{statement}
 use Rattle.rules.proofs.answers.judge_turn.Tie as tie
+use Rattle.rules.proofs.answers.judge_turn.Lts.{then-action-eq-CHECK+else-time-release, else-action-eq-CHECK}
 
 answer-with-requires : tie.Need-answer_with-requires
 answer-with-requires c κs = search rules
@@ -36,8 +37,10 @@ answer-with-requires-3 c κs = search rules
 not-early : (c : tie.Joined-action-eq-CHECK)
     → (let a = c.args in eqb a.action check_act && ltb a.time a.release ≡ false)
 not-early c =
-    ⊎_elim (λ w. simp (eq-eqb _ _ w.0.taken, le-ltb _ _ w.1.left))
-    (λ w. simp (ne_eqb _ _ w.left)) c.if-action-eq-CHECK.branch
+    elim c.if-action-eq-CHECK.branch [
+      then-action-eq-CHECK+else-time-release w ↦ simp (eq-eqb _ _ w.if-action-eq-CHECK.true, le-ltb _ _ w.if-time-release.false)
+    | else-action-eq-CHECK w ↦ simp (ne_eqb _ _ w.if-action-eq-CHECK.false)
+    ]
 
 returns-3 : tie.Need-returns
 unfolding turn_judged

@@ -85,14 +85,11 @@ returns-5 : tie.Need-returns-in-Checking
 returns-5 c = c.note_timed.ensures ∙ sym (placed c.before.before ∙ rw c.in-Checking.is)
 
 -- the five locations in which a process may stay for `limit`
-within-limit : (c : tie.In-Testing-3)
+within-limit : (c : tie.In-Testing)
     → (let a = c.args in
     by_location c.before a.location ≡ timed_noted a.scene.clock a.process c.in-Testing.since a.limit a.found)
 within-limit c =
-    ⊎_elim (λ w. rw (w.1.given.1, w.3))
-    (⊎_elim (λ w. rw (w.1.given.1, w.3))
-    (⊎_elim (λ w. rw (w.1.given.1, w.3))
-    (⊎_elim (λ w. rw (w.1.given.1, w.3)) (λ w. rw (w.1.given.1, w.3))))) c.in-Testing.match-location-branch
+    ⊎_elim (λ e. rw e) (⊎_elim (λ e. rw e) (⊎_elim (λ e. rw e) (⊎_elim (λ e. rw e) (λ e. rw e)))) c.in-Testing.is
 
 returns-6 : tie.Need-returns-in-Testing
 returns-6 c = c.note_timed-in-Testing.ensures ∙ sym (placed c.before.before ∙ within-limit c.before)

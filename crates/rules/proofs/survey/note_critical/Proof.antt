@@ -1,11 +1,12 @@
 -- `rules::survey::note_critical` meets its contract: where there was a lowest, what was found stays, be that the acting one or not. Assumes
 -- nothing.
-use Rattle.std.proofs.Common.{◌≡◌, ℕ, cond, eqb, ◌≢◌, sym, ◌∙◌, ⊎_elim, eq-eqb, ne_eqb}
+use Rattle.std.proofs.Common.{◌≡◌, ℕ, cond, eqb, ◌≢◌, sym, ◌∙◌, eq-eqb, ne_eqb}
 use Rattle.model.proofs.Tests.{by_test}
 use Rattle.rules.specs.declared.survey.Survey.{Survey}
 use Rattle.rules.specs.Survey.{critical_at, critical_noted}
 use Rattle.rules.proofs.survey.note_critical.Statement.{statement}
 use Rattle.rules.proofs.survey.note_critical.Tie as tie
+use Rattle.rules.proofs.survey.note_critical.Lts.{then-lowest-eq0, else-lowest-eq0}
 
 -- the lowest so far is held against the acting process
 module _ (acting k lowest : ℕ) (f : Survey) (is : lowest ≡ cond (eqb f.critical 0) k f.critical) where
@@ -22,7 +23,11 @@ module _ (acting k lowest : ℕ) (f : Survey) (is : lowest ≡ cond (eqb f.criti
 
 lowest_is : (c : tie.Joined-lowest-eq0)
     → (let a = c.args in c.if-lowest-eq0.lowest ≡ cond (eqb a.found.critical 0) a.process a.found.critical)
-lowest_is c = ⊎_elim (λ w. w.1 ∙ sym (simp (eq-eqb _ _ w.0.taken))) (λ w. w.1 ∙ sym (simp (ne_eqb _ _ w.0.left))) c.if-lowest-eq0.branch
+lowest_is c =
+    elim c.if-lowest-eq0.branch [
+      then-lowest-eq0 w ↦ w.lowest-is ∙ sym (simp (eq-eqb _ _ w.if-lowest-eq0.true))
+    | else-lowest-eq0 w ↦ w.lowest-is ∙ sym (simp (ne_eqb _ _ w.if-lowest-eq0.false))
+    ]
 
 returns : tie.Need-returns-then-lowest-acting
 returns c = stays _ _ _ _ (lowest_is c.before) c.if-lowest-acting.true
