@@ -185,13 +185,14 @@ def delivers(item):
     return item.kind in ("definition", "part", "row", "struct", "enum") and ("/proofs/" not in item.path or item.public)
 
 
-@functools.cache
-def cited_in(comment):
-    return frozenset(CITATION.findall(comment))
-
-
-def cites(item, clause):
-    return clause.number in cited_in(item.comment)
+def delivering(items):
+    """What delivers each clause, by the clause's number."""
+    found = collections.defaultdict(list)
+    for item in items:
+        if delivers(item):
+            for number in dict.fromkeys(CITATION.findall(item.comment)):
+                found[number].append(item)
+    return found
 
 
 def is_for_proofs_only(files, path):
@@ -227,8 +228,9 @@ def check_numbers(repository):
 
 
 def check_cited(repository):
+    found = delivering(repository.items)
     for clause in repository.clauses:
-        if not clause.note and not any(cites(item, clause) for item in repository.items if delivers(item)):
+        if not clause.note and clause.number not in found:
             yield f"{SPECIFICATION}: [{clause.number}] stands above no definition, statement or contract"
 
 
@@ -314,23 +316,22 @@ def names_in(items):
 
 
 def rows_of(clause, items):
-    """A row for each file that delivers the clause."""
-    delivering = [item for item in items if delivers(item) and cites(item, clause)]
-    paths = dict.fromkeys(item.path for item in delivering)
-    rows = [f"{names_in(item for item in delivering if item.path == path)} | `{path}` |" for path in paths] or [" | |"]
+    """A row for each file that delivers the clause: `items` are those that do."""
+    paths = dict.fromkeys(item.path for item in items)
+    rows = [f"{names_in(item for item in items if item.path == path)} | `{path}` |" for path in paths] or [" | |"]
     note = " *(note)*" if clause.note else ""
     first = f"[{clause.number}] {clause.title}{note} | `{fingerprint(clause.lines)}`"
     return [f"| {first} | {rows[0]}"] + [f"| | | {row}" for row in rows[1:]]
 
 
 def table_of(repository):
-    lines = []
+    lines, found = [], delivering(repository.items)
     for section in repository.sections:
         lines += [f"## {section.title}, `{fingerprint(section.lines)}`", ""]
         clauses = [clause for clause in repository.clauses if clause.section == section.title]
         if not all(clause.note for clause in clauses):
             lines += ["| clause | text | definition, statement or contract | file |", "|---|---|---|---|"]
-            lines += [row for clause in clauses for row in rows_of(clause, repository.items)] + [""]
+            lines += [row for clause in clauses for row in rows_of(clause, found[clause.number])] + [""]
     return "\n".join(lines)
 
 
