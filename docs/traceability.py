@@ -106,7 +106,7 @@ def fingerprint(lines):
 # a definition at the start of a line, or an indented one, which a word before `pub` or `record` or `data` tells from a field
 ANTT = re.compile(r"(?:\s*(?:[a-z]+ )+pub|pub|\s*pub(?= record | data )) (?:record |data )?(?!mod )([^\s:({]+)")
 ANTT_PART = re.compile(r"  (?:pub )?([^\s:(){}]+) :")
-RT = re.compile(r'(pub(?:\(crate\))? )?(?:extern "C" )?(fn|struct|enum|const|type) (\w+)')
+RT = re.compile(r'(pub(?:\(crate\))? )?(?:unsafe )?(?:extern "C" )?(fn|struct|enum|const|type) (\w+)')
 RT_PART = re.compile(r"    (?:pub )?(\w+)[:(,]")
 
 
