@@ -16,15 +16,14 @@ printed=$(stored whole-case) printed_long=$(stored length-65536) printed_too_lon
 export directory program recording long
 
 runs=0 differ=0
-# due STATUS OUTPUT MESSAGE COMMAND: the shell command ends soon, with this status, or one of these, as `0|1`; it prints what the file OUTPUT has,
-# and on standard error something exactly if MESSAGE is `told` and not `quiet`
+# due STATUS OUTPUT MESSAGE COMMAND: the shell command ends soon, with this status; it prints what the file OUTPUT has, and on standard
+# error something exactly if MESSAGE is `told` and not `quiet`
 due() {
     runs=$((runs + 1))
     timeout 20 sh -c "$4" >"$directory/said" 2>"$directory/told"
     status=$? message=quiet
     [ ! -s "$directory/told" ] || message=told
-    case "|$1|" in *"|$status|"*) is_due=1 ;; *) is_due= ;; esac
-    if [ -n "$is_due" ] && [ "$message" = "$3" ] && cmp -s "$2" "$directory/said"; then return; fi
+    if [ "$status $message" = "$1 $3" ] && cmp -s "$2" "$directory/said"; then return; fi
     differ=$((differ + 1))
     echo "$program: $4"
     echo "  $1 and $3 are due, and the output of $2: exit status $status, $message: $(cmp "$2" "$directory/said" 2>&1)"
@@ -79,8 +78,8 @@ due 2 "$printed_long" told 'FAULT=close $program <$long'
 beside=
 if [ -n "$proved" ]; then
     beside=" and the proved one" program=$proved
-    # it ends with 0, but with 1 where its `main` gives back that a read or a write has failed
-    both 0 '0|1' 1024
+    # it always ends with 0
+    both 0 0 1024
 fi
 echo "the program $name in C$beside: $runs runs, $differ differ"
 [ "$differ" -eq 0 ]
