@@ -103,10 +103,12 @@ module _ {k : Parameters} {s : State} (r : Reached k s) (p : ℕ) (some : 1 ≤ 
           rw (eq-eqb code 0 a, ne_eqb e.process p n)
           (order_from s.clock next.clock (accepted_log p es) (omega (arith, step.changed.clock_is, step.allowed.forward)) o))
 
-run_in_order : {k : Parameters} (p : ℕ) → 1 ≤ p → {s : State} → Reached k s → (events : List Event) → InOrder s.clock (accepted_log p (attempts_from s events))
+run_in_order : {k : Parameters} {s : State} → Reached k s → (p : ℕ) → 1 ≤ p → (events : List Event) → InOrder s.clock (accepted_log p (attempts_from s events))
 unfolding results_by attempts_of accepted_log
-run_in_order p some r [] = tt
-run_in_order p some {s = s} r (e ∷ es) = in_order_next r p some e (attempts_from (next r p some e) es) (run_in_order p some (next_reached r p some e) es)
+run_in_order {k = k} {s = s} r p some [] = tt
+run_in_order {k = k} {s = s} r p some (e ∷ es) =
+    in_order_next r p some e (attempts_from (next r p some e) es)
+    (run_in_order {k = k} {s = next r p some e} (next_reached r p some e) p some es)
 
 -- Every trace
 
