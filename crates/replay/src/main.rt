@@ -8,18 +8,15 @@
 mod reports;
 
 use crate::reports::print_report;
-use libc::{STDERR_FILENO, STDIN_FILENO};
 use streams::{kept, read_text};
 
-fn main() {
+fn main(rt: HostRuntime) {
     let mut text = kept();
-    let input = read_text(STDIN_FILENO, &mut text);
-    let size = input.size;
-    if input.failed {
-        io::write_all(STDERR_FILENO, b"replay: the recording could not be read\n");
+    let Ok(size) = read_text(&mut rt.stdin(), &mut text) else {
+        let _ = eprintln!(rt; "replay: the recording could not be read");
         return;
-    }
-    if !print_report(&text[..size]) {
-        io::write_all(STDERR_FILENO, b"replay: the report could not be written\n");
+    };
+    if !print_report(&rt, &text[..size]) {
+        let _ = eprintln!(rt; "replay: the report could not be written");
     }
 }

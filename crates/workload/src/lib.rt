@@ -7,12 +7,13 @@ ghost use Rattle.workload.specs.Work.{digit_of, size_in, limit_for, limits_for, 
 ghost use Rattle.workload.specs.Work.{only_in, mixed_in, placed_in, selling_in, moving_in};
 ghost use Rattle.workload.specs.Work.{location_in, start_in, turn_in, lap_in, act_with, round_act, moving_act, act_in};
 
-use libc::STDOUT_FILENO;
 use machine::entry_at;
 use model::{Location, Parameters, Process, State};
 use rules::actions::{REM, TEST, TRY, WAIT};
 use rules::stages::location_at;
+use std::io;
 use std::num::wrapping_add_u64;
+use std::rt::Env;
 
 // The cases. NONE makes no step: what it costs is taken off the others. Each other one is 10 times its kind and a digit for its
 // processes: 1, 2 and 3 for 2, 24 and 96.
@@ -73,11 +74,12 @@ fn digit(byte: u8) -> u64
 }
 
 // The case that the program's argument names by two or three digits, or by a 0. Which one it is comes from the operating system.
-pub fn chosen() -> u64
+pub fn chosen(rt: &impl Env) -> u64
     ensures { result ≤ 999 }
 {
     let mut word = [b' '; 8];
-    os::arg(1, &mut word);
+    // of an argument that is longer the first bytes are kept, and of none nothing
+    let _ = rt.arg(1, &mut word);
     let first = digit(word[0]);
     let second = digit(word[1]);
     if word[2] < b'0' {
@@ -343,18 +345,14 @@ pub fn act_of(case: u64, i: u64) -> Act
     act_with(WAIT, 0, 1000)
 }
 
-fn report(sum: u64, clock: u64) {
-    io::print_decimal(STDOUT_FILENO, sum);
-    io::write_all(STDOUT_FILENO, b" ");
-    io::print_decimal(STDOUT_FILENO, clock);
-    io::write_all(STDOUT_FILENO, b"\n");
+fn report(rt: &impl Print, sum: u64, clock: u64) -> io::Result<()> {
+    println!(rt; "{sum} {clock}")
 }
 
 // Runs the acts of a case, and prints the sum of all answers and the last clock.
-pub fn run(case: u64, start: State) {
+pub fn run(rt: &impl Print, case: u64, start: State) -> io::Result<()> {
     if case == NONE {
-        report(0, start.clock);
-        return;
+        return report(rt, 0, start.clock);
     }
     let mut state = start;
     let mut sum: u64 = 0;
@@ -368,5 +366,5 @@ pub fn run(case: u64, start: State) {
         let next = outcome.state;
         state = next;
     }
-    report(sum, state.clock);
+    report(rt, sum, state.clock)
 }
