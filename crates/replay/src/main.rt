@@ -1,8 +1,8 @@
 // Reads a recording on standard input and prints its report on standard output. It reads to the end of the input or, where that is
 // too long to be a recording, as far as shows it: one byte more than a recording may have.
 //
-// What cannot be read or written is told on standard error. A program of this language has no exit status to choose, so
-// a failed run is known by that message; a failed reading prints no report at all, not even the names line.
+// What cannot be read or written is told on standard error. The program ends with 0 all the same, so a failed run is known by that
+// message; a failed reading prints no report at all, not even the names line.
 #![tactic(auto)]
 
 mod reports;
