@@ -101,6 +101,7 @@ fn size_of(case: u64) -> u64
 }
 
 // The a of a process, by the place of its entry: 0 past the processes. In the wide limits nobody is late in 999,000 acts.
+#[tactic(auto, unfolding(crate::specs::Work::limit_for))]
 fn limit_of(case: u64, place: u64) -> u64
     requires { place < 96 }
     ensures { result ≡ limit_for case place }
@@ -118,6 +119,7 @@ fn limit_of(case: u64, place: u64) -> u64
     1000000
 }
 
+#[tactic(auto, using(crate::proofs::Steps::limits_step), unfolding(crate::specs::Work::limits_for))]
 fn limits_of(case: u64) -> [u64; 96]
     ensures { result ≡ limits_for case 96 }
 {
@@ -130,6 +132,7 @@ fn limits_of(case: u64) -> [u64; 96]
     a
 }
 
+#[tactic(auto, unfolding(crate::specs::Work::parameters_in))]
 fn parameters_of(case: u64) -> Parameters
     ensures { result ≡ parameters_in case }
 {
@@ -191,6 +194,7 @@ fn mixed(place: u64) -> Location
 }
 
 // Where one of so many processes is, by the place of its entry.
+#[tactic(auto, unfolding(crate::specs::Work::placed_in))]
 fn placed(kind: u64, size: u64, place: u64) -> Location
     requires { place < size }
     ensures { result ≡ placed_in kind size place }
@@ -222,6 +226,7 @@ fn selling(place: u64) -> Location
 }
 
 // The same in the kinds that move the clock.
+#[tactic(auto, unfolding(crate::specs::Work::moving_in))]
 fn placed_moving(kind: u64, place: u64) -> Location
     ensures { result ≡ moving_in kind place }
 {
@@ -232,6 +237,7 @@ fn placed_moving(kind: u64, place: u64) -> Location
     }
 }
 
+#[tactic(auto, unfolding(crate::specs::Work::location_in))]
 fn location_of(case: u64, place: u64) -> Location
     ensures { result ≡ location_in case place }
 {
@@ -247,6 +253,7 @@ fn location_of(case: u64, place: u64) -> Location
 }
 
 // The state that a case starts from.
+#[tactic(auto, using(crate::proofs::Steps::entries_step), unfolding(crate::specs::Work::start_in))]
 pub fn state_of(case: u64) -> State
     ensures { result ≡ start_in case }
 {
@@ -313,6 +320,7 @@ fn act_with(action: u64, process: u64, time: u64) -> Act
 }
 
 // An act that moves the clock.
+#[tactic(auto, unfolding(crate::specs::Work::moving_act))]
 fn moving_act(kind: u64, time: u64) -> Act
     ensures { result ≡ moving_act kind time }
 {
@@ -323,6 +331,7 @@ fn moving_act(kind: u64, time: u64) -> Act
     }
 }
 
+#[tactic(auto, unfolding(crate::specs::Work::act_in))]
 pub fn act_of(case: u64, i: u64) -> Act
     ensures { result ≡ act_in case i }
 {
