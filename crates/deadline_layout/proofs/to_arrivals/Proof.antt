@@ -2,7 +2,6 @@
 use mathlib.Core.Path.{◌≡◌, sym, ◌∙◌}
 use mathlib.Core.Bool.{true}
 use lib.Seq.{length-take-le}
-use borrow.Author.Tests.{not-true, not-false}
 use Rattle.layout.specs.Encodings.{table_length}
 use Rattle.deadline_layout.specs.Encodings.{is_sound_deadline_table}
 use Rattle.deadline_layout.proofs.Converting.{arrived_unsound, arrived_short, arrived_made, deadlines_told, deadlines_part}

@@ -2,7 +2,6 @@
 use mathlib.Core.Path.{◌≡◌, sym, ◌∙◌}
 use mathlib.Core.Bool.{true}
 use lib.Seq.{length-take-le}
-use borrow.Author.Tests.{not-true, not-false}
 use Rattle.layout.specs.Encodings.{is_sound_table}
 use Rattle.deadline_layout.specs.Encodings.{deadline_length}
 use Rattle.deadline_layout.proofs.Converting.{dated_unsound, dated_short, dated_made, table_sound, table_part}

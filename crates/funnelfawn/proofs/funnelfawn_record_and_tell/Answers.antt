@@ -1,6 +1,5 @@
 -- `funnelfawn::funnelfawn_record_and_tell` meets its contract: the recorded step stands, and the board is told where a crit was accepted.
 -- Assumes nothing.
-use borrow.Author.Rules.{rules}
 use Rattle.funnelfawn.proofs.Telling.{tell_refused, tell_other, tell_entered}
 use Rattle.funnelfawn.proofs.funnelfawn_record_and_tell.Goals as goal
 

@@ -1,5 +1,4 @@
 -- `layout::record` meets its contract: the recorded step, without the wait. Assumes nothing.
-use Rattle.std.proofs.Common.{rules}
 use Rattle.layout.proofs.Recording.{entry_record}
 use Rattle.layout.proofs.record.Goals as goal
 

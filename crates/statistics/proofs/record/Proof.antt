@@ -1,6 +1,6 @@
 -- `statistics::record` meets its contract: past the refusals 2 and 3 there is room to count, and each exit after the step is what the
 -- recorded step comes to by its answer. Assumes nothing.
-use Rattle.std.proofs.Common.{◌≡◌, ◌-◌, ◌<◌, ◌≤◌, length, sym, ap, ◌∙◌, ⊎_elim, rules}
+use Rattle.std.proofs.Common.{◌≡◌, ◌-◌, ◌<◌, ◌≤◌, length, sym, ap, ◌∙◌, rules}
 use Rattle.model.specs.declared.Counts.{Counts}
 use Rattle.model.specs.declared.Statistics.{Statistics}
 use Rattle.model.specs.Answers.{step_of}
@@ -129,20 +129,20 @@ grown c =
     let free = has_room c.before.before.before.before.before.before.before.before in
     let ok = accepted c.before.before.before.before in
     elim c.if-may_wait.branch [
-      then-may_wait w ↦ record {
-      unused = w.wait_after-unused.result;
-      unused_is = unused_told a.state size a.statistics free a.action a.process a.time ok (rw e at w.wait_after-unused.ensures.0);
-      wait_is = w.wait-is ∙ w.wrapping_add_u64-wait.ensures;
-      waits = ap (λ (y : Statistics). y.waited) w.statistics-is ∙ rw e at w.wait_after-unused.ensures.1;
-    }
-    | else-may_wait w ↦ record {
-      unused = 0;
-      unused_is = sym (may_wait_not a.state size a.action a.process a.time ok
-          (sym (rw e at c.may_wait.ensures) ∙ w.if-may_wait.false));
-      wait_is = w.wait-is ∙ rest_wait a.state size a.statistics free a.action a.process a.time ok (place c.before.before.before);
-      waits = ap (λ (y : Statistics). y.waited) w.statistics-is
-          ∙ rest_waits a.state size a.statistics free a.action a.process a.time ok;
-    }
+      | then-may_wait w ↦ record {
+        unused = w.wait_after-unused.result;
+        unused_is = unused_told a.state size a.statistics free a.action a.process a.time ok (rw e at w.wait_after-unused.ensures.0);
+        wait_is = w.wait-is ∙ w.wrapping_add_u64-wait.ensures;
+        waits = ap (λ (y : Statistics). y.waited) w.statistics-is ∙ rw e at w.wait_after-unused.ensures.1;
+      }
+      | else-may_wait w ↦ record {
+        unused = 0;
+        unused_is = sym (may_wait_not a.state size a.action a.process a.time ok
+            (sym (rw e at c.may_wait.ensures) ∙ w.if-may_wait.false));
+        wait_is = w.wait-is ∙ rest_wait a.state size a.statistics free a.action a.process a.time ok (place c.before.before.before);
+        waits = ap (λ (y : Statistics). y.waited) w.statistics-is
+            ∙ rest_waits a.state size a.statistics free a.action a.process a.time ok;
+      }
     ]
 
 -- the counts that are stored

@@ -1,6 +1,6 @@
 -- `statistics::refuse` meets its contract: a wait at the state's own clock is answered 1 just where the state is not sound.
 -- Assumes nothing.
-use Rattle.std.proofs.Common.{◌∙◌, rules}
+use Rattle.std.proofs.Common.{◌∙◌}
 use Rattle.model.specs.Acts.{wait_act}
 use Rattle.theory.proofs.Steps.{unsound_iff_one, unsound_is}
 use Rattle.statistics.proofs.Laws.{not_one_sound}

@@ -1,6 +1,5 @@
 -- `deadline_layout::arrivals::put_entry` meets its contract: the two numbers of the entry. Assumes nothing.
 use native.Mathlib.Omega.{arith}
-use borrow.Author.Rules.{rules}
 use lib.ListN.{length-set}
 use Rattle.deadline_layout.proofs.arrivals.put_entry.Goals as goal
 

@@ -1,7 +1,6 @@
 -- `deadline_layout::conversions::arrived_in` meets its contract: b is taken from the first time in checking, and nothing elsewhere. Assumes nothing.
 use mathlib.Core.Path.{refl}
 use Rattle.deadline_layout.proofs.Converting.{arrives_checking, arrives_plain}
-use borrow.Author.Rules.{rules}
 use Rattle.deadline_layout.proofs.conversions.arrived_in.Goals as goal
 
 pub returns-then-stage-eq-CHECKING : goal.returns-then-stage-eq-CHECKING

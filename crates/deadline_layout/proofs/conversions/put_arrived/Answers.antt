@@ -1,9 +1,5 @@
 -- What the check of `conversions::put_arrived` does not find alone. Assumes nothing.
-use Prim.Native.Nat.{◌-◌}
-use borrow.Author.Rules.{rules}
-use Rattle.layout.proofs.Saving.{EntriesWritten, all_written}
-use Rattle.deadlines.specs.Matching.{arrived}
-use Rattle.deadline_layout.specs.Encodings.{state_with_in}
+use Rattle.layout.proofs.Saving.{all_written}
 use Rattle.deadline_layout.proofs.Converting.{arrived_start, arrived_written}
 use Rattle.deadline_layout.proofs.conversions.put_arrived.Goals as goal
 

@@ -1,10 +1,8 @@
 -- `deadline_layout::conversions::put_arrived` meets its contract: what stands before the entries, and then the entries one by one. Assumes nothing.
 use Prim.Native.Nat.{◌-◌}
-use borrow.Author.Rules.{rules}
-use Rattle.layout.proofs.Saving.{EntriesWritten, all_written}
+use Rattle.layout.proofs.Saving.{EntriesWritten}
 use Rattle.deadlines.specs.Matching.{arrived}
 use Rattle.deadline_layout.specs.Encodings.{state_with_in}
-use Rattle.deadline_layout.proofs.Converting.{arrived_start, arrived_written}
 use Rattle.deadline_layout.proofs.conversions.put_arrived.Given as goal
 
 abbrev pub invariant-loop-i : goal.invariant-loop-i

@@ -1,10 +1,6 @@
 -- What the check of `conversions::put_dated` does not find alone. Assumes nothing.
-use Prim.Native.Nat.{◌-◌}
-use borrow.Author.Rules.{rules}
-use Rattle.layout.specs.Encodings.{state_in}
-use Rattle.deadlines.specs.Matching.{matched}
 use Rattle.deadline_layout.proofs.Converting.{dated_start, dated_written}
-use Rattle.deadline_layout.proofs.Saving.{EntriesWritten, all_written}
+use Rattle.deadline_layout.proofs.Saving.{all_written}
 use Rattle.deadline_layout.proofs.conversions.put_dated.Goals as goal
 
 pub loop-i-init : goal.loop-i-init

@@ -1,7 +1,6 @@
 -- `deadline_layout::steps::are_of_arrival` meets its contract: the two times are read, and they are numbers of 64 bits. Assumes nothing.
 use Prim.Native.Nat.{◌+◌}
 use native.Mathlib.Omega.{arith}
-use borrow.Author.Rules.{rules}
 use Rattle.deadline_layout.proofs.steps.are_of_arrival.Goals as goal
 
 pub returns : goal.returns

@@ -1,6 +1,5 @@
 -- `deadline_layout::steps::note_at` meets its contract: each exit is the definition at its stage. Assumes nothing.
 use mathlib.Core.Path.{sym, ◌∙◌}
-use borrow.Author.Rules.{rules}
 use borrow.Author.Tests.{ne_eqb}
 use Rattle.deadline_layout.specs.Steps.{standing_noted}
 use Rattle.deadline_layout.proofs.steps.note_at.Goals as goal

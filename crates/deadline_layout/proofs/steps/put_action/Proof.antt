@@ -1,7 +1,6 @@
 -- `deadline_layout::steps::put_action` meets its contract: three numbers for an action of a process, and two more. Assumes nothing.
 use Prim.Native.Nat.{ℕ}
 use mathlib.Core.Path.{◌≡◌, ap, sym, ◌∙◌}
-use mathlib.Core.Logic.{⊎_elim}
 use mathlib.Core.Bool.{cond}
 use mathlib.Core.List.{List}
 use native.Mathlib.Omega.{arith}
@@ -49,15 +48,15 @@ met : (c : tie.Joined-action-ne-WAIT)
     ≡ cond (eqb a.action wait_act) l (placed_with l a.slot (dated_with (b_in l) (c_in l) (get_or l (limit_place a.slot) 0) a.transition.to)))
 met c =
     elim c.if-action-ne-WAIT.branch [
-      then-action-ne-WAIT w ↦ w.table-is ∙ w.put_entry.ensures ∙ rw (w.dated-reached.ensures, ne_eqb _ _ w.if-action-ne-WAIT.true)
-    | else-action-ne-WAIT w ↦ w.table-is ∙ rw (eq-eqb _ _ w.if-action-ne-WAIT.false)
+      | then-action-ne-WAIT w ↦ w.table-is ∙ w.put_entry.ensures ∙ rw (w.dated-reached.ensures, ne_eqb _ _ w.if-action-ne-WAIT.true)
+      | else-action-ne-WAIT w ↦ w.table-is ∙ rw (eq-eqb _ _ w.if-action-ne-WAIT.false)
     ]
 
 met-long : (c : tie.Joined-action-ne-WAIT) → length c.if-action-ne-WAIT.table ≡ deadline_length
 met-long c =
     elim c.if-action-ne-WAIT.branch [
-      then-action-ne-WAIT w ↦ ap length (w.table-is ∙ w.put_entry.ensures) ∙ simp length-set c.requires.0
-    | else-action-ne-WAIT w ↦ ap length w.table-is ∙ c.requires.0
+      | then-action-ne-WAIT w ↦ ap length (w.table-is ∙ w.put_entry.ensures) ∙ simp length-set c.requires.0
+      | else-action-ne-WAIT w ↦ ap length w.table-is ∙ c.requires.0
     ]
 
 slice-write-table : tie.Need-bounds-table-3

@@ -1,6 +1,5 @@
 -- `deadline_layout::steps::stands_at` meets its contract, stage by stage. Assumes nothing.
 use native.Mathlib.Omega.{arith}
-use borrow.Author.Rules.{rules}
 use Rattle.deadline_layout.proofs.Looks.{idle_stands, critical_stands, past_stands, checking_stands, timed_stands}
 use Rattle.deadline_layout.proofs.steps.stands_at.Goals as goal
 

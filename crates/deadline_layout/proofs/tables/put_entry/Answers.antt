@@ -1,7 +1,6 @@
 -- `deadline_layout::tables::put_entry` meets its contract: the three numbers of the entry. Assumes nothing.
 use native.Mathlib.Omega.{arith}
 use lib.ListN.{length-set}
-use borrow.Author.Rules.{rules}
 use Rattle.deadline_layout.proofs.tables.put_entry.Goals as goal
 
 pub bounds-table-at-2 : goal.bounds-table-at-2

@@ -1,6 +1,6 @@
 -- `layout::counts::count_accepted` meets its contract: the counts, the waits so far where time is unused, and the own one cleared.
 -- Assumes nothing.
-use Rattle.std.proofs.Common.{◌≡◌, ℕ, ◌-◌, ◌<◌, List, ◌++◌, length, take, drop, sym, ap, ◌∙◌, ⊎_elim, arith, length-drop, length-set, rules}
+use Rattle.std.proofs.Common.{◌≡◌, ℕ, ◌-◌, ◌<◌, List, ◌++◌, length, take, drop, sym, ap, ◌∙◌, arith, length-drop, length-set, rules}
 use Rattle.model.specs.declared.Process.{Process}
 use Rattle.model.specs.Summaries.{waited_on}
 use Rattle.rules.proofs.Slots.{slot_fits}
@@ -116,15 +116,15 @@ grown c =
     let l = c.put_counts.new.summary in
     let e = counted c.before.before.before in
     elim c.if-unused-ne0.branch [
-      then-unused-ne0 w ↦ let back : c.if-unused-ne0.summary ≡ take counts_length l ++ (w.wait_on.new.waited ++ drop (summary_length - counts_length) (drop counts_length l)) = w.summary-is in
-    back
-    ∙ waits_put l (counted_long c.before.before.before)
-    (state_in a.table.now).processes a.unused (w.wait_on.ensures ∙ ap (λ (qs : List Process). waited_on a.unused qs (take
-    (summary_length - counts_length) (drop counts_length l)))
-    (part_processes a.table.now h.1.0 h.1.1.0))
-    ∙ ap (λ (k : List ℕ). waited_put k (state_in a.table.now).processes a.unused) e
-    | else-unused-ne0 w ↦ w.summary-is ∙ waits_rest l (state_in a.table.now).processes w.if-unused-ne0.false ∙ ap (λ (k : List ℕ). waited_put k (state_in
-    a.table.now).processes a.unused) e
+      | then-unused-ne0 w ↦ let back : c.if-unused-ne0.summary ≡ take counts_length l ++ (w.wait_on.new.waited ++ drop (summary_length - counts_length) (drop counts_length l)) = w.summary-is in
+          back
+          ∙ waits_put l (counted_long c.before.before.before)
+          (state_in a.table.now).processes a.unused (w.wait_on.ensures ∙ ap (λ (qs : List Process). waited_on a.unused qs (take
+          (summary_length - counts_length) (drop counts_length l)))
+          (part_processes a.table.now h.1.0 h.1.1.0))
+          ∙ ap (λ (k : List ℕ). waited_put k (state_in a.table.now).processes a.unused) e
+      | else-unused-ne0 w ↦ w.summary-is ∙ waits_rest l (state_in a.table.now).processes w.if-unused-ne0.false ∙ ap (λ (k : List ℕ). waited_put k (state_in
+          a.table.now).processes a.unused) e
     ]
 
 grown-long : (c : tie.Joined-unused-ne0) → length c.if-unused-ne0.summary ≡ summary_length

@@ -1,5 +1,5 @@
 -- `layout::counts::count_refused` meets its contract: one store. Assumes nothing.
-use Rattle.std.proofs.Common.{◌∙◌, rules}
+use Rattle.std.proofs.Common.{◌∙◌}
 use Rattle.layout.specs.Countings.{refused_in}
 use Rattle.layout.proofs.counts.count_refused.Goals as goal
 

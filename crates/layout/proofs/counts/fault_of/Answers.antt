@@ -1,5 +1,4 @@
 -- `layout::counts::fault_of` meets its contract: the part that is lent is the waits so far. Assumes nothing.
-use Rattle.std.proofs.Common.{rules}
 use Rattle.layout.proofs.Counting.{waits_part}
 use Rattle.layout.proofs.counts.fault_of.Goals as goal
 

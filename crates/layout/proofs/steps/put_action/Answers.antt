@@ -1,5 +1,5 @@
 -- `layout::steps::put_action` meets its contract: two stores, and two more for an action of a process. Assumes nothing.
-use Rattle.std.proofs.Common.{length, ap, ◌∙◌, length-set, rules, eq-eqb, ne_eqb}
+use Rattle.std.proofs.Common.{length, ap, ◌∙◌, length-set, eq-eqb, ne_eqb}
 use Rattle.layout.specs.Steps.{action_put}
 use Rattle.layout.proofs.steps.put_action.Goals as goal
 

@@ -1,7 +1,6 @@
 -- `layout::steps::survey_table` meets its contract: the parts that are lent are the values of a, the entries up to n and those above.
 -- Assumes nothing.
 use Rattle.std.proofs.Common.{◌≡◌, ◌≤◌, true, sym, ap, ◌∙◌, arith, rules}
-use borrow.Author.Tests.{not-true, not-false}
 use Rattle.values.specs.Bits.{are_zero}
 use Rattle.rules.specs.declared.survey.Scene.{Scene}
 use Rattle.rules.specs.Survey.{numbers_stand}

@@ -1,5 +1,5 @@
 -- What the check of `summaries::clear` does not find alone. Assumes nothing.
-use Rattle.std.proofs.Common.{◌≡◌, ℕ, ◌-◌, ◌<◌, ◌≤◌, length, take, replicate, sym, refl, ◌∙◌, add-one, arith, length-set, take_all, take-suc-set, rules}
+use Rattle.std.proofs.Common.{◌≡◌, ℕ, ◌<◌, length, sym, refl, ◌∙◌, add-one, arith, length-set, take_all, take-suc-set, rules}
 use lib.ListN.{replicate-append-replicate}
 use Rattle.layout.specs.Encodings.{summary_length, statistics_numbers}
 use Rattle.layout.proofs.summaries.clear.Goals as goal

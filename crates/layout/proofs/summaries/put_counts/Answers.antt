@@ -1,5 +1,5 @@
 -- `layout::summaries::put_counts` meets its contract: five stores. Assumes nothing.
-use Rattle.std.proofs.Common.{arith, length-set, rules}
+use Rattle.std.proofs.Common.{arith, length-set}
 use Rattle.layout.proofs.summaries.put_counts.Goals as goal
 
 pub bounds-summary-4 : goal.bounds-summary-4

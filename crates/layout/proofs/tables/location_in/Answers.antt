@@ -1,5 +1,4 @@
 -- `layout::tables::location_in` meets its contract: the location of the two numbers. Assumes nothing.
-use Rattle.std.proofs.Common.{rules}
 use Rattle.layout.proofs.tables.location_in.Goals as goal
 
 pub returns : goal.returns

@@ -1,5 +1,5 @@
 -- `layout::tables::put_entry` meets its contract: the two numbers of the entry. Assumes nothing.
-use Rattle.std.proofs.Common.{arith, length-set, rules}
+use Rattle.std.proofs.Common.{arith, length-set}
 use Rattle.layout.proofs.tables.put_entry.Goals as goal
 
 pub bounds-table-at-2 : goal.bounds-table-at-2

@@ -1,6 +1,6 @@
 -- `statistics::counting::counts_after` meets its contract: each exit computes the tests of the act up to the one that decided.
 -- Assumes nothing.
-use Rattle.std.proofs.Common.{rules, ne_eqb}
+use Rattle.std.proofs.Common.{ne_eqb}
 use Rattle.statistics.proofs.counting.counts_after.Goals as goal
 
 pub returns-then-action-eq-CRIT : goal.returns-then-action-eq-CRIT

@@ -1,5 +1,4 @@
 -- `statistics::counting::with_accepted` meets its contract. Assumes nothing.
-use Rattle.std.proofs.Common.{rules}
 use Rattle.statistics.proofs.counting.with_accepted.Goals as goal
 
 pub returns : goal.returns

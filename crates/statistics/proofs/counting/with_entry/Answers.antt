@@ -1,5 +1,4 @@
 -- `statistics::counting::with_entry` meets its contract. Assumes nothing.
-use Rattle.std.proofs.Common.{rules}
 use Rattle.statistics.proofs.counting.with_entry.Goals as goal
 
 pub returns : goal.returns

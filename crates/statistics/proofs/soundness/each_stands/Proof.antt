@@ -1,5 +1,5 @@
 -- `statistics::soundness::each_stands` meets its contract: the waits so far that are left stand just where all do. Assumes nothing.
-use Rattle.std.proofs.Common.{◌≡◌, ◌-◌, ◌≤◌, drop, sym, refl, ◌∙◌, ⊎_elim, arith, rules, le-leb}
+use Rattle.std.proofs.Common.{◌≡◌, ◌-◌, ◌≤◌, drop, sym, refl, ◌∙◌, arith, rules, le-leb}
 use Rattle.model.specs.Summaries.{waited_sound}
 use Rattle.statistics.proofs.Laws.{waits_at, all_stand, one_late}
 use Rattle.statistics.proofs.soundness.each_stands.Statement.{statement}
@@ -39,8 +39,8 @@ returns c =
     let a = c.args in
     let v = c.loop-i in
     elim c.loop-i-test.branch [
-      else-loop-i-test w ↦ all_stand a.clock a.waited.now v.i (omega (arith, w.loop-i-test.false, v.invariant.0)) v.invariant.1
-    | then-loop-i-test+then-clock-waited w ↦ one_late a.clock a.waited.now v.i w.loop-i-test.true w.if-clock-waited.true v.invariant.1
+      | else-loop-i-test w ↦ all_stand a.clock a.waited.now v.i (omega (arith, w.loop-i-test.false, v.invariant.0)) v.invariant.1
+      | then-loop-i-test+then-clock-waited w ↦ one_late a.clock a.waited.now v.i w.loop-i-test.true w.if-clock-waited.true v.invariant.1
     ]
 
 pub each_stands_spec : {M : Type 1} → statement M

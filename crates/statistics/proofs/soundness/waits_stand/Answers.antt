@@ -1,5 +1,5 @@
 -- `statistics::soundness::waits_stand` meets its contract: no wait so far is past the bits of all. Assumes nothing.
-use Rattle.std.proofs.Common.{sym, arith, rules}
+use Rattle.std.proofs.Common.{sym, arith}
 use Rattle.values.proofs.Bits.{bits_above}
 use Rattle.statistics.proofs.Laws.{all_few}
 use Rattle.statistics.proofs.soundness.waits_stand.Goals as goal

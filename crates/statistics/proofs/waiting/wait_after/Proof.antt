@@ -1,5 +1,5 @@
 -- `statistics::waiting::wait_after` meets its contract: what was told of the others is told of the unused time. Assumes nothing.
-use Rattle.std.proofs.Common.{◌≡◌, sym, ap, ◌∙◌, ⊎_elim, arith, rules, eq-eqb, ne_eqb}
+use Rattle.std.proofs.Common.{◌≡◌, sym, ap, ◌∙◌, arith, rules, eq-eqb, ne_eqb}
 use Rattle.model.specs.Summaries.{waited_on}
 use Rattle.statistics.specs.Waitings.{others_before, unused_beside}
 use Rattle.theory.proofs.Waits.{waited_on_zero}
@@ -18,9 +18,9 @@ unused-time-requires c κs = search rules
 others-are : (c : tie.Joined-action-eq-CRIT) → (let a = c.args in c.if-action-eq-CRIT.others ≡ others_before a.named a.state.processes a.action a.acting)
 others-are c =
     elim c.if-action-eq-CRIT.branch [
-      then-action-eq-CRIT+then-named-acting w ↦ simp (eq-eqb _ _ w.if-action-eq-CRIT.true, eq-eqb _ _ w.if-named-acting.true) (w.others-is ∙ w.critical_past-others.ensures)
-    | then-action-eq-CRIT+else-named-acting w ↦ simp (eq-eqb _ _ w.if-action-eq-CRIT.true, ne_eqb _ _ w.if-named-acting.false) w.others-is
-    | else-action-eq-CRIT w ↦ simp (ne_eqb _ _ w.if-action-eq-CRIT.false) w.others-is
+      | then-action-eq-CRIT+then-named-acting w ↦ simp (eq-eqb _ _ w.if-action-eq-CRIT.true, eq-eqb _ _ w.if-named-acting.true) (w.others-is ∙ w.critical_past-others.ensures)
+      | then-action-eq-CRIT+else-named-acting w ↦ simp (eq-eqb _ _ w.if-action-eq-CRIT.true, ne_eqb _ _ w.if-named-acting.false) w.others-is
+      | else-action-eq-CRIT w ↦ simp (ne_eqb _ _ w.if-action-eq-CRIT.false) w.others-is
     ]
 
 unused_is : (c : tie.After-unused_time-unused) → (let a = c.args in
