@@ -11,7 +11,7 @@ import re
 import sys
 
 WORD = re.compile(r'[^\s(){}.;,@"«»`:]+')
-DECLARED = re.compile(r"^(?:(?:abbrev|unfoldable|pub)\s+)*([^\s(){}.;,@\"«»:]+)\s*(?:\([^)]*\)\s*|\{[^}]*\}\s*)*:(?!:)")
+DECLARED = re.compile(r"^\s*(?:(?:abbrev|unfoldable|pub)\s+)*([^\s(){}.;,@\"«»:]+)\s*(?:\([^)]*\)\s*|\{[^}]*\}\s*)*:(?!:)")
 # names of the kit that look like ours
 OF_THE_KIT = {"mut_Tells", "uint_Makes", "uint_Tells", "walk_Meets"}
 
@@ -49,6 +49,7 @@ def code_words(text):
 def table():
     """The old spelling of each name and its new one."""
     words, lemmas, made = collections.Counter(), set(), set(OF_THE_KIT)
+    goal = re.compile(r"goal\.([^\s(){}.;,]+)")
     ours = os.listdir("crates")
     for path in files((".antt",)):
         text = text_of(path)
@@ -59,9 +60,10 @@ def table():
             brought = re.match(r"use (?:Rattle\.(\w+)|[\w.]+)\S*\{(.*)\}", line)
             if brought and brought.group(1) not in ours:
                 made.update(WORD.findall(brought.group(2)))
+            made.update(goal.findall(line))
             found = DECLARED.match(line)
-            if found:
-                (lemmas if own else made).add(found.group(1))
+            if found and own:
+                lemmas.add(found.group(1))
     for path in files((".rt",)):
         words.update(WORD.findall(text_of(path)))
     turned = {w: snake(w) for w in words if is_camel(w)}

@@ -17,7 +17,7 @@ use Rattle.model.specs.Readings.{Trace, refused, trace, trace_of, over}
 use Rattle.model.specs.Executions.{answers_from}
 use Rattle.model.specs.Reports.{report_text}
 use Rattle.model.proofs.Tests.{by_test, by_cond, clash, tests}
-use Rattle.model.proofs.Folds.{length-results}
+use Rattle.model.proofs.Folds.{length_results}
 use Rattle.grammar.proofs.Faults.{fault_some}
 use Rattle.grammar.proofs.Exact.{TraceTells, trace_tells, read_exactly, refused_exactly}
 use Rattle.grammar.proofs.Fits.{events_fit}
@@ -41,7 +41,7 @@ gave : (log : List Entry) (times actions : List ℕ) → Gave log times actions 
 gave log times actions =
     let t = stored_front (times_in log) times (length log) (length-map log (λ (x : Entry). x.time)) in
     let a = stored_front (actions_in log) actions (length log) (length-map log (λ (x : Entry). x.action)) in
-    record { answer = refl; log_is = rw (t.0, a.0) (entries_back log); times-after = t.1; actions-after = a.1 }
+    record { answer = refl; log_is = rw (t.0, a.0) (entries_back log); times_after = t.1; actions_after = a.1 }
 
 process_iff : (n p : ℕ) → (is_process n p ≡ true) ↔ ((1 ≤ p) × (p ≤ n))
 process_iff n p = (λ e. simp tests at e, λ h. simp tests h)
@@ -100,13 +100,13 @@ module _ (text : List ℕ) (p : ℕ) (times actions : List ℕ) (code line : ℕ
       by_cond Why (ltb (min (length times) (length actions)) (length (trace_log k events p)))
       (λ t same. answered (Unreadable.no_room l k events told h.0 h.1 (ltb-true _ _ t)) same)
       (λ t same. absurd (some (sym (ap (λ (r : LogRead). r.answer.code) same)))))
-      (λ i same. answered (Unreadable.no-process l k events told (λ f t. clash ((process_iff k.n p).1 (f, t)) i)) same)
+      (λ i same. answered (Unreadable.no_process l k events told (λ f t. clash ((process_iff k.n p).1 (f, t)) i)) same)
 
 so : {text : List ℕ} {p : ℕ} {times actions : List ℕ} {code line : ℕ} → Unreadable text p times actions code line
     → read_accepted_of text p times actions ≡ unlogged code line times actions
 unfolding read_accepted_of logged_in
 so {text} (Unreadable.faulty {code} {line} f) = rw ((refused_exactly text code line).1 f) refl
-so {text} {p} (Unreadable.no-process l k events says n) = by_test (is_process k.n p)
+so {text} {p} (Unreadable.no_process l k events says n) = by_test (is_process k.n p)
     (λ i. absurd (n ((process_iff k.n p).0 i).0 ((process_iff k.n p).0 i).1))
     (λ i. rw ((read_exactly text l k events).1 says, i) refl)
 so {text} {p} (Unreadable.no_room l k events says f t h) =
@@ -141,4 +141,4 @@ pub same_answers : SameAnswers
 unfolding report_text read_accepted_of
 same_answers text p times actions line k events says from to =
     let t = (read_exactly text line k events).1 says in
-    (answers_from (fresh_of k).state events, simp (length-map, length-results), rw t refl, rw (t, (process_iff k.n p).1 (from, to)) refl)
+    (answers_from (fresh_of k).state events, simp (length-map, length_results), rw t refl, rw (t, (process_iff k.n p).1 (from, to)) refl)

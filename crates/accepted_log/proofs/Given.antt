@@ -23,26 +23,26 @@ started_log x p = accepted_log p (attempts_from x.state (events_of (first_of x.s
 
 module _ {text : List ℕ} {x : Started} (r : Ready text x) (p : ℕ) (times actions : List ℕ) where
   -- it is no process of the trace
-  pub gave-low : p ≡ 0 → read_accepted_of text p times actions ≡ unlogged 7 0 times actions
+  pub gave_low : p ≡ 0 → read_accepted_of text p times actions ≡ unlogged 7 0 times actions
   unfolding read_accepted_of
-  gave-low e = rw (r.is, lt-leb 1 p (omega arith))
+  gave_low e = rw (r.is, lt-leb 1 p (omega arith))
 
-  pub gave-high : 1 ≤ p → x.scan.parameters.n < p → read_accepted_of text p times actions ≡ unlogged 7 0 times actions
+  pub gave_high : 1 ≤ p → x.scan.parameters.n < p → read_accepted_of text p times actions ≡ unlogged 7 0 times actions
   unfolding read_accepted_of
-  gave-high some h = rw (r.is, le-leb 1 p some, lt-leb p x.scan.parameters.n h)
+  gave_high some h = rw (r.is, le-leb 1 p some, lt-leb p x.scan.parameters.n h)
 
   -- it is a process of the trace
   module _ (is : (1 ≤ p) × (p ≤ x.scan.parameters.n)) where
-    gave-log : read_accepted_of text p times actions ≡ logged_in (started_log x p) times actions
+    gave_log : read_accepted_of text p times actions ≡ logged_in (started_log x p) times actions
     unfolding read_accepted_of
-    gave-log = rw (r.is, r.state, le-leb 1 p is.0, le-leb p x.scan.parameters.n is.1)
+    gave_log = rw (r.is, r.state, le-leb 1 p is.0, le-leb p x.scan.parameters.n is.1)
 
-    pub gave-short : min (length times) (length actions) < length (started_log x p)
+    pub gave_short : min (length times) (length actions) < length (started_log x p)
         → read_accepted_of text p times actions ≡ unlogged 16 0 times actions
     unfolding logged_in
-    gave-short h = rw (gave-log, lt-ltb (min (length times) (length actions)) (length (started_log x p)) h)
+    gave_short h = rw (gave_log, lt-ltb (min (length times) (length actions)) (length (started_log x p)) h)
 
     pub gave_all : length (started_log x p) ≤ min (length times) (length actions)
         → read_accepted_of text p times actions ≡ logged (started_log x p) times actions
     unfolding logged_in
-    gave_all h = rw (gave-log, le-ltb (min (length times) (length actions)) (length (started_log x p)) h)
+    gave_all h = rw (gave_log, le-ltb (min (length times) (length actions)) (length (started_log x p)) h)

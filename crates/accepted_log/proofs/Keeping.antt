@@ -81,20 +81,20 @@ sets_front xs l rest k e h =
 
 module _ (p act own time code : ℕ) {kept : ℕ} {times actions : List ℕ} where
   -- one that is not accepted leaves all as it was
-  pub kept-refused : code ≢ 0 → Kept (accepted_log p (attempt act own time code ∷ [])) kept kept times actions times actions
+  pub kept_refused : code ≢ 0 → Kept (accepted_log p (attempt act own time code ∷ [])) kept kept times actions times actions
   unfolding accepted_log
-  kept-refused n = rw (ne_eqb code 0 n) (record { next_is = omega arith; times-are = refl; actions-are = refl })
+  kept_refused n = rw (ne_eqb code 0 n) (record { next_is = omega arith; times_are = refl; actions_are = refl })
 
   -- and so does one of another process
-  pub kept-other : code ≡ 0 → own ≢ p → Kept (accepted_log p (attempt act own time code ∷ [])) kept kept times actions times actions
+  pub kept_other : code ≡ 0 → own ≢ p → Kept (accepted_log p (attempt act own time code ∷ [])) kept kept times actions times actions
   unfolding accepted_log
-  kept-other e n = rw (eq-eqb code 0 e, ne_eqb own p n) (record { next_is = omega arith; times-are = refl; actions-are = refl })
+  kept_other e n = rw (eq-eqb code 0 e, ne_eqb own p n) (record { next_is = omega arith; times_are = refl; actions_are = refl })
 
   -- of one that is accepted and of the process the time and the action are stored
-  pub kept-own : code ≡ 0 → own ≡ p
+  pub kept_own : code ≡ 0 → own ≡ p
       → Kept (accepted_log p (attempt act own time code ∷ [])) kept (kept + 1) times actions (set times kept time) (set actions kept act)
   unfolding accepted_log
-  kept-own e f = rw (eq-eqb code 0 e, eq-eqb own p f) (record { next_is = refl; times-are = refl; actions-are = refl })
+  kept_own e f = rw (eq-eqb code 0 e, eq-eqb own p f) (record { next_is = refl; times_are = refl; actions_are = refl })
 
 -- Attempt by attempt
 
@@ -135,11 +135,11 @@ part_next {f} k xs {ys} {next} {i} {old} {mid} h e few =
 pub record Left (log : List Entry) (start : ℕ) (rest : List Entry) (next i : ℕ) (times actions times' actions' : List ℕ) : Type 0 where
   pub behind : next ≤ i
   pub ends : next + length rest ≡ start + length log
-  pub in-times : Part (λ (x : Entry). x.time) log start rest next i times times'
-  pub in-actions : Part (λ (x : Entry). x.action) log start rest next i actions actions'
+  pub in_times : Part (λ (x : Entry). x.time) log start rest next i times times'
+  pub in_actions : Part (λ (x : Entry). x.action) log start rest next i actions actions'
 
 pub left_all : {log : List Entry} {start i : ℕ} {times actions : List ℕ} → start ≤ i → Left log start log start i times actions times actions
-left_all h = record { behind = h; ends = refl; in-times = part_all; in-actions = part_all }
+left_all h = record { behind = h; ends = refl; in_times = part_all; in_actions = part_all }
 
 -- part of what is left is put, of k places more
 pub left_next : {log xs ys : List Entry} {start next next' i : ℕ} (k : ℕ) {times actions times' actions' times'' actions'' : List ℕ}
@@ -151,25 +151,25 @@ left_next {xs = xs} {ys = ys} {next = next} {i = i} k f g few =
     (record {
       behind = within;
       ends = omega (arith, f.ends, length-append xs ys);
-      in-times = part_next k xs f.in-times g.times-are within;
-      in-actions = part_next k xs f.in-actions g.actions-are within;
+      in_times = part_next k xs f.in_times g.times_are within;
+      in_actions = part_next k xs f.in_actions g.actions_are within;
     })
 
 -- nothing is left
 pub left_done : {log : List Entry} {start next i : ℕ} {times actions times' actions' : List ℕ}
     → Left log start [] next i times actions times' actions' → Kept log start next times actions times' actions'
-left_done f = record { next_is = omega (arith, f.ends); times-are = f.in-times.put; actions-are = f.in-actions.put }
+left_done f = record { next_is = omega (arith, f.ends); times_are = f.in_times.put; actions_are = f.in_actions.put }
 
 -- All of it
 
 -- from the start on it stands in the lists, also where a list follows
 module _ {log : List Entry} {next : ℕ} {times actions times' actions' : List ℕ} (g : Kept log 0 next times actions times' actions') where
-  pub times-front : (rest : List ℕ) → length log ≤ length times → take next (times' ++ rest) ≡ times_in log
-  times-front rest h =
+  pub times_front : (rest : List ℕ) → length log ≤ length times → take next (times' ++ rest) ≡ times_in log
+  times_front rest h =
       let long = length-map log (λ (x : Entry). x.time) in
-      rw g.times-are (sets_front (times_in log) times rest next (omega (arith, g.next_is)) (omega arith))
+      rw g.times_are (sets_front (times_in log) times rest next (omega (arith, g.next_is)) (omega arith))
 
-  pub actions-front : (rest : List ℕ) → length log ≤ length actions → take next (actions' ++ rest) ≡ actions_in log
-  actions-front rest h =
+  pub actions_front : (rest : List ℕ) → length log ≤ length actions → take next (actions' ++ rest) ≡ actions_in log
+  actions_front rest h =
       let long = length-map log (λ (x : Entry). x.action) in
-      rw g.actions-are (sets_front (actions_in log) actions rest next (omega (arith, g.next_is)) (omega arith))
+      rw g.actions_are (sets_front (actions_in log) actions rest next (omega (arith, g.next_is)) (omega arith))

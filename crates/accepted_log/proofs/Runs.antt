@@ -21,7 +21,7 @@ use Rattle.model.proofs.Tests.{by_test, if_eq, clash, tests}
 use Rattle.theory.specs.Acceptance.{From, Waits, Acts}
 use Rattle.theory.proofs.Acceptance.{refused_stays}
 use Rattle.theory.proofs.Soundness.{stand_fresh}
-use Rattle.lists.proofs.Reached.{Reached, fresh-reached, step-tells, step-reached}
+use Rattle.lists.proofs.Reached.{Reached, fresh_reached, step_tells, step_reached}
 use Rattle.grammar.specs.Exact.{Says}
 use Rattle.local_log.specs.Comparisons.{Entry, entry, InTime}
 use Rattle.local_log.proofs.Answers.{answered_exactly}
@@ -79,46 +79,46 @@ module _ {k : Parameters} {s : State} (r : Reached k s) (p : ℕ) (some : 1 ≤ 
   abbrev next : State
   next = state_after (step_by s e)
 
-  next-reached : Reached k next
-  next-reached = if_eq code 0 (λ a. step-reached r (step-tells r a))
+  next_reached : Reached k next
+  next_reached = if_eq code 0 (λ a. step_reached r (step_tells r a))
       (λ n. rw (refused_stays s e.action e.process e.time n) r)
 
-  in-order-next : (es : List Attempt) → InOrder next.clock (accepted_log p es) → InOrder s.clock (accepted_log p (attempted e code ∷ es))
+  in_order_next : (es : List Attempt) → InOrder next.clock (accepted_log p es) → InOrder s.clock (accepted_log p (attempted e code ∷ es))
   unfolding accepted_log
-  in-order-next es o = if_eq code 0 accepted refused
+  in_order_next es o = if_eq code 0 accepted refused
     where
       refused : code ≢ 0 → InOrder s.clock (accepted_log p (attempted e code ∷ es))
       refused n = rw (ne_eqb code 0 n) (rw (refused_stays s e.action e.process e.time n) at o)
 
       own : Accepted (step_by s e) → e.process ≡ p → InOrder s.clock (entry e.time e.action ∷ accepted_log p es)
       own a h =
-          let step = step-tells r a in
+          let step = step_tells r a in
           let act = own_act (omega (arith, h, some)) step.allowed.turn in
-          (step.allowed.forward, step.allowed.within, act.0, act.1, rw step.changed.clock-is at o)
+          (step.allowed.forward, step.allowed.within, act.0, act.1, rw step.changed.clock_is at o)
 
       accepted : Accepted (step_by s e) → InOrder s.clock (accepted_log p (attempted e code ∷ es))
       accepted a = if_eq e.process p
           (λ h. rw (eq-eqb code 0 a, eq-eqb e.process p h) (own a h))
-          (λ n. let step = step-tells r a in
+          (λ n. let step = step_tells r a in
           rw (eq-eqb code 0 a, ne_eqb e.process p n)
-          (order_from s.clock next.clock (accepted_log p es) (omega (arith, step.changed.clock-is, step.allowed.forward)) o))
+          (order_from s.clock next.clock (accepted_log p es) (omega (arith, step.changed.clock_is, step.allowed.forward)) o))
 
 run_in_order : {k : Parameters} {s : State} → Reached k s → (p : ℕ) → 1 ≤ p → (events : List Event) → InOrder s.clock (accepted_log p (attempts_from s events))
 unfolding results_by attempts_of accepted_log
 run_in_order r p some [] = tt
-run_in_order {s = s} r p some (e ∷ es) = in-order-next r p some e (attempts_from (next r p some e) es) (run_in_order (next-reached r p some e) p some es)
+run_in_order {s = s} r p some (e ∷ es) = in_order_next r p some e (attempts_from (next r p some e) es) (run_in_order (next_reached r p some e) p some es)
 
 -- Every trace
 
 module _ {text : List ℕ} {line : ℕ} {k : Parameters} {events : List Event} (says : Says text line k events) (p : ℕ) (some : 1 ≤ p) where
-  log-in-order : InOrder 0 (trace_log k events p)
-  log-in-order = order_from 0 (fresh_of k).state.clock (trace_log k events p) (omega arith)
-      (run_in_order (fresh-reached (stand_fresh k says.stand)) p some events)
+  log_in_order : InOrder 0 (trace_log k events p)
+  log_in_order = order_from 0 (fresh_of k).state.clock (trace_log k events p) (omega arith)
+      (run_in_order (fresh_reached (stand_fresh k says.stand)) p some events)
 
 -- [13.135] [13.140]
 pub every_log : EveryLog
 every_log text line k events says p some =
-    (one_for_each p (attempts_from (fresh_of k).state events), log-in-order says p some)
+    (one_for_each p (attempts_from (fresh_of k).state events), log_in_order says p some)
 
 order_in_time : (from : ℕ) (log : List Entry) → InOrder from log → InTime log
 order_in_time from [] o = tt
@@ -127,8 +127,8 @@ order_in_time from (x ∷ log) o = (o.1, order_in_time x.time log o.4)
 -- [13.145]
 pub bounds_local : BoundsLocal
 bounds_local text line k events says p some d e local r c =
-    let past = (answered_exactly d e local (trace_log k events p) r c).past-bounds in
-    let times = order_in_time 0 (trace_log k events p) (log-in-order says p some) in (
-      λ h b. past.0 h (record { range = b.0; tolerance = b.1; local-times = b.2; other-times = times }),
-      λ n. past.1 (λ w. n (w.range, w.tolerance, w.local-times)),
+    let past = (answered_exactly d e local (trace_log k events p) r c).past_bounds in
+    let times = order_in_time 0 (trace_log k events p) (log_in_order says p some) in (
+      λ h b. past.0 h (record { range = b.0; tolerance = b.1; local_times = b.2; other_times = times }),
+      λ n. past.1 (λ w. n (w.range, w.tolerance, w.local_times)),
     )

@@ -29,8 +29,8 @@ pub record Readable (text : List ℕ) (p : ℕ) (times actions : List ℕ) (line
 pub record Gave (log : List Entry) (times actions : List ℕ) (r : LogRead) : Type 0 where
   pub answer : r.answer ≡ answer_of 0 0 (length log)
   pub log_is : entries_of (take (length log) r.times) (take (length log) r.actions) ≡ log
-  pub times-after : drop (length log) r.times ≡ drop (length log) times
-  pub actions-after : drop (length log) r.actions ≡ drop (length log) actions
+  pub times_after : drop (length log) r.times ≡ drop (length log) times
+  pub actions_after : drop (length log) r.actions ≡ drop (length log) actions
 
 -- [13.120]
 abbrev pub AcceptedTell : Type 0
@@ -50,7 +50,7 @@ pub data Unreadable (text : List ℕ) (p : ℕ) (times actions : List ℕ) : ℕ
   -- [11.55] a fault of the text, with the line that the report prints for it
   faulty : {code line : ℕ} → Fault text code line → Unreadable text p times actions code line
   -- [4.7] the text is faultless
-  no-process : (line : ℕ) (k : Parameters) (events : List Event) → Says text line k events → (1 ≤ p → p ≤ k.n → ⊥)
+  no_process : (line : ℕ) (k : Parameters) (events : List Event) → Says text line k events → (1 ≤ p → p ≤ k.n → ⊥)
       → Unreadable text p times actions 7 0
   -- [4.16] after all others
   no_room : (line : ℕ) (k : Parameters) (events : List Event) → Says text line k events → 1 ≤ p → p ≤ k.n

@@ -7,5 +7,5 @@ use Rattle.local_log.specs.Comparisons.{Entry, actions_in, times_in}
 -- the log `log` has been put into the two lists from place `at` on, and `next` is the place behind it
 pub record Kept (log : List Entry) (at next : ℕ) (times actions times' actions' : List ℕ) : Type 0 where
   pub next_is : next ≡ at + length log
-  pub times-are : times' ≡ sets times at (times_in log)
-  pub actions-are : actions' ≡ sets actions at (actions_in log)
+  pub times_are : times' ≡ sets times at (times_in log)
+  pub actions_are : actions' ≡ sets actions at (actions_in log)

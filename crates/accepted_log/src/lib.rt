@@ -1,5 +1,7 @@
 // The accepted log of a process, out of a recording: the recording is run once, what was accepted of the process is moved to the front of the
 // lists that were read, and goes from there to the lent ones if these have room for all of it.
+#![tactic(auto)]
+
 mod steps;
 
 ghost use Rattle.std.specs.Prelude.{◌≡◌};

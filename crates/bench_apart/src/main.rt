@@ -1,4 +1,6 @@
 // Runs a case with a second call of `step` in the program, so that the compiler leaves both calls.
+#![tactic(auto)]
+
 use rules::actions::WAIT;
 
 fn main() {

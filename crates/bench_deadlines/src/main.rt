@@ -1,5 +1,7 @@
 // Runs a case by steps of the second engine, with one call of it in the whole program. Prints what the first engine's program does: the sum of
 // all answers and the last clock.
+#![tactic(auto)]
+
 use deadlines::locations::dated;
 use deadlines::{DeadlineLocation, DeadlineProcess, DeadlineState, entry_with, step};
 use libc::STDOUT_FILENO;

@@ -1,5 +1,7 @@
 // Runs a case by recorded steps, by value and with a summary that is new at first. Prints the sum of all answers, the last clock, and
 // the counts with the longest wait, as the programs of `bench` in Rust do.
+#![tactic(auto)]
+
 use libc::STDOUT_FILENO;
 use model::{Counts, State};
 use statistics::{new_statistics, record};

@@ -20,8 +20,8 @@ use Rattle.deadlines.specs.Matching.{arrived}
 use Rattle.model.proofs.Tests.{by_test}
 use Rattle.theory.proofs.Acceptance.{accepted_iff_allowed}
 use Rattle.theory.proofs.Soundness.{sound_iff_plain}
-use Rattle.theory.proofs.Steps.{stepped, accepted-is}
-use Rattle.deadlines.proofs.Matched.{step_same, sound-same, sound_matched}
+use Rattle.theory.proofs.Steps.{stepped, accepted_is}
+use Rattle.deadlines.proofs.Matched.{step_same, sound_same, sound_matched}
 use Rattle.deadlines.proofs.Judging.{exit_unsound_with}
 
 -- A wait at the clock
@@ -31,14 +31,14 @@ sound_iff_waits s = (
   λ e. let h = (sound_iff_plain s).0 e in
       (accepted_iff_allowed s e wait_act 0 s.clock).1
       (record { forward = omega arith; within = h.clock; in-time = h.in-time; turn = inl (record { wait = refl; nobody = refl }) }),
-  λ e. (sound_iff_plain s).1 (accepted-is (stepped s wait_act 0 s.clock) e).sound,
+  λ e. (sound_iff_plain s).1 (accepted_is (stepped s wait_act 0 s.clock) e).sound,
 )
 
 -- of the second engine, by the state of the arrivals
 pub sound_iff_waits_with : (d : DeadlineState) → (sound_with d ≡ true) ↔ ((step_with d wait_act 0 d.clock).answer.code ≡ 0)
 sound_iff_waits_with d = (
   λ e. let same = sound_matched d e in
-      let sound = sym (sound-same (arrived d)) ∙ ap sound_with same ∙ e in
+      let sound = sym (sound_same (arrived d)) ∙ ap sound_with same ∙ e in
       rw (← same, step_same (arrived d) wait_act 0 d.clock) ((sound_iff_waits (arrived d)).0 sound),
   λ e. by_test (sound_with d) (λ h. h) (λ h. absurd (omega (arith, rw (← exit_unsound_with d wait_act 0 d.clock h) at e))),
 )
@@ -64,5 +64,5 @@ module _ {A : Type 0} (made l : List A) where
     front = rw (add-one, take-suc-set l i a (omega (arith, f.size)), take-suc made i d (omega (arith, f.all)), e, f.front);
   }
 
-  pub filled-whole : (i : ℕ) → Filled made l i → 96 ≤ i → l ≡ made
-  filled-whole i f h = sym (take_all i l (omega arith)) ∙ f.front ∙ take_all i made (omega arith)
+  pub filled_whole : (i : ℕ) → Filled made l i → 96 ≤ i → l ≡ made
+  filled_whole i f h = sym (take_all i l (omega arith)) ∙ f.front ∙ take_all i made (omega arith)

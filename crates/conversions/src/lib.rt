@@ -1,5 +1,7 @@
 // From a state of the machine to the state of deadlines that matches it, and back. What is not sound is refused: a wait at a state's own
 // clock changes nothing, and is accepted just where the state is sound.
+#![tactic(auto)]
+
 ghost use Rattle.std.specs.Prelude.{◌≡◌};
 ghost use Rattle.deadlines.specs.Matching.{to_deadlines, to_arrivals};
 

@@ -47,9 +47,9 @@ told_drop (suc i) (x ∷ y ∷ z ∷ l) = rw (three_more i) (told_drop i l)
 
 module _ (l : List ℕ) (long : length l ≡ deadline_length) where
   -- the numbers of entry i, and those of the entries after it
-  three-in : (i : ℕ) → i < 96
+  three_in : (i : ℕ) → i < 96
       → entries_from l i ≡ get_or l (stage_place_with i) 0 ∷ get_or l (first_place i) 0 ∷ get_or l (last_place i) 0 ∷ entries_from l (i + 1)
-  three-in i more =
+  three_in i more =
       let e : stage_place_with (i + 1) ≡ stage_place_with i + 3 = omega arith in
       rw e (three_at l (stage_place_with i) 0 (omega arith))
 
@@ -69,25 +69,25 @@ module _ (l : List ℕ) (long : length l ≡ deadline_length) where
   unfolding state_with_in
   entries_size = length_told 96 (drop header_length l) (length-drop header_length l ∙ omega arith)
 
-  pub next-told : (i : ℕ) → i < 96 → are_deadlines (entries_from l i) ≡ tells_at l i && are_deadlines (entries_from l (i + 1))
+  pub next_told : (i : ℕ) → i < 96 → are_deadlines (entries_from l i) ≡ tells_at l i && are_deadlines (entries_from l (i + 1))
   unfolding are_deadlines
-  next-told i more = rw (three-in i more)
+  next_told i more = rw (three_in i more)
 
   -- where all of them tell, each does
-  left-told : (i : ℕ) → i ≤ 96 → entries_told l ≡ true → are_deadlines (entries_from l i) ≡ true
-  left-told zero h e = e
-  left-told (suc i) h e =
+  left_told : (i : ℕ) → i ≤ 96 → entries_told l ≡ true → are_deadlines (entries_from l i) ≡ true
+  left_told zero h e = e
+  left_told (suc i) h e =
       let f : suc i ≡ i + 1 = omega arith in
-      rw f ((and_true_iff (tells_at l i) _).0 (sym (next-told i (omega arith)) ∙ left-told i (omega arith) e)).1
+      rw f ((and_true_iff (tells_at l i) _).0 (sym (next_told i (omega arith)) ∙ left_told i (omega arith) e)).1
 
-  pub each-told : (i : ℕ) → i < 96 → entries_told l ≡ true → Told (get_or l (stage_place_with i) 0) (get_or l (first_place i) 0) (get_or l (last_place i) 0)
-  each-told i more e = entry_told _ _ _ ((and_true_iff (tells_at l i) _).0 (sym (next-told i more) ∙ left-told i (omega arith) e)).0
+  pub each_told : (i : ℕ) → i < 96 → entries_told l ≡ true → Told (get_or l (stage_place_with i) 0) (get_or l (first_place i) 0) (get_or l (last_place i) 0)
+  each_told i more e = entry_told _ _ _ ((and_true_iff (tells_at l i) _).0 (sym (next_told i more) ∙ left_told i (omega arith) e)).0
 
   -- the next of the first entries
   pub first_next : (j i : ℕ) → i < 96
       → first_entries (suc j) (entries_from l i)
       ≡ get_or l (stage_place_with i) 0 ∷ get_or l (first_place i) 0 ∷ get_or l (last_place i) 0 ∷ first_entries j (entries_from l (i + 1))
-  first_next j i more = rw (three-in i more, three_more j)
+  first_next j i more = rw (three_in i more, three_more j)
 
 -- Above n
 
@@ -105,29 +105,29 @@ not_remainder stage f l n =
 
 module _ (d : DeadlineState) where
   -- there an entry is sound just where it is in the remainder
-  above-is-zero : (k stage f l : ℕ) → d.parameters.n < k
+  above_is_zero : (k stage f l : ℕ) → d.parameters.n < k
       → (tells_times stage f l && entry_sound_with d k (entry_with (deadline_at stage f l))) ≡ eqb stage 0 && eqb f 0 && eqb l 0
-  above-is-zero k stage f l h =
+  above_is_zero k stage f l h =
       if_eq stage 0
       (λ e. rw e (ap (λ (u : Bool). u && entry_sound_with d k (entry_with (deadline_at 0 f l))) (still f l) ∙ rw (lt-leb k d.parameters.n h)
       (and-true _)))
-      (λ e. ap (λ (u : Bool). tells_times stage f l && u) (above-sound ∙ not_remainder stage f l e) ∙ and-false (tells_times stage f l)
+      (λ e. ap (λ (u : Bool). tells_times stage f l && u) (above_sound ∙ not_remainder stage f l e) ∙ and-false (tells_times stage f l)
       ∙ sym (rw (ne_eqb stage 0 e)))
     where
-      above-sound : entry_sound_with d k (entry_with (deadline_at stage f l)) ≡ eqb (stage_with (deadline_at stage f l)) remainder
-      above-sound = rw (lt-leb k d.parameters.n h)
+      above_sound : entry_sound_with d k (entry_with (deadline_at stage f l)) ≡ eqb (stage_with (deadline_at stage f l)) remainder
+      above_sound = rw (lt-leb k d.parameters.n h)
 
-  pub above-are-zero : (m k : ℕ) (l : List ℕ) → length l ≡ deadline_stride * m → d.parameters.n < k
+  pub above_are_zero : (m k : ℕ) (l : List ℕ) → length l ≡ deadline_stride * m → d.parameters.n < k
       → (are_deadlines l && entries_sound_with d k (deadlines_in l)) ≡ are_zero l
   unfolding are_deadlines entries_sound_with deadlines_in are_zero
-  above-are-zero zero k [] e h = refl
-  above-are-zero zero k (x ∷ l) e h = absurd (omega arith)
-  above-are-zero (suc m) k [] e h = absurd (omega arith)
-  above-are-zero (suc m) k (x ∷ []) e h = absurd (omega arith)
-  above-are-zero (suc m) k (x ∷ (y ∷ [])) e h = absurd (omega arith)
-  above-are-zero (suc m) k (x ∷ (y ∷ (z ∷ l))) e h =
+  above_are_zero zero k [] e h = refl
+  above_are_zero zero k (x ∷ l) e h = absurd (omega arith)
+  above_are_zero (suc m) k [] e h = absurd (omega arith)
+  above_are_zero (suc m) k (x ∷ []) e h = absurd (omega arith)
+  above_are_zero (suc m) k (x ∷ (y ∷ [])) e h = absurd (omega arith)
+  above_are_zero (suc m) k (x ∷ (y ∷ (z ∷ l))) e h =
       regroup (tells_times x y z) (are_deadlines l) (entry_sound_with d k (entry_with (deadline_at x y z))) (entries_sound_with d (k + 1) (deadlines_in l))
-      ∙ (λ i. above-is-zero k x y z h i && above-are-zero m (k + 1) l (omega arith) (omega arith) i)
+      ∙ (λ i. above_is_zero k x y z h i && above_are_zero m (k + 1) l (omega arith) (omega arith) i)
       ∙ and_assoc (eqb x 0 && eqb y 0) (eqb z 0) (are_zero l) ∙ and_assoc (eqb x 0) (eqb y 0) (eqb z 0 && are_zero l)
 
 -- what is left above n: it tells sound entries just where it is all 0
@@ -137,4 +137,4 @@ unfolding state_with_in
 left_zero l long n few is =
     let left : drop n (deadlines_in (drop header_length l)) ≡ deadlines_in (entries_from l n) =
     told_drop n (drop header_length l) ∙ ap deadlines_in (drop-drop (deadline_stride * n) header_length l) in
-    rw left (above-are-zero (state_with_in l) (96 - n) (n + 1) (entries_from l n) (length-drop (stage_place_with n) l ∙ omega arith) (omega arith))
+    rw left (above_are_zero (state_with_in l) (96 - n) (n + 1) (entries_from l n) (length-drop (stage_place_with n) l ∙ omega arith) (omega arith))

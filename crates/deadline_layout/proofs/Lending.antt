@@ -21,7 +21,7 @@ use Rattle.deadline_layout.specs.Encodings.{deadline_length, is_deadline_table, 
 use Rattle.deadline_layout.specs.Interface.{lent_step_with}
 use Rattle.deadline_layout.specs.Steps.{answer_in, action_put_with, acted_with, survey_with}
 use Rattle.deadline_layout.proofs.Surveys.{tell_sound, Found, faulty, whole, survey_found}
-use Rattle.deadline_layout.proofs.Acts.{outcome_numbers, step-acted}
+use Rattle.deadline_layout.proofs.Acts.{outcome_numbers, step_acted}
 
 -- Whether a lent deadline table is sound
 
@@ -71,21 +71,21 @@ module _ (table : List ℕ) (fits : deadline_length ≤ length table) (act p m :
 
   -- the first numbers give what the step in place gives of them
   module _ {j : Answer} {new : List ℕ} (e : lent_gave j new ≡ acted_with first (survey_with first p) act p m) where
-    new-long : length new ≡ deadline_length
-    new-long = ap (λ (g : Lent). length g.table) e ∙ acted_length first (survey_with first p) act p m ∙ first_long
+    new_long : length new ≡ deadline_length
+    new_long = ap (λ (g : Lent). length g.table) e ∙ acted_length first (survey_with first p) act p m ∙ first_long
 
-    unsound-front : is_sound_deadline_table table ≡ false → lent_gave j (new ++ drop deadline_length table) ≡ lent_step_with table act p m
-    unsound-front u =
+    unsound_front : is_sound_deadline_table table ≡ false → lent_gave j (new ++ drop deadline_length table) ≡ lent_step_with table act p m
+    unsound_front u =
         let g : lent_gave j new ≡ lent_gave (answer_of 1 0 0) first =
-        e ∙ step-acted first first_long act p m ∙ rw (sym (first_sound table fits) ∙ u) in
+        e ∙ step_acted first first_long act p m ∙ rw (sym (first_sound table fits) ∙ u) in
         ap (λ (g : Lent). lent_gave g.answer (g.table ++ drop deadline_length table)) g
         ∙ lent-gave refl (take-append-drop deadline_length table) ∙ step_unsound table act p m u refl
 
-    sound-front : is_sound_deadline_table table ≡ true → lent_gave j (new ++ drop deadline_length table) ≡ lent_step_with table act p m
+    sound_front : is_sound_deadline_table table ≡ true → lent_gave j (new ++ drop deadline_length table) ≡ lent_step_with table act p m
     unfolding lent_step_with
-    sound-front s =
-        let g : lent_gave j new ≡ outcome_numbers o = e ∙ step-acted first first_long act p m ∙ rw (sym (first_sound table fits) ∙ s) in
-        lent-gave (ap (λ (g : Lent). g.answer) g) (front_over deadline_length table (ap (λ (g : Lent). g.table) g) new-long) ∙ rw s
+    sound_front s =
+        let g : lent_gave j new ≡ outcome_numbers o = e ∙ step_acted first first_long act p m ∙ rw (sym (first_sound table fits) ∙ s) in
+        lent-gave (ap (λ (g : Lent). g.answer) g) (front_over deadline_length table (ap (λ (g : Lent). g.table) g) new_long) ∙ rw s
 
-    pub step-front : lent_gave j (new ++ drop deadline_length table) ≡ lent_step_with table act p m
-    step-front = by_test (is_sound_deadline_table table) sound-front unsound-front
+    pub step_front : lent_gave j (new ++ drop deadline_length table) ≡ lent_step_with table act p m
+    step_front = by_test (is_sound_deadline_table table) sound_front unsound_front

@@ -33,9 +33,9 @@ module _ (clock k first last opens closes : ℕ) (f : Survey) (o : clock + opens
   abbrev of_one : Bool
   of_one = settled_by 0 clock first last opens closes
 
-  bounds-good : last < 2 ^ 64 → of_one ≡ true → bounds_noted clock k first last opens closes f ≡ due_noted clock k last f
+  bounds_good : last < 2 ^ 64 → of_one ≡ true → bounds_noted clock k first last opens closes f ≡ due_noted clock k last f
   unfolding settled_by bounds_noted
-  bounds-good fit e =
+  bounds_good fit e =
       let h = simp tests at e in
       let start : first ≡ back_from last closes + opens = h.1 ∙ mod-eq_of_lt (omega (arith, h.0.1)) in
       let came : first - opens ≡ back_from last closes = omega arith in
@@ -56,38 +56,38 @@ module _ (clock k first last opens closes : ℕ) (f : Survey) (o : clock + opens
       let start : first ≡ due_from (first - opens) opens = omega arith in
       false≢true (sym e ∙ rw back (simp (le-leb 0 last (omega arith), le-leb (first - opens) clock past, eq-eqb first _ start)))
 
-  bounds-bad : of_one ≡ false → bounds_noted clock k first last opens closes f ≡ unsound
+  bounds_bad : of_one ≡ false → bounds_noted clock k first last opens closes f ≡ unsound
   unfolding bounds_noted
-  bounds-bad e =
+  bounds_bad e =
       let P : Survey → Type 0 = λ g. g ≡ unsound in
       by_cond P (ltb first opens) (λ _. refl)
       (λ below. by_cond P (ltb clock (first - opens)) (λ _. refl)
       (λ past. by_cond P (not (eqb last (due_from (first - opens) closes))) (λ _. refl)
       (λ is. absurd (refused e (ltb-false first opens below) (ltb-false clock (first - opens) past) (eqb-true last _ (not-false _ is))))))
 
-  pub bounds-by : last < 2 ^ 64 → bounds_noted clock k first last opens closes f ≡ cond of_one (due_noted clock k last f) unsound
-  bounds-by fit = by_test of_one (λ e. bounds-good fit e ∙ sym (rw e)) (λ e. bounds-bad e ∙ sym (rw e))
+  pub bounds_by : last < 2 ^ 64 → bounds_noted clock k first last opens closes f ≡ cond of_one (due_noted clock k last f) unsound
+  bounds_by fit = by_test of_one (λ e. bounds_good fit e ∙ sym (rw e)) (λ e. bounds_bad e ∙ sym (rw e))
 
 -- Stage by stage
 
 module _ (x : Scene) (k first last b limit : ℕ) (f : Survey) where
   -- a stage past leaving tells no location
-  past-noted : (stage : ℕ) → leaving < stage → numbers_noted_with x k stage first last b limit f ≡ unsound
+  past_noted : (stage : ℕ) → leaving < stage → numbers_noted_with x k stage first last b limit f ≡ unsound
   unfolding numbers_noted_with
-  past-noted stage h = simp (lt-leb stage leaving h)
+  past_noted stage h = simp (lt-leb stage leaving h)
 
-  idle-noted : numbers_noted_with x k remainder first last b limit f ≡ cond (three_zeros 0 first last) f unsound
+  idle_noted : numbers_noted_with x k remainder first last b limit f ≡ cond (three_zeros 0 first last) f unsound
   unfolding numbers_noted_with location_noted
-  idle-noted = rw (still first last)
+  idle_noted = rw (still first last)
 
   module _ (h : k ≤ x.n) where
     critical-noted : numbers_noted_with x k critical first last b limit f ≡ cond (three_zeros 0 first last) (critical_noted x.acting k f) unsound
     unfolding numbers_noted_with location_noted
     critical-noted = rw (still first last, le-ltb x.n k h)
 
-    checking-noted : numbers_noted_with x k checking first last b limit f ≡ bounds_noted x.clock k first last b x.c f
+    checking_noted : numbers_noted_with x k checking first last b limit f ≡ bounds_noted x.clock k first last b x.c f
     unfolding numbers_noted_with location_noted
-    checking-noted = simp (eq-eqb first first refl, eq-eqb last last refl, le-ltb x.n k h)
+    checking_noted = simp (eq-eqb first first refl, eq-eqb last last refl, le-ltb x.n k h)
 
     timed-noted : (stage : ℕ) → stage ≢ remainder → stage ≢ checking → stage ≢ critical → stage ≤ leaving
         → numbers_noted_with x k stage first last b limit f ≡ bounds_noted x.clock k first last 0 limit f
@@ -114,40 +114,40 @@ module _ (ns a : List ℕ) (b : ℕ) (x : Scene) (ready : Ready ns a b x) (i : �
   abbrev limit : ℕ
   limit = limit_at a (i + 1)
 
-  pub idle-stands : {r : Bool} → stage ≡ remainder → r ≡ three_zeros 0 first last → Stands ns a b x i r
+  pub idle_stands : {r : Bool} → stage ≡ remainder → r ≡ three_zeros 0 first last → Stands ns a b x i r
   unfolding standing_noted
-  idle-stands e is = record {
-    look = λ f. rw (sym at ∙ e) (idle-noted x (i + 1) first last b limit f ∙ ap (λ (t : Bool). cond t f unsound) (sym is));
+  idle_stands e is = record {
+    look = λ f. rw (sym at ∙ e) (idle_noted x (i + 1) first last b limit f ∙ ap (λ (t : Bool). cond t f unsound) (sym is));
   }
 
-  pub critical-stands : {r : Bool} → stage ≡ critical → r ≡ three_zeros 0 first last → Stands ns a b x i r
+  pub critical_stands : {r : Bool} → stage ≡ critical → r ≡ three_zeros 0 first last → Stands ns a b x i r
   unfolding standing_noted
-  critical-stands e is = record {
+  critical_stands e is = record {
     look = λ f.
         rw (sym at ∙ e) (critical-noted x (i + 1) first last b limit f (omega arith)
         ∙ ap (λ (t : Bool). cond t (critical_noted x.acting (i + 1) f) unsound) (sym is));
   }
 
-  pub past-stands : leaving < stage → Stands ns a b x i false
-  past-stands h = record { look = λ f. past-noted x (i + 1) first last b limit f (stage_in ns i) (rw at at h) }
+  pub past_stands : leaving < stage → Stands ns a b x i false
+  past_stands h = record { look = λ f. past_noted x (i + 1) first last b limit f (stage_in ns i) (rw at at h) }
 
   -- what is noted of a timed location
-  timed-standing : (f : Survey) → stage ≢ remainder → stage ≢ critical → standing_noted ns x i f ≡ due_noted x.clock (i + 1) last f
+  timed_standing : (f : Survey) → stage ≢ remainder → stage ≢ critical → standing_noted ns x i f ≡ due_noted x.clock (i + 1) last f
   unfolding standing_noted
-  timed-standing f some other = rw (ne_eqb (stage_in ns i) remainder (rw at at some), ne_eqb (stage_in ns i) critical (rw at at other))
+  timed_standing f some other = rw (ne_eqb (stage_in ns i) remainder (rw at at some), ne_eqb (stage_in ns i) critical (rw at at other))
 
-  by-bounds : {r : Bool} (opens closes : ℕ) → stage ≢ remainder → stage ≢ critical → OfArrival ns (deadline_stride * i) x.clock opens closes r
+  by_bounds : {r : Bool} (opens closes : ℕ) → stage ≢ remainder → stage ≢ critical → OfArrival ns (deadline_stride * i) x.clock opens closes r
       → x.clock + opens < 2 ^ 64 → closes < 2 ^ 64 → (f : Survey)
       → bounds_noted x.clock (i + 1) first last opens closes f ≡ cond r (standing_noted ns x i f) unsound
-  by-bounds opens closes some other s o c f =
-      bounds-by x.clock (i + 1) first last opens closes f o c s.fits
-      ∙ (λ j. cond (sym s.is j) (sym (timed-standing f some other) j) unsound)
+  by_bounds opens closes some other s o c f =
+      bounds_by x.clock (i + 1) first last opens closes f o c s.fits
+      ∙ (λ j. cond (sym s.is j) (sym (timed_standing f some other) j) unsound)
 
-  pub checking-stands : {r : Bool} → stage ≡ checking → OfArrival ns (deadline_stride * i) x.clock b x.c r → Stands ns a b x i r
-  checking-stands e s = record {
+  pub checking_stands : {r : Bool} → stage ≡ checking → OfArrival ns (deadline_stride * i) x.clock b x.c r → Stands ns a b x i r
+  checking_stands e s = record {
     look = λ f.
-        ap (λ (k : ℕ). numbers_noted_with x (i + 1) k first last b limit f) (sym at ∙ e) ∙ checking-noted x (i + 1) first last b limit f (omega arith)
-        ∙ by-bounds b x.c (λ z. omega arith) (λ z. omega arith) s ready.opens ready.closes f;
+        ap (λ (k : ℕ). numbers_noted_with x (i + 1) k first last b limit f) (sym at ∙ e) ∙ checking_noted x (i + 1) first last b limit f (omega arith)
+        ∙ by_bounds b x.c (λ z. omega arith) (λ z. omega arith) s ready.opens ready.closes f;
   }
 
   -- its a stands at its place
@@ -155,11 +155,11 @@ module _ (ns a : List ℕ) (b : ℕ) (x : Scene) (ready : Ready ns a b x) (i : �
   unfolding limit_at
   limit_is = ap (λ (j : ℕ). get_or a j 0) (omega arith)
 
-  pub timed-stands : {r : Bool} → stage ≢ remainder → stage ≢ checking → stage ≢ critical → stage ≤ leaving
+  pub timed_stands : {r : Bool} → stage ≢ remainder → stage ≢ checking → stage ≢ critical → stage ≤ leaving
       → OfArrival ns (deadline_stride * i) x.clock 0 (get_or a i 0) r → Stands ns a b x i r
-  timed-stands some plain other known s = record {
+  timed_stands some plain other known s = record {
     look = λ f.
         timed-noted x (i + 1) first last b limit f (omega arith) (stage_in ns i) (rw at at some) (rw at at plain) (rw at at other) (rw at at known)
         ∙ ap (λ (k : ℕ). bounds_noted x.clock (i + 1) first last 0 k f) limit_is
-        ∙ by-bounds 0 (get_or a i 0) some other s (omega (arith, ready.opens)) (rw limit_is at (ready.limit (i + 1))) f;
+        ∙ by_bounds 0 (get_or a i 0) some other s (omega (arith, ready.opens)) (rw limit_is at (ready.limit (i + 1))) f;
   }

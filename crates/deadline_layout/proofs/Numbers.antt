@@ -17,7 +17,7 @@ use Rattle.deadlines.specs.Deadlines.{stage_with, first_of, last_of, deadline_at
 use Rattle.deadline_layout.specs.Encodings.{deadline_stride, deadline_numbers, state_numbers_with, deadlines_in, state_with_in}
 use Rattle.deadline_layout.specs.Encodings.{tells_times, are_deadlines}
 use Rattle.model.proofs.Tests.{and_true_iff, tests}
-use Rattle.layout.proofs.Numbers.{behind-header, parameters-told, header_told}
+use Rattle.layout.proofs.Numbers.{behind_header, parameters-told, header_told}
 
 -- One entry
 
@@ -62,12 +62,12 @@ stage_told (suc (suc (suc (suc (suc (suc (suc (suc k)))))))) f l h = absurd (ome
 pub record Told (stage f l : ℕ) : Type 0 where
   pub stage_is : stage_with (deadline_at stage f l) ≡ stage
   pub first_is : first_of (deadline_at stage f l) ≡ f
-  pub last-is : last_of (deadline_at stage f l) ≡ l
+  pub last_is : last_of (deadline_at stage f l) ≡ l
 
 pub entry_told : (stage f l : ℕ) → tells_times stage f l ≡ true → Told stage f l
 entry_told stage f l e =
     let h = simp tests at e in
-    record { stage_is = stage_told stage f l h.0.0; first_is = h.0.1; last-is = h.1 }
+    record { stage_is = stage_told stage f l h.0.0; first_is = h.0.1; last_is = h.1 }
 
 -- Entries
 
@@ -89,7 +89,7 @@ entries-told (stage ∷ f ∷ []) e = absurd (false≢true e)
 entries-told (stage ∷ f ∷ l ∷ rest) e =
     let h = (and_true_iff (tells_times stage f l) (are_deadlines rest)).0 e in
     let t = entry_told stage f l h.0 in
-    λ i. t.stage_is i ∷ t.first_is i ∷ t.last-is i ∷ entries-told rest h.1 i
+    λ i. t.stage_is i ∷ t.first_is i ∷ t.last_is i ∷ entries-told rest h.1 i
 
 pub length_entries : (qs : List DeadlineProcess) → length (deadline_numbers qs) ≡ deadline_stride * length qs
 unfolding deadline_numbers
@@ -133,10 +133,10 @@ length_state d =
 module _ (d : DeadlineState) (size : length d.parameters.a ≡ 96) where
   behind : drop header_length (state_numbers_with d) ≡ deadline_numbers d.processes
   unfolding state_numbers_with
-  behind = behind-header d.parameters size d.clock d.word (deadline_numbers d.processes)
+  behind = behind_header d.parameters size d.clock d.word (deadline_numbers d.processes)
 
-  pub state-tells : are_deadlines (drop header_length (state_numbers_with d)) ≡ true
-  state-tells = rw behind (entries_tell d.processes)
+  pub state_tells : are_deadlines (drop header_length (state_numbers_with d)) ≡ true
+  state_tells = rw behind (entries_tell d.processes)
 
   pub state-told : state_with_in (state_numbers_with d) ≡ d
   unfolding state_with_in state_numbers_with

@@ -47,14 +47,14 @@ module _ (d : DeadlineState) (l : List ℕ) (i : ℕ) (done : EntriesWritten d l
     q = get_or d.processes i other
 
     -- entry i is the next one of what is left
-    next-numbers : deadline_numbers (drop i d.processes)
+    next_numbers : deadline_numbers (drop i d.processes)
         ≡ stage_with q.location ∷ first_of q.location ∷ last_of q.location ∷ deadline_numbers (drop (i + 1) d.processes)
     unfolding deadline_numbers
-    next-numbers = rw (drop_at d.processes i other (omega (arith, done.size)))
+    next_numbers = rw (drop_at d.processes i other (omega (arith, done.size)))
 
     -- its numbers are stored
-    pub entry-written : EntriesWritten d (placed_with l i q.location) (i + 1)
-    entry-written =
+    pub entry_written : EntriesWritten d (placed_with l i q.location) (i + 1)
+    entry_written =
         let e : header_length + deadline_stride * (i + 1) ≡ stage_place_with i + 3 = omega arith in
         record {
           most = omega arith;
@@ -63,12 +63,12 @@ module _ (d : DeadlineState) (l : List ℕ) (i : ℕ) (done : EntriesWritten d l
           written =
               rw e (fill_three l (stage_place_with i) (stage_with q.location) (first_of q.location) (last_of q.location)
               (deadline_numbers (drop (i + 1) d.processes)) (omega (arith, done.long)))
-              ∙ rw next-numbers at done.written;
+              ∙ rw next_numbers at done.written;
         }
 
   -- nothing is left after 96 entries
-  pub all-written : 96 ≤ i → l ≡ state_numbers_with d
+  pub all_written : 96 ≤ i → l ≡ state_numbers_with d
   unfolding deadline_numbers
-  all-written all =
+  all_written all =
       sym (take_all (header_length + deadline_stride * i) l (omega (arith, done.long))) ∙ sym (append-nil (take (header_length + deadline_stride * i) l))
       ∙ rw (drop_end d.processes i (omega (arith, done.size)) (omega (arith, done.size, done.most))) at done.written

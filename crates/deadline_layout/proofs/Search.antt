@@ -13,7 +13,7 @@ use Rattle.deadlines.specs.Deadlines.{sound_with, first_last}
 use Rattle.deadlines.proofs.Search.{whole_tells_with}
 use Rattle.deadline_layout.specs.Encodings.{deadline_length, state_with_in}
 use Rattle.deadline_layout.specs.Search.{DeadlineTableSearchTellsFirst, DeadlineTableSearchFindsFault}
-use Rattle.deadline_layout.proofs.Encodings.{table_fits, sound-is-table, table-is-sound}
+use Rattle.deadline_layout.proofs.Encodings.{table_fits, sound_is_table, table_is_sound}
 use Rattle.deadline_layout.proofs.Surveys.{tell_sound, Found, faulty, whole, survey_found}
 use Rattle.deadline_layout.proofs.Lending.{first_sound, found_sound}
 
@@ -24,9 +24,9 @@ found_tells l acting {f} (whole u w) e sound = whole_tells_with (state_with_in l
 
 pub deadline_table_search_tells_first : DeadlineTableSearchTellsFirst
 deadline_table_search_tells_first l acting e =
-    let fits = table_fits l (sound-is-table l e) in
+    let fits = table_fits l (sound_is_table l e) in
     found_tells (take deadline_length l) acting (survey_found (take deadline_length l) (length-take-le deadline_length l fits) acting)
-    (sym (first_sound l fits) ∙ e) (table-is-sound l e)
+    (sym (first_sound l fits) ∙ e) (table_is_sound l e)
 
 pub deadline_table_search_finds_fault : DeadlineTableSearchFindsFault
 deadline_table_search_finds_fault l acting fits e = eqb-false _ 0 (found_sound l fits acting refl ∙ e)

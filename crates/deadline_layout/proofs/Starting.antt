@@ -32,18 +32,18 @@ fresh_whole k =
     (λ e. record { limits = (limits_parts k (not-false _ e)).size; entries = refl }))
 
 module _ (k : Parameters) (table : List ℕ) {o : DeadlineOutcome} (e : o ≡ fresh_with k) where
-  pub fresh-refused : o.answer.code ≢ 0 → lent_gave o.answer table ≡ lent_fresh_with k table
+  pub fresh_refused : o.answer.code ≢ 0 → lent_gave o.answer table ≡ lent_fresh_with k table
   unfolding lent_fresh_with
-  fresh-refused h = rw e (simp (ne_eqb (fresh_with k).answer.code 0 (rw e at h)))
+  fresh_refused h = rw e (simp (ne_eqb (fresh_with k).answer.code 0 (rw e at h)))
 
   module _ (h : o.answer.code ≡ 0) where
-    pub fresh-short : length table < deadline_length → {r : Answer} → r ≡ answer_of 16 0 0 → lent_gave r table ≡ lent_fresh_with k table
+    pub fresh_short : length table < deadline_length → {r : Answer} → r ≡ answer_of 16 0 0 → lent_gave r table ≡ lent_fresh_with k table
     unfolding lent_fresh_with
-    fresh-short short f = rw f (simp (eq-eqb (fresh_with k).answer.code 0 (rw e at h), lt-ltb _ _ short))
+    fresh_short short f = rw f (simp (eq-eqb (fresh_with k).answer.code 0 (rw e at h), lt-ltb _ _ short))
 
-    pub fresh-saved : deadline_length ≤ length table → {new : List ℕ} → new ≡ state_numbers_with o.state
+    pub fresh_saved : deadline_length ≤ length table → {new : List ℕ} → new ≡ state_numbers_with o.state
         → lent_gave o.answer (new ++ drop deadline_length table) ≡ lent_fresh_with k table
     unfolding lent_fresh_with
-    fresh-saved fits f =
+    fresh_saved fits f =
         lent-gave refl (front_over deadline_length table f (ap length f ∙ table-length o.state (rw e (fresh_whole k))))
         ∙ rw e (simp (eq-eqb (fresh_with k).answer.code 0 (rw e at h), le-ltb _ _ fits))

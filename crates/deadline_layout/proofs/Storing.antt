@@ -7,7 +7,7 @@ use lib.ListN.{length, set}
 use Rattle.model.specs.declared.Parameters.{Parameters}
 use Rattle.layout.specs.Encodings.{header_numbers}
 use Rattle.layout.specs.Places.{clocked}
-use Rattle.layout.proofs.Numbers.{stored-behind}
+use Rattle.layout.proofs.Numbers.{stored_behind}
 use Rattle.deadlines.specs.declared.DeadlineLocation.{DeadlineLocation}
 use Rattle.deadlines.specs.declared.DeadlineProcess.{DeadlineProcess}
 use Rattle.deadlines.specs.declared.DeadlineState.{DeadlineState}
@@ -34,17 +34,17 @@ module _ (k : Parameters) (size : length k.a ≡ 96) (clock word : ℕ) where
   header = header_numbers k clock word
 
   -- an entry stored behind what stands before the entries is stored among them
-  placed-behind : (qs : List DeadlineProcess) (i : ℕ) (to : DeadlineLocation)
+  placed_behind : (qs : List DeadlineProcess) (i : ℕ) (to : DeadlineLocation)
       → placed_with (header ++ deadline_numbers qs) i to ≡ header ++ deadline_numbers (set qs i (entry_with to))
-  placed-behind qs i to =
+  placed_behind qs i to =
       let ns = deadline_numbers qs in
       let staged = set ns (deadline_stride * i) (stage_with to) in
       let opened = set staged (deadline_stride * i + 1) (first_of to) in
       ap (λ (l : List ℕ). set (set l (first_place i) (first_of to)) (last_place i) (last_of to))
-      (stored-behind k size clock word ns (stage_place_with i) (deadline_stride * i) (stage_with to) refl)
+      (stored_behind k size clock word ns (stage_place_with i) (deadline_stride * i) (stage_with to) refl)
       ∙ ap (λ (l : List ℕ). set l (last_place i) (last_of to))
-      (stored-behind k size clock word staged (first_place i) (deadline_stride * i + 1) (first_of to) (omega arith))
-      ∙ stored-behind k size clock word opened (last_place i) (deadline_stride * i + 2) (last_of to) (omega arith)
+      (stored_behind k size clock word staged (first_place i) (deadline_stride * i + 1) (first_of to) (omega arith))
+      ∙ stored_behind k size clock word opened (last_place i) (deadline_stride * i + 2) (last_of to) (omega arith)
       ∙ ap (λ (l : List ℕ). header ++ l) (sym (entries_set qs i (entry_with to)))
 
 -- at another time, with another word and entry i in another location
@@ -52,7 +52,7 @@ pub moved_stored : (d : DeadlineState) → length d.parameters.a ≡ 96 → (m w
     → state_numbers_with (changed_with d m word (set d.processes i (entry_with to))) ≡ clocked (placed_with (state_numbers_with d) i to) m word
 unfolding state_numbers_with
 moved_stored d size m word i to =
-    sym (ap (λ (l : List ℕ). clocked l m word) (placed-behind d.parameters size d.clock d.word d.processes i to))
+    sym (ap (λ (l : List ℕ). clocked l m word) (placed_behind d.parameters size d.clock d.word d.processes i to))
 
 -- after a wait
 pub waited_stored : (d : DeadlineState) (m : ℕ)

@@ -30,12 +30,12 @@ use Rattle.deadlines.specs.Deadlines.{stage_with, deadline_at, idle_with, entrie
 use Rattle.deadlines.specs.Matching.{arrived}
 use Rattle.deadlines.specs.Looks.{location_noted}
 use Rattle.deadlines.proofs.Passing.{standing_with, sound_parts_with, numbers_fault_with, small, PassedWith, SurveyedWith, nothing_passed_with}
-use Rattle.deadlines.proofs.Passing.{turn-fault-with, turn-passed-with, passed_whole_with, idle-passed-with}
+use Rattle.deadlines.proofs.Passing.{turn_fault_with, turn_passed_with, passed_whole_with, idle_passed_with}
 use Rattle.deadlines.proofs.Passing as passing
 use Rattle.deadline_layout.specs.Encodings.{deadline_stride, deadline_length, stage_place_with, first_place, last_place, are_deadlines, state_with_in}
 use Rattle.deadline_layout.specs.Places.{tells_at, entries_from, entries_told, first_entries}
 use Rattle.deadline_layout.specs.Steps.{numbers_noted_with, entries_noted_with, Ready, pass_with, survey_with}
-use Rattle.deadline_layout.proofs.Entries.{entry_at, entries_size, next-told, first_next, left_zero}
+use Rattle.deadline_layout.proofs.Entries.{entry_at, entries_size, next_told, first_next, left_zero}
 
 -- Whether the numbers of a deadline table tell a sound one
 
@@ -54,8 +54,8 @@ module _ (l : List ℕ) (long : length l ≡ deadline_length) (acting : ℕ) whe
   abbrev n : ℕ
   n = count_in l
 
-  unsound-found : tell_sound l ≡ false → Found l acting unsound
-  unsound-found e = faulty e (λ z. omega arith)
+  unsound_found : tell_sound l ≡ false → Found l acting unsound
+  unsound_found e = faulty e (λ z. omega arith)
 
   -- where the state is not sound, the numbers tell no sound one
   not_sound : sound_with d ≡ false → tell_sound l ≡ false
@@ -76,35 +76,35 @@ module _ (l : List ℕ) (long : length l ≡ deadline_length) (acting : ℕ) whe
 
     -- it tells no location
     module _ (e : tells_at l i ≡ false) where
-      not-told : tell_sound l ≡ false
-      not-told =
+      not_told : tell_sound l ≡ false
+      not_told =
           let none : are_deadlines (entries_from l i) ≡ false =
-          next-told l long i more ∙ ap (λ (u : Bool). u && are_deadlines (entries_from l (i + 1))) e in
+          next_told l long i more ∙ ap (λ (u : Bool). u && are_deadlines (entries_from l (i + 1))) e in
           ap (λ (u : Bool). u && sound_with d) (sym along.told ∙ none)
 
-      next-unsound : next ≡ unsound
+      next_unsound : next ≡ unsound
       unfolding numbers_noted_with
-      next-unsound = rw e
+      next_unsound = rw e
 
     -- it tells the location that the state has there
     abbrev looked : DeadlineLocation → Survey
     looked q = location_noted (scene_in l acting) (i + 1) q (b_in l) (limit_at (limits_told l) (i + 1)) f
 
     module _ (e : tells_at l i ≡ true) where
-      is-noted : next ≡ looked (get_or d.processes i idle_with).location
+      is_noted : next ≡ looked (get_or d.processes i idle_with).location
       unfolding numbers_noted_with
-      is-noted = rw e (ap (λ (q : DeadlineProcess). looked q.location) (sym (entry_at l long i more idle_with)))
+      is_noted = rw e (ap (λ (q : DeadlineProcess). looked q.location) (sym (entry_at l long i more idle_with)))
 
-      next-along : next.faulty ≡ 0 → Along (i + 1) next
+      next_along : next.faulty ≡ 0 → Along (i + 1) next
       unfolding state_with_in
-      next-along z = record {
-        passed = turn-passed-with d acting i (i + 1) f along.passed more refl idle_with next is-noted z;
-        told = sym (next-told l long i more ∙ rw e) ∙ along.told;
+      next_along z = record {
+        passed = turn_passed_with d acting i (i + 1) f along.passed more refl idle_with next is_noted z;
+        told = sym (next_told l long i more ∙ rw e) ∙ along.told;
       }
 
-      next-fault : next.faulty ≢ 0 → tell_sound l ≡ false
+      next_fault : next.faulty ≢ 0 → tell_sound l ≡ false
       unfolding state_with_in
-      next-fault z = not_sound (turn-fault-with d acting i (i + 1) f along.passed more refl idle_with next is-noted z)
+      next_fault z = not_sound (turn_fault_with d acting i (i + 1) f along.passed more refl idle_with next is_noted z)
 
   -- The entries up to n
 
@@ -113,25 +113,25 @@ module _ (l : List ℕ) (long : length l ≡ deadline_length) (acting : ℕ) whe
     fault : tell_sound l ≡ false → Ends unsound
     along : {f : Survey} → Along n f → Ends f
 
-  pass-ends : (j i : ℕ) (f : Survey) → i + j ≡ n → n ≤ 96 → Along i f
+  pass_ends : (j i : ℕ) (f : Survey) → i + j ≡ n → n ≤ 96 → Along i f
       → Ends (entries_noted_with (b_in l) (limits_told l) (scene_in l acting) (i + 1) (first_entries j (entries_from l i)) f)
   unfolding entries_noted_with
-  pass-ends zero i f e few a = along (subst (λ (k : ℕ). Along k f) (omega arith) a)
-  pass-ends (suc j) i f e few a =
+  pass_ends zero i f e few a = along (subst (λ (k : ℕ). Along k f) (omega arith) a)
+  pass_ends (suc j) i f e few a =
       let more : i < 96 = omega arith in
       rw (first_next l long j i more)
       (by_test {A = Ends _} (tells_at l i)
       (λ t. by_cond Ends (eqb (next i f a more).faulty 0)
-      (λ z. pass-ends j (i + 1) (next i f a more) (omega arith) few (next-along i f a more t (eqb-true _ _ z)))
-      (λ z. fault (next-fault i f a more t (eqb-false _ _ z))))
-      (λ t. rw (next-unsound i f a more t) (fault (not-told i f a more t))))
+      (λ z. pass_ends j (i + 1) (next i f a more) (omega arith) few (next_along i f a more t (eqb-true _ _ z)))
+      (λ z. fault (next_fault i f a more t (eqb-false _ _ z))))
+      (λ t. rw (next_unsound i f a more t) (fault (not_told i f a more t))))
 
   -- The entries above n
 
   -- they decide
-  above-tells : n ≤ 96 → {f : Survey} → Along n f → tell_sound l ≡ are_zero (entries_from l n)
+  above_tells : n ≤ 96 → {f : Survey} → Along n f → tell_sound l ≡ are_zero (entries_from l n)
   unfolding state_with_in
-  above-tells few {f} a = (λ i. sym a.told i && left i) ∙ left_zero l long n few refl
+  above_tells few {f} a = (λ i. sym a.told i && left i) ∙ left_zero l long n few refl
     where
       left : sound_with d ≡ entries_sound_with d (n + 1) (drop n d.processes)
       left = sound_parts_with d ∙ rw a.passed.passed.stand (sym a.passed.sound)
@@ -140,38 +140,38 @@ module _ (l : List ℕ) (long : length l ≡ deadline_length) (acting : ℕ) whe
 
   module _ (zeros : are_zero (entries_from l n) ≡ true) where
     -- behind those up to n each number is 0
-    number-zero : (k : ℕ) → stage_place_with n ≤ k → get_or l k 0 ≡ 0
-    number-zero k h =
+    number_zero : (k : ℕ) → stage_place_with n ≤ k → get_or l k 0 ≡ 0
+    number_zero k h =
         let e : stage_place_with n + (k - stage_place_with n) ≡ k = omega arith in
         sym (ap (λ (j : ℕ). get_or l j 0) e) ∙ sym (get_or-drop (stage_place_with n) l (k - stage_place_with n) 0)
         ∙ zero_at (entries_from l n) (k - stage_place_with n) zeros
 
-    idle-above : (i : ℕ) → n ≤ i → i < 96 → stage_with (get_or d.processes i idle_with).location ≡ remainder
-    idle-above i h more =
+    idle_above : (i : ℕ) → n ≤ i → i < 96 → stage_with (get_or d.processes i idle_with).location ≡ remainder
+    idle_above i h more =
         ap (λ (q : DeadlineProcess). stage_with q.location) (entry_at l long i more idle_with)
-        ∙ ap (λ (k : ℕ). stage_with (deadline_at k (get_or l (first_place i) 0) (get_or l (last_place i) 0))) (number-zero (stage_place_with i) (omega arith))
+        ∙ ap (λ (k : ℕ). stage_with (deadline_at k (get_or l (first_place i) 0) (get_or l (last_place i) 0))) (number_zero (stage_place_with i) (omega arith))
 
-    above-passed : (j i : ℕ) (f : Survey) → i + j ≡ 96 → n ≤ i → PassedWith d acting i f → PassedWith d acting 96 f
-    above-passed zero i f e h p = subst (λ (k : ℕ). PassedWith d acting k f) (omega arith) p
-    above-passed (suc j) i f e h p =
+    above_passed : (j i : ℕ) (f : Survey) → i + j ≡ 96 → n ≤ i → PassedWith d acting i f → PassedWith d acting 96 f
+    above_passed zero i f e h p = subst (λ (k : ℕ). PassedWith d acting k f) (omega arith) p
+    above_passed (suc j) i f e h p =
         let more : i < 96 = omega arith in
-        above-passed j (i + 1) f (omega arith) (omega arith) (idle-passed-with d acting i f p more idle_with (idle-above i h more))
+        above_passed j (i + 1) f (omega arith) (omega arith) (idle_passed_with d acting i f p more idle_with (idle_above i h more))
 
     all_found : n ≤ 96 → {f : Survey} → Along n f → Found l acting f
     all_found few {f} a =
-        go (passed_whole_with d acting 96 f (above-passed (96 - n) n f (omega arith) (omega arith) a.passed) (omega arith))
+        go (passed_whole_with d acting 96 f (above_passed (96 - n) n f (omega arith) (omega arith) a.passed) (omega arith))
       where
         go : SurveyedWith d acting f → Found l acting f
         go (passing.faulty e z) = absurd (z a.passed.passed.faultless)
-        go (passing.whole e w) = whole (above-tells few a ∙ zeros) w
+        go (passing.whole e w) = whole (above_tells few a ∙ zeros) w
 
   -- of what the entries up to n give, the table is told by those above
   ends_found : n ≤ 96 → {f : Survey} → Ends f
       → Found l acting (cond (not (eqb f.faulty 0)) unsound (cond (not (are_zero (entries_from l n))) unsound f))
-  ends_found few (fault e) = unsound-found e
+  ends_found few (fault e) = unsound_found e
   ends_found few (along {f} a) =
       rw (eq-eqb f.faulty 0 a.passed.passed.faultless)
-      (by_cond (Found l acting) (not (are_zero (entries_from l n))) (λ z. unsound-found (above-tells few a ∙ not-true _ z))
+      (by_cond (Found l acting) (not (are_zero (entries_from l n))) (λ z. unsound_found (above_tells few a ∙ not-true _ z))
       (λ z. all_found (not-false _ z) few a))
 
 -- All of it
@@ -180,11 +180,11 @@ pub survey_found : (l : List ℕ) → length l ≡ deadline_length → (acting :
 unfolding survey_with state_with_in
 survey_found l long acting =
     by_cond (Found l acting) (not (standing_with (state_with_in l)))
-    (λ e. unsound-found l long acting (not_sound l long acting (numbers_fault_with (state_with_in l) (not-true _ e))))
+    (λ e. unsound_found l long acting (not_sound l long acting (numbers_fault_with (state_with_in l) (not-true _ e))))
     (λ e. let stand : standing_with (state_with_in l) ≡ true = not-false _ e in
     let few = (small (state_with_in l) stand).few in
     ends_found l long acting few
-    (pass-ends l long acting (state_with_in l).parameters.n 0 nothing (omega arith) few
+    (pass_ends l long acting (state_with_in l).parameters.n 0 nothing (omega arith) few
     (record { passed = nothing_passed_with (state_with_in l) acting stand (entries_size l long); told = refl })))
 
 -- Of the function: what it gives back, from what the functions that it calls ensure
@@ -205,33 +205,33 @@ pass_ready l long {x} {acting} {end} stand x-is end_is =
     })
 
 module _ (l : List ℕ) (acting : ℕ) where
-  pub pass-is : {x : Scene} {end : ℕ} {f : Survey} → x ≡ scene_in l acting → end ≡ stage_place_with (count_in l)
+  pub pass_is : {x : Scene} {end : ℕ} {f : Survey} → x ≡ scene_in l acting → end ≡ stage_place_with (count_in l)
       → f ≡ entries_noted_with (b_in l) (limits_told l) x 1 (take (end - header_length) (drop header_length l)) nothing → f ≡ pass_with l acting
-  pass-is {end = end} x-is end_is f-is =
+  pass_is {end = end} x-is end_is f-is =
       let e : end - header_length ≡ deadline_stride * count_in l = omega arith in
       rw (x-is, e) at f-is
 
   -- and the other part those above
-  pub above-is : {end : ℕ} (bits : ℕ) → length l ≡ deadline_length → end ≡ stage_place_with (count_in l)
+  pub above_is : {end : ℕ} (bits : ℕ) → length l ≡ deadline_length → end ≡ stage_place_with (count_in l)
       → eqb bits 0 ≡ are_zero (take (deadline_length - end) (drop end l)) → eqb bits 0 ≡ are_zero (entries_from l (count_in l))
-  above-is {end = end} bits long end_is t-is =
+  above_is {end = end} bits long end_is t-is =
       let whole : take (deadline_length - end) (drop end l) ≡ drop end l =
       ap (λ (k : ℕ). take (k - end) (drop end l)) (sym long) ∙ part_is l end in
       t-is ∙ ap are_zero (whole ∙ ap (λ (k : ℕ). drop k l) end_is)
 
-  pub standing-not : numbers_stand (table_parameters l) (clock_in l) (word_in l) ≡ false → unsound ≡ survey_with l acting
+  pub standing_not : numbers_stand (table_parameters l) (clock_in l) (word_in l) ≡ false → unsound ≡ survey_with l acting
   unfolding survey_with
-  standing-not e = rw e
+  standing_not e = rw e
 
   module _ (stand : numbers_stand (table_parameters l) (clock_in l) (word_in l) ≡ true) {f : Survey} (is : f ≡ pass_with l acting) where
-    pub pass-faulty : f.faulty ≢ 0 → unsound ≡ survey_with l acting
+    pub pass_faulty : f.faulty ≢ 0 → unsound ≡ survey_with l acting
     unfolding survey_with
-    pass-faulty z = rw (stand, ← is, ne_eqb f.faulty 0 z)
+    pass_faulty z = rw (stand, ← is, ne_eqb f.faulty 0 z)
 
     module _ (z : f.faulty ≡ 0) where
-      pub above-not : are_zero (entries_from l (count_in l)) ≡ false → unsound ≡ survey_with l acting
+      pub above_not : are_zero (entries_from l (count_in l)) ≡ false → unsound ≡ survey_with l acting
       unfolding survey_with
-      above-not e = rw (stand, ← is, eq-eqb f.faulty 0 z, e)
+      above_not e = rw (stand, ← is, eq-eqb f.faulty 0 z, e)
 
       pub all_sound : are_zero (entries_from l (count_in l)) ≡ true → f ≡ survey_with l acting
       unfolding survey_with

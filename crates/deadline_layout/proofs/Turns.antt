@@ -30,30 +30,30 @@ module _ (ns a : List ℕ) (b : ℕ) (x : Scene) where
 
   module _ (ready : Ready ns a b x) where
     -- entry i, of which g is found
-    noted-next : (i j : ℕ) → j ≡ i + 1 → i < x.n → (f g : Survey) → g ≡ look_in ns a b x i f → left i f ≡ cond (eqb g.faulty 0) (left j g) unsound
+    noted_next : (i j : ℕ) → j ≡ i + 1 → i < x.n → (f g : Survey) → g ≡ look_in ns a b x i f → left i f ≡ cond (eqb g.faulty 0) (left j g) unsound
     unfolding entries_noted_with
-    noted-next i j next here f g e =
+    noted_next i j next here f g e =
         let on : deadline_stride * (i + 1) ≡ deadline_stride * i + 3 = omega arith in
         rw (next, e, on, three_at ns (deadline_stride * i) 0 (omega (arith, ready.long)))
 
-    pub noted-end : (i : ℕ) (f : Survey) → i ≡ x.n → left i f ≡ f
+    pub noted_end : (i : ℕ) (f : Survey) → i ≡ x.n → left i f ≡ f
     unfolding entries_noted_with
-    noted-end i f e = rw (drop_end ns (deadline_stride * i) (omega (arith, ready.long)) (omega (arith, ready.long)))
+    noted_end i f e = rw (drop_end ns (deadline_stride * i) (omega (arith, ready.long)) (omega (arith, ready.long)))
 
     module _ (i : ℕ) (here : i < x.n) (f : Survey) {r : Bool} (stands : Stands ns a b x i r) where
       -- its numbers do not stand
-      pub turn-fault : r ≡ false → unsound ≡ left i f
-      turn-fault e =
+      pub turn_fault : r ≡ false → unsound ≡ left i f
+      turn_fault e =
           let is : unsound ≡ look_in ns a b x i f = sym (rw e at (stands.look f)) in
-          sym (noted-next i (i + 1) (omega arith) here f unsound is)
+          sym (noted_next i (i + 1) (omega arith) here f unsound is)
 
       module _ (e : r ≡ true) {g : Survey} (noted : g ≡ standing_noted ns x i f) where
-        is-look : g ≡ look_in ns a b x i f
-        is-look = noted ∙ sym (rw e at (stands.look f))
+        is_look : g ≡ look_in ns a b x i f
+        is_look = noted ∙ sym (rw e at (stands.look f))
 
         -- its last time is before the clock
-        pub turn-late : g.faulty ≢ 0 → unsound ≡ left i f
-        turn-late n = sym (noted-next i (i + 1) (omega arith) here f g is-look ∙ rw (ne_eqb g.faulty 0 n))
+        pub turn_late : g.faulty ≢ 0 → unsound ≡ left i f
+        turn_late n = sym (noted_next i (i + 1) (omega arith) here f g is_look ∙ rw (ne_eqb g.faulty 0 n))
 
         pub turn_on : (j : ℕ) → j ≡ i + 1 → g.faulty ≡ 0 → left i f ≡ left j g
-        turn_on j next z = noted-next i j next here f g is-look ∙ rw (eq-eqb g.faulty 0 z)
+        turn_on j next z = noted_next i j next here f g is_look ∙ rw (eq-eqb g.faulty 0 z)

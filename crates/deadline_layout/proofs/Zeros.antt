@@ -24,14 +24,14 @@ swap false x b z = refl
 
 module _ (l : List ℕ) (even odd i : ℕ) (h : i < length l) where
   -- a number more
-  pub even-next : zero_from l (bit_or even (get_or l i 0)) odd (i + 1) ≡ zero_from l even odd i
+  pub even_next : zero_from l (bit_or even (get_or l i 0)) odd (i + 1) ≡ zero_from l even odd i
   unfolding are_zero
-  even-next =
+  even_next =
       rw (or_zero even (get_or l i 0), drop_at l i 0 h) (swap (eqb even 0) (eqb (get_or l i 0) 0) (eqb odd 0) (are_zero (drop (i + 1) l)))
 
-  pub odd-next : zero_from l even (bit_or odd (get_or l i 0)) (i + 1) ≡ zero_from l even odd i
+  pub odd_next : zero_from l even (bit_or odd (get_or l i 0)) (i + 1) ≡ zero_from l even odd i
   unfolding are_zero
-  odd-next =
+  odd_next =
       rw (or_zero odd (get_or l i 0), drop_at l i 0 h)
       (ap (λ (t : Bool). t && are_zero (drop (i + 1) l)) (sym (and_assoc (eqb even 0) (eqb odd 0) (eqb (get_or l i 0) 0)))
       ∙ and_assoc (eqb even 0 && eqb odd 0) (eqb (get_or l i 0) 0) (are_zero (drop (i + 1) l)))
@@ -41,7 +41,7 @@ pub two_next : (l : List ℕ) (even odd i : ℕ) → i + 1 < length l
     → zero_from l (bit_or even (get_or l i 0)) (bit_or odd (get_or l (i + 1) 0)) (i + 2) ≡ zero_from l even odd i
 two_next l even odd i h =
     let e : i + 2 ≡ i + 1 + 1 = omega arith in
-    rw e (odd-next l (bit_or even (get_or l i 0)) odd (i + 1) h) ∙ even-next l even odd i (omega arith)
+    rw e (odd_next l (bit_or even (get_or l i 0)) odd (i + 1) h) ∙ even_next l even odd i (omega arith)
 
 -- three more, all to one
 pub three_next : (l : List ℕ) (even odd i : ℕ) → i + 2 < length l
@@ -49,8 +49,8 @@ pub three_next : (l : List ℕ) (even odd i : ℕ) → i + 2 < length l
 three_next l even odd i h =
     let e : i + 3 ≡ i + 2 + 1 = omega arith in
     let f : i + 2 ≡ i + 1 + 1 = omega arith in
-    rw (e, f) (even-next l (bit_or (bit_or even (get_or l i 0)) (get_or l (i + 1) 0)) odd (i + 1 + 1) (omega arith)
-    ∙ even-next l (bit_or even (get_or l i 0)) odd (i + 1) (omega arith) ∙ even-next l even odd i (omega arith))
+    rw (e, f) (even_next l (bit_or (bit_or even (get_or l i 0)) (get_or l (i + 1) 0)) odd (i + 1 + 1) (omega arith)
+    ∙ even_next l (bit_or even (get_or l i 0)) odd (i + 1) (omega arith) ∙ even_next l even odd i (omega arith))
 
 -- nothing is left
 pub zero_end : (l : List ℕ) (even odd i : ℕ) → length l ≡ i → eqb (bit_or even odd) 0 ≡ zero_from l even odd i

@@ -1,5 +1,7 @@
 // Tables of the second engine as lent numbers: what stands where, and the calls on it. A step is judged where the numbers lie: no state is made
 // of them. No other code knows a place of a deadline table.
+#![tactic(auto)]
+
 mod arrivals;
 mod conversions;
 mod steps;

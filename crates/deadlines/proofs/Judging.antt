@@ -60,9 +60,9 @@ module _ (f : Survey) (x : Scene) (place release other : ℕ) (t : Transition) (
       → ends release ≡ ends other
   ends_same known named some placed = by_test (eqb act check_act) (λ c. ap ends (e known named some placed (eqb-true act check_act c))) (λ c. rw c)
 
-  pub judged-same : judged f x place release t act m ≡ judged f x place other t act m
+  pub judged_same : judged f x place release t act m ≡ judged f x place other t act m
   unfolding judged turn_judged
-  judged-same =
+  judged_same =
       cond_same (answer_of 1 0 0) (not (eqb f.faulty 0)) (λ _. cond_same (answer_of 4 0 x.clock) (ltb m x.clock) (λ _.
       cond_same (answer_of 5 0 0) (beyond m) (λ _. cond_same (answer_of 6 0 0) (unknown act) (λ known.
       cond_same (answer_of 7 0 0) (misnamed x.n act x.acting) (λ named.
@@ -85,10 +85,10 @@ module _ (s : State) (act p m : ℕ) where
   k = s.parameters
 
   -- what the first engine does, with the states that match
-  goes-matched : (o : Outcome) (j : Answer) → Goes s act p m o j → GoesWith (matched s) act p m (outcome_matched o) j
-  goes-matched o j (refuses e n) = refuse (ap outcome_matched e) n
-  goes-matched o j (waits a z e h) = wait a z (ap outcome_matched e) h
-  goes-matched o j (moves some known from to e h) = move some known from to (ap outcome_matched e ∙ (λ i. record { answer = j; state = sym same i })) h
+  goes_matched : (o : Outcome) (j : Answer) → Goes s act p m o j → GoesWith (matched s) act p m (outcome_matched o) j
+  goes_matched o j (refuses e n) = refuse (ap outcome_matched e) n
+  goes_matched o j (waits a z e h) = wait a z (ap outcome_matched e) h
+  goes_matched o j (moves some known from to e h) = move some known from to (ap outcome_matched e ∙ (λ i. record { answer = j; state = sym same i })) h
     where
       same : moved_with (matched s) p m (transition_of s.word act p m) ≡ matched (moved s p m (transition_of s.word act p m))
       same = moved_same s p m (transition_of s.word act p m) from
@@ -97,11 +97,11 @@ module _ (s : State) (act p m : ℕ) where
       (own_is : 1 ≤ p → p ≤ 96 → own ≡ (entry_in (matched s) p).location)
       (t-is : act ≢ wait_act → act ≤ last_act → t ≡ transition_of s.word act p m) where
     -- the location of the acting process, with its times and with its arrival
-    own-dated : 1 ≤ p → p ≤ 96 → own ≡ dated_at k (1 + (p - 1)) (entry_of s p).location
-    own-dated from to = own_is from to ∙ ap (λ (q : DeadlineProcess). q.location) (entry_in s p)
+    own_dated : 1 ≤ p → p ≤ 96 → own ≡ dated_at k (1 + (p - 1)) (entry_of s p).location
+    own_dated from to = own_is from to ∙ ap (λ (q : DeadlineProcess). q.location) (entry_in s p)
 
-    own-arrived : 1 ≤ p → p ≤ 96 → arrived_at k.b own ≡ (entry_of s p).location
-    own-arrived from to = ap (arrived_at k.b) (own-dated from to) ∙ (dated_is k (1 + (p - 1)) (entry_of s p).location).back
+    own_arrived : 1 ≤ p → p ≤ 96 → arrived_at k.b own ≡ (entry_of s p).location
+    own_arrived from to = ap (arrived_at k.b) (own_dated from to) ∙ (dated_is k (1 + (p - 1)) (entry_of s p).location).back
 
     past : since_of (entry_of s p).location ≤ s.clock
     unfolding entry_of
@@ -114,25 +114,25 @@ module _ (s : State) (act p m : ℕ) where
     release_is known named some placed check =
         let h = simp tests at (rw (ne_eqb act wait_act some) at named) in
         let range : (1 ≤ p) × (p ≤ 96) = omega (arith, h, (sound_numbers s found.sound).count) in
-        let same = own-arrived range.0 range.1 in
+        let same = own_arrived range.0 range.1 in
         let from : t.from ≡ checking =
         ap (λ (r : Transition). r.from) (t-is some (ltb-false last_act act known)) ∙ row_leaves s.word act p m ∙ rw check in
         let stage : stage_of (entry_of s p).location ≡ checking = ap stage_of (sym same) ∙ eqb-true _ _ placed ∙ from in
         let first : first_of own ≡ release_in k (entry_of s p).location =
-        ap first_of (own-dated range.0 range.1) ∙ (dated_is k (1 + (p - 1)) (entry_of s p).location).first in
+        ap first_of (own_dated range.0 range.1) ∙ (dated_is k (1 + (p - 1)) (entry_of s p).location).first in
         let fit : check_from (arrived_at k.b own) k.b ≡ since_of (entry_of s p).location + k.b =
         rw same (mod-eq_of_lt (omega (arith, past, sound_numbers s found.sound))) in
         (rw (eq-eqb (stage_of (entry_of s p).location) checking stage) at first) ∙ sym fit
 
-    matched-goes : GoesWith (matched s) act p m (step_with (matched s) act p m)
+    matched_goes : GoesWith (matched s) act p m (step_with (matched s) act p m)
         (judged f (scene_of k s.clock p) (stage_with own) (first_of own) t act m)
-    matched-goes =
+    matched_goes =
         rw (
           step_same s act p m,
           sym (stage_arrived k.b own),
-          judged-same f (scene_of k s.clock p) (stage_of (arrived_at k.b own)) (first_of own) (check_from (arrived_at k.b own) k.b) t act m release_is,
+          judged_same f (scene_of k s.clock p) (stage_of (arrived_at k.b own)) (first_of own) (check_from (arrived_at k.b own) k.b) t act m release_is,
         )
-        (goes-matched (step_of s act p m) _ (goes s act p m f (arrived_at k.b own) t (pass.whole found) size own-arrived t-is))
+        (goes_matched (step_of s act p m) _ (goes s act p m f (arrived_at k.b own) t (pass.whole found) size own_arrived t-is))
 
 -- Any state of deadlines
 
@@ -156,7 +156,7 @@ pub goes_with : (d : DeadlineState) (act p m : ℕ) (f : Survey) (own : Deadline
 goes_with d act p m f own t (faulty e n) size = unsound_goes d act p m f own t e n
 goes_with d act p m f own t (whole e w) size =
     subst (Going act p m f own t) (sound_matched d e)
-    (matched-goes (arrived d) act p m f w (length_arrived d.parameters d.processes ∙ size) own t)
+    (matched_goes (arrived d) act p m f w (length_arrived d.parameters d.processes ∙ size) own t)
 
 -- The exits of the function
 

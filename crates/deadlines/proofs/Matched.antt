@@ -29,8 +29,8 @@ use Rattle.model.proofs.Tests.{by_test, clash, tests, and_true_iff}
 pub add-zero : (i : ℕ) → i + 0 ≡ i
 add-zero i = omega arith
 
-add-next : (i j : ℕ) → i + 1 + j ≡ i + suc j
-add-next i j = omega arith
+add_next : (i j : ℕ) → i + 1 + j ≡ i + suc j
+add_next i j = omega arith
 
 -- A location
 
@@ -94,7 +94,7 @@ pub dated-at : (k : Parameters) (i : ℕ) (qs : List Process) (j : ℕ)
 unfolding dated_from
 dated-at k i [] j = refl
 dated-at k i (q ∷ qs) zero = rw (add-zero i)
-dated-at k i (q ∷ qs) (suc j) = dated-at k (i + 1) qs j ∙ rw (add-next i j)
+dated-at k i (q ∷ qs) (suc j) = dated-at k (i + 1) qs j ∙ rw (add_next i j)
 
 pub arrived-at : (k : Parameters) (es : List DeadlineProcess) (j : ℕ)
     → get_or (arrived_from k es) j idle ≡ entry (arrived_at k.b (get_or es j idle_with).location)
@@ -109,7 +109,7 @@ unfolding dated_from
 dated_set k i [] j l = refl
 dated_set k i (q ∷ qs) zero l = rw (add-zero i)
 dated_set k i (q ∷ qs) (suc j) l =
-    ap (λ (es : List DeadlineProcess). entry_with (dated_at k i q.location) ∷ es) (rw (sym (add-next i j)) (dated_set k (i + 1) qs j l))
+    ap (λ (es : List DeadlineProcess). entry_with (dated_at k i q.location) ∷ es) (rw (sym (add_next i j)) (dated_set k (i + 1) qs j l))
 
 pub arrived_dated : (k : Parameters) (i : ℕ) (qs : List Process) → arrived_from k (dated_from k i qs) ≡ qs
 unfolding dated_from arrived_from
@@ -123,11 +123,11 @@ module _ (s : State) where
   k = s.parameters
 
   -- two times of one arrival are sound where the arrival is
-  times-same : (t opens closes : ℕ)
+  times_same : (t opens closes : ℕ)
       → (eqb (t + opens) (t + opens - opens + opens) && eqb (t + closes) (t + opens - opens + closes))
       && leb (t + opens - opens) s.clock && not (ltb (t + closes) s.clock)
       ≡ leb t s.clock && not (ltb (t + closes) s.clock)
-  times-same t opens closes = rw (less_opens t opens, eq-eqb (t + opens) (t + opens) refl, eq-eqb (t + closes) (t + closes) refl)
+  times_same t opens closes = rw (less_opens t opens, eq-eqb (t + opens) (t + opens) refl, eq-eqb (t + closes) (t + closes) refl)
 
   -- up to n, in a timed location or in another
   up_to : (i x : ℕ) {u v : Bool} → u ≡ v → cond (leb i k.n) u (eqb x remainder) ≡ cond (leb i k.n) v (eqb x remainder)
@@ -136,25 +136,25 @@ module _ (s : State) where
   untimed : true ≡ leb 0 s.clock && true
   untimed = rw (le-leb 0 s.clock (omega arith))
 
-  entry-same : (i : ℕ) (l : Location) → entry_sound_with (matched s) i (entry_with (dated_at k i l)) ≡ entry_sound s i (entry l)
-  entry-same i Remainder = up_to i (stage_of Remainder) untimed
-  entry-same i (Testing t) = up_to i (stage_of (Testing t)) (times-same t 0 (limit_in k i))
-  entry-same i (Setting t) = up_to i (stage_of (Setting t)) (times-same t 0 (limit_in k i))
-  entry-same i (Checking t) = up_to i (stage_of (Checking t)) (times-same t k.b k.c)
-  entry-same i (Entering t) = up_to i (stage_of (Entering t)) (times-same t 0 (limit_in k i))
-  entry-same i Critical = up_to i (stage_of Critical) untimed
-  entry-same i (Resetting t) = up_to i (stage_of (Resetting t)) (times-same t 0 (limit_in k i))
-  entry-same i (Leaving t) = up_to i (stage_of (Leaving t)) (times-same t 0 (limit_in k i))
+  entry_same : (i : ℕ) (l : Location) → entry_sound_with (matched s) i (entry_with (dated_at k i l)) ≡ entry_sound s i (entry l)
+  entry_same i Remainder = up_to i (stage_of Remainder) untimed
+  entry_same i (Testing t) = up_to i (stage_of (Testing t)) (times_same t 0 (limit_in k i))
+  entry_same i (Setting t) = up_to i (stage_of (Setting t)) (times_same t 0 (limit_in k i))
+  entry_same i (Checking t) = up_to i (stage_of (Checking t)) (times_same t k.b k.c)
+  entry_same i (Entering t) = up_to i (stage_of (Entering t)) (times_same t 0 (limit_in k i))
+  entry_same i Critical = up_to i (stage_of Critical) untimed
+  entry_same i (Resetting t) = up_to i (stage_of (Resetting t)) (times_same t 0 (limit_in k i))
+  entry_same i (Leaving t) = up_to i (stage_of (Leaving t)) (times_same t 0 (limit_in k i))
 
   entries_same : (i : ℕ) (qs : List Process) → entries_sound_with (matched s) i (dated_from k i qs) ≡ entries_sound s i qs
   unfolding entries_sound_with entries_sound dated_from
   entries_same i [] = refl
-  entries_same i (q ∷ qs) = λ j. entry-same i q.location j && entries_same (i + 1) qs j
+  entries_same i (q ∷ qs) = λ j. entry_same i q.location j && entries_same (i + 1) qs j
 
   -- [12.35]
-  pub sound-same : sound_with (matched s) ≡ sound_of s
+  pub sound_same : sound_with (matched s) ≡ sound_of s
   unfolding sound_with sound_of
-  sound-same = rw (entries_same 1 s.processes)
+  sound_same = rw (entries_same 1 s.processes)
 
   -- which entries have a last time, and which one
   abbrev is_timed : DeadlineProcess → Bool
@@ -164,24 +164,24 @@ module _ (s : State) where
   last_by i q = last_of q.location
 
   -- the first deadline so far, one entry on
-  due-same : (i : ℕ) (l : Location) (first : Due)
+  due_same : (i : ℕ) (l : Location) (first : Due)
       → cond (sooner (timed_with (dated_at k i l)) (last_of (dated_at k i l)) first) (due i (last_of (dated_at k i l))) first
       ≡ cond (sooner (timed l) (deadline_in k i l) first) (due i (deadline_in k i l)) first
-  due-same i Remainder first = refl
-  due-same i (Testing t) first = refl
-  due-same i (Setting t) first = refl
-  due-same i (Checking t) first = refl
-  due-same i (Entering t) first = refl
-  due-same i Critical first = refl
-  due-same i (Resetting t) first = refl
-  due-same i (Leaving t) first = refl
+  due_same i Remainder first = refl
+  due_same i (Testing t) first = refl
+  due_same i (Setting t) first = refl
+  due_same i (Checking t) first = refl
+  due_same i (Entering t) first = refl
+  due_same i Critical first = refl
+  due_same i (Resetting t) first = refl
+  due_same i (Leaving t) first = refl
 
-  first-same : (i : ℕ) (first : Due) (qs : List Process)
+  first_same : (i : ℕ) (first : Due) (qs : List Process)
       → first_by is_timed last_by i first (dated_from k i qs) ≡ first_by (bounded s) (deadline s) i first qs
   unfolding first_by dated_from
-  first-same i first [] = refl
-  first-same i first (q ∷ qs) =
-      ap (λ (x : Due). first_by is_timed last_by (i + 1) x (dated_from k (i + 1) qs)) (due-same i q.location first) ∙ first-same (i + 1) _ qs
+  first_same i first [] = refl
+  first_same i first (q ∷ qs) =
+      ap (λ (x : Due). first_by is_timed last_by (i + 1) x (dated_from k (i + 1) qs)) (due_same i q.location first) ∙ first_same (i + 1) _ qs
 
   critical_same : (i : ℕ) (qs : List Process)
       → critical_by (λ (q : DeadlineProcess). stage_with q.location) i (dated_from k i qs) ≡ critical_by (λ (q : Process). stage_of q.location) i qs
@@ -189,25 +189,25 @@ module _ (s : State) where
   critical_same i [] = refl
   critical_same i (q ∷ qs) = rw ((dated_is k i q.location).stage, critical_same (i + 1) qs)
 
-  pub critical-with-same : critical_with (matched s) ≡ critical_of s
+  pub critical_with_same : critical_with (matched s) ≡ critical_of s
   unfolding critical_with critical_of
-  critical-with-same = critical_same 1 s.processes
+  critical_with_same = critical_same 1 s.processes
 
-  pub first-last-same : first_last (matched s) ≡ first_deadline s
+  pub first_last_same : first_last (matched s) ≡ first_deadline s
   unfolding first_last first_deadline
-  first-last-same = first-same 1 _ s.processes
+  first_last_same = first_same 1 _ s.processes
 
   -- the entry of a process
   pub entry_in : (p : ℕ) → entry_in (matched s) p ≡ entry_with (dated_at k (1 + (p - 1)) (entry_of s p).location)
   unfolding entry_in entry_of
   entry_in p = dated-at k 1 s.processes (p - 1)
 
-  sight-same : (p : ℕ) → sight_with (matched s) p ≡ sight_of s p
-  sight-same p = λ j. record {
-    sound = sound-same j;
+  sight_same : (p : ℕ) → sight_with (matched s) p ≡ sight_of s p
+  sight_same p = λ j. record {
+    sound = sound_same j;
     n = k.n;
     clock = s.clock;
-    due = first-last-same j;
+    due = first_last_same j;
     stage = (ap (λ (q : DeadlineProcess). stage_with q.location) (entry_in p) ∙ (dated_is k (1 + (p - 1)) (entry_of s p).location).stage) j;
     release = (ap (λ (q : DeadlineProcess). first_of q.location) (entry_in p) ∙ (dated_is k (1 + (p - 1)) (entry_of s p).location).first) j;
   }
@@ -220,9 +220,9 @@ module _ (s : State) where
       rw e at (dated_set k 1 s.processes (p - 1) t.to) in
       λ j. record { parameters = k; clock = m; word = t.word; processes = f j }
 
-  effect-same : (act p m : ℕ) → misnamed k.n act p ≡ false → effect_with (matched s) act p m ≡ matched (effect s act p m)
+  effect_same : (act p m : ℕ) → misnamed k.n act p ≡ false → effect_with (matched s) act p m ≡ matched (effect s act p m)
   unfolding effect_with effect
-  effect-same act p m named = by_test (eqb act wait_act) (λ e. rw e) (λ e. rw e (moved_same p m (transition_of s.word act p m) (from e)))
+  effect_same act p m named = by_test (eqb act wait_act) (λ e. rw e) (λ e. rw e (moved_same p m (transition_of s.word act p m) (from e)))
     where
       from : eqb act wait_act ≡ false → 1 ≤ p
       from e = omega (arith, simp tests at (rw e at named))
@@ -249,15 +249,15 @@ abbrev pub outcome_matched : Outcome → DeadlineOutcome
 outcome_matched o = record { answer = o.answer; state = matched o.state }
 
 accepts_same : (s : State) → accepts_with (matched s) ≡ outcome_matched (accepts s)
-accepts_same s = rw (critical-with-same s)
+accepts_same s = rw (critical_with_same s)
 
 -- [12.80]
 pub step_same : (s : State) (act p m : ℕ) → step_with (matched s) act p m ≡ outcome_matched (step_of s act p m)
 unfolding step_with step_of
 step_same s act p m =
-    ap (λ (v : Sight). judged_by v act p m (λ code process time. answers_with code process time (matched s)) next) (sight-same s p)
+    ap (λ (v : Sight). judged_by v act p m (λ code process time. answers_with code process time (matched s)) next) (sight_same s p)
     ∙ judged_map outcome_matched (sight_of s p) act p m (λ code process time. answers code process time s) (accepts (effect s act p m)) next
-    (λ named. rw (effect-same s act p m named) (accepts_same (effect s act p m)))
+    (λ named. rw (effect_same s act p m named) (accepts_same (effect s act p m)))
   where
     next : DeadlineOutcome
     next = accepts_with (effect_with (matched s) act p m)

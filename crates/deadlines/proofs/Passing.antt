@@ -21,9 +21,9 @@ use Rattle.deadlines.specs.Matching.{arrived_at, arrived}
 use Rattle.deadlines.specs.Looks.{bounds_noted, back_from, settled_by, location_noted, settled_at}
 use Rattle.model.proofs.Tests.{by_test, by_cond, if_lt, tests}
 use Rattle.model.proofs.Lists.{drop_at, drop_end, row_at}
-use Rattle.model.proofs.OwnLimits.{limits_parts, limit-fits}
+use Rattle.model.proofs.OwnLimits.{limits_parts, limit_fits}
 use Rattle.rules.proofs.Notes.{so_far_is}
-use Rattle.rules.proofs.Pass.{Passed, nothing_passed, turn-passed, passed_whole, Whole}
+use Rattle.rules.proofs.Pass.{Passed, nothing_passed, turn_passed, passed_whole, Whole}
 use Rattle.deadlines.proofs.Matched.{arrived-at, length_arrived}
 
 -- The numbers of a state of deadlines
@@ -55,7 +55,7 @@ small d e =
       clock = omega (arith, h);
       opens = omega (arith, parts.order, parts.most);
       closes = parts.most;
-      limit = limit-fits d.parameters h.0.0.1;
+      limit = limit_fits d.parameters h.0.0.1;
       few = omega (arith, h);
     }
 
@@ -124,9 +124,9 @@ module _ (d : DeadlineState) (acting i : ℕ) (f : Survey) (stand : standing_wit
           (rw (le-ltb d.clock since past, fits past, sym e))
           (rw (le-ltb last d.clock h) (by_cond (λ (g : Survey). g.faulty ≡ 0) (leb (due_so_far d.clock f) last) (λ _. so_far) (λ _. so_far))))
 
-      times-noted : Times are_sound (bounds_noted d.clock i first last opens closes f) found
+      times_noted : Times are_sound (bounds_noted d.clock i first last opens closes f) found
       unfolding bounds_noted
-      times-noted =
+      times_noted =
           by_cond (λ (g : Survey). Times are_sound g found) (ltb first opens)
           (λ e. bad (refuted (λ t. omega (arith, simp tests at t, ltb-true first opens e))) (λ z. omega arith))
           (λ e. let below : opens ≤ first = ltb-false first opens e in
@@ -152,13 +152,13 @@ module _ (d : DeadlineState) (acting i : ℕ) (f : Survey) (stand : standing_wit
   above q away h = fault (simp (lt-leb i k.n (ltb-true k.n i h), away)) (λ z. omega arith)
 
   -- a timed location, of which the tests of a look are computed
-  timed-looked : (q : DeadlineLocation) (opens closes : ℕ) → closes ≤ 10_000_000 → eqb (stage_with q) remainder ≡ false
+  timed_looked : (q : DeadlineLocation) (opens closes : ℕ) → closes ≤ 10_000_000 → eqb (stage_with q) remainder ≡ false
       → (ltb k.n i ≡ false → entry_sound_with d i (entry_with q) ≡ are_sound (first_of q) (last_of q) opens closes)
       → (ltb k.n i ≡ false → noted scene i (arrived_at k.b q) (limit_in k i) f ≡ found (first_of q) (last_of q) opens closes)
       → Looked q (cond (ltb k.n i) unsound (bounds_noted d.clock i (first_of q) (last_of q) opens closes f))
-  timed-looked q opens closes few away sound-is noted-is =
+  timed_looked q opens closes few away sound-is noted-is =
       by_cond (Looked q) (ltb k.n i) (above q away)
-      (λ h. go h (times-noted (first_of q) (last_of q) opens closes few))
+      (λ h. go h (times_noted (first_of q) (last_of q) opens closes few))
     where
       go : ltb k.n i ≡ false
           → Times (are_sound (first_of q) (last_of q) opens closes) (bounds_noted d.clock i (first_of q) (last_of q) opens closes f)
@@ -171,27 +171,27 @@ module _ (d : DeadlineState) (acting i : ℕ) (f : Survey) (stand : standing_wit
   unfolding location_noted noted
   look_at with.Remainder = same (by_test (leb i k.n) (λ e. simp e) (λ e. simp e)) refl so_far
   look_at (with.Testing a z) =
-      timed-looked (with.Testing a z) 0 (limit_in k i) ((small d stand).limit i) refl (λ h. up_to (ltb-false _ _ h) (with.Testing a z)) (λ h. rw h)
+      timed_looked (with.Testing a z) 0 (limit_in k i) ((small d stand).limit i) refl (λ h. up_to (ltb-false _ _ h) (with.Testing a z)) (λ h. rw h)
   look_at (with.Setting a z) =
-      timed-looked (with.Setting a z) 0 (limit_in k i) ((small d stand).limit i) refl (λ h. up_to (ltb-false _ _ h) (with.Setting a z)) (λ h. rw h)
+      timed_looked (with.Setting a z) 0 (limit_in k i) ((small d stand).limit i) refl (λ h. up_to (ltb-false _ _ h) (with.Setting a z)) (λ h. rw h)
   look_at (with.Checking a z) =
-      timed-looked (with.Checking a z) k.b k.c (small d stand).closes refl (λ h. up_to (ltb-false _ _ h) (with.Checking a z)) (λ h. rw h)
+      timed_looked (with.Checking a z) k.b k.c (small d stand).closes refl (λ h. up_to (ltb-false _ _ h) (with.Checking a z)) (λ h. rw h)
   look_at (with.Entering a z) =
-      timed-looked (with.Entering a z) 0 (limit_in k i) ((small d stand).limit i) refl (λ h. up_to (ltb-false _ _ h) (with.Entering a z)) (λ h. rw h)
+      timed_looked (with.Entering a z) 0 (limit_in k i) ((small d stand).limit i) refl (λ h. up_to (ltb-false _ _ h) (with.Entering a z)) (λ h. rw h)
   look_at with.Critical =
       by_cond (Looked with.Critical) (ltb k.n i) (above with.Critical refl)
       (λ h. same (up_to (ltb-false _ _ h) with.Critical) (rw h) (by_cond (λ (g : Survey). g.faulty ≡ 0) (eqb i acting) (λ _. so_far)
       (λ _. by_cond (λ (g : Survey). g.faulty ≡ 0) (not (eqb f.critical 0)) (λ _. so_far) (λ _. so_far))))
   look_at (with.Resetting a z) =
-      timed-looked (with.Resetting a z) 0 (limit_in k i) ((small d stand).limit i) refl (λ h. up_to (ltb-false _ _ h) (with.Resetting a z)) (λ h. rw h)
+      timed_looked (with.Resetting a z) 0 (limit_in k i) ((small d stand).limit i) refl (λ h. up_to (ltb-false _ _ h) (with.Resetting a z)) (λ h. rw h)
   look_at (with.Leaving a z) =
-      timed-looked (with.Leaving a z) 0 (limit_in k i) ((small d stand).limit i) refl (λ h. up_to (ltb-false _ _ h) (with.Leaving a z)) (λ h. rw h)
+      timed_looked (with.Leaving a z) 0 (limit_in k i) ((small d stand).limit i) refl (λ h. up_to (ltb-false _ _ h) (with.Leaving a z)) (λ h. rw h)
 
   -- a location that is settled, of a process up to n
-  pub settled-noted : (q : DeadlineLocation) → i ≤ k.n → last_of q < 2 ^ 64 → settled_at (due_so_far d.clock f) d.clock (limit_in k i) q ≡ true
+  pub settled_noted : (q : DeadlineLocation) → i ≤ k.n → last_of q < 2 ^ 64 → settled_at (due_so_far d.clock f) d.clock (limit_in k i) q ≡ true
       → location_noted scene i q k.b (limit_in k i) f ≡ f
   unfolding location_noted
-  settled-noted q h fit e =
+  settled_noted q h fit e =
       by_test (eqb (stage_with q) remainder || eqb (stage_with q) checking || eqb (stage_with q) critical)
       (λ t. absurd (false≢true (rw t at e)))
       (λ t. let none = simp tests at t in
@@ -229,15 +229,15 @@ module _ (d : DeadlineState) (acting i j : ℕ) (f : Survey) (so_far : PassedWit
   long : length d.processes ≡ 96
   long = size_with d acting i f so_far
 
-  next-entry : drop i d.processes ≡ q ∷ drop (i + 1) d.processes
-  next-entry = drop_at d.processes i other (omega (arith, long))
+  next_entry : drop i d.processes ≡ q ∷ drop (i + 1) d.processes
+  next_entry = drop_at d.processes i other (omega (arith, long))
 
-  is-looked : Looked d acting (i + 1) f so_far.passed.stand so_far.passed.faultless so_far.passed.narrow q.location g
-  is-looked = rw (e, next) (look_at d acting (i + 1) f so_far.passed.stand so_far.passed.faultless so_far.passed.narrow q.location)
+  is_looked : Looked d acting (i + 1) f so_far.passed.stand so_far.passed.faultless so_far.passed.narrow q.location g
+  is_looked = rw (e, next) (look_at d acting (i + 1) f so_far.passed.stand so_far.passed.faultless so_far.passed.narrow q.location)
 
-  sound-left : entry_sound_with d (i + 1) q && entries_sound_with d (i + 1 + 1) (drop (i + 1) d.processes) ≡ entries_sound_with d 1 d.processes
+  sound_left : entry_sound_with d (i + 1) q && entries_sound_with d (i + 1 + 1) (drop (i + 1) d.processes) ≡ entries_sound_with d 1 d.processes
   unfolding entries_sound_with
-  sound-left = rw next-entry at so_far.sound
+  sound_left = rw next_entry at so_far.sound
 
   place : (get_or (arrived d).processes i idle).location ≡ arrived_at d.parameters.b q.location
   place =
@@ -245,23 +245,23 @@ module _ (d : DeadlineState) (acting i j : ℕ) (f : Survey) (so_far : PassedWit
       ∙ ap (λ (x : DeadlineProcess). arrived_at d.parameters.b x.location) (row_at d.processes i idle_with other (omega (arith, long)))
 
   -- where it is not sound, neither is the state; and where it is, the pass over the arrivals goes on
-  pub turn-fault-with : g.faulty ≢ 0 → sound_with d ≡ false
-  turn-fault-with n = go is-looked
+  pub turn_fault_with : g.faulty ≢ 0 → sound_with d ≡ false
+  turn_fault_with n = go is_looked
     where
       go : Looked d acting (i + 1) f so_far.passed.stand so_far.passed.faultless so_far.passed.narrow q.location g → sound_with d ≡ false
-      go (fault t n) = sound_parts_with d ∙ rw so_far.passed.stand (sym sound-left ∙ rw t)
+      go (fault t n) = sound_parts_with d ∙ rw so_far.passed.stand (sym sound_left ∙ rw t)
       go (same t s z) = absurd (n z)
 
-  pub turn-passed-with : g.faulty ≡ 0 → PassedWith d acting (i + 1) g
-  turn-passed-with z = go is-looked
+  pub turn_passed_with : g.faulty ≡ 0 → PassedWith d acting (i + 1) g
+  turn_passed_with z = go is_looked
     where
       go : Looked d acting (i + 1) f so_far.passed.stand so_far.passed.faultless so_far.passed.narrow q.location g
           → PassedWith d acting (i + 1) g
       go (fault t n) = absurd (n z)
       go (same t s _) = record {
-        passed = turn-passed (arrived d) acting i (i + 1) f so_far.passed more refl idle g
+        passed = turn_passed (arrived d) acting i (i + 1) f so_far.passed more refl idle g
             (s ∙ ap (λ (l : Location). noted (scene_of d.parameters d.clock acting) (i + 1) l (limit_in d.parameters (i + 1)) f) (sym place)) z;
-        sound = rw t at sound-left;
+        sound = rw t at sound_left;
       }
 
 -- nothing is left after 96 entries
@@ -276,16 +276,16 @@ passed_whole_with d acting i f so_far h =
 
 module _ (d : DeadlineState) (acting i : ℕ) (f : Survey) (so_far : PassedWith d acting i f) (more : i < 96) (other : DeadlineProcess) where
   -- in the remainder
-  pub idle-passed-with : stage_with (get_or d.processes i other).location ≡ remainder → PassedWith d acting (i + 1) f
+  pub idle_passed_with : stage_with (get_or d.processes i other).location ≡ remainder → PassedWith d acting (i + 1) f
   unfolding location_noted
-  idle-passed-with e =
-      turn-passed-with d acting i (i + 1) f so_far more refl other f (sym (rw (eq-eqb _ remainder e))) so_far.passed.faultless
+  idle_passed_with e =
+      turn_passed_with d acting i (i + 1) f so_far more refl other f (sym (rw (eq-eqb _ remainder e))) so_far.passed.faultless
 
   -- up to n, where nothing new would be found
-  pub settled-passed-with : i + 1 ≤ d.parameters.n → last_of (get_or d.processes i other).location < 2 ^ 64
+  pub settled_passed_with : i + 1 ≤ d.parameters.n → last_of (get_or d.processes i other).location < 2 ^ 64
       → settled_at (due_so_far d.clock f) d.clock (limit_in d.parameters (i + 1)) (get_or d.processes i other).location ≡ true
       → PassedWith d acting (i + 1) f
-  settled-passed-with h fit e =
-      turn-passed-with d acting i (i + 1) f so_far more refl other f
-      (sym (settled-noted d acting (i + 1) f so_far.passed.stand so_far.passed.faultless so_far.passed.narrow
+  settled_passed_with h fit e =
+      turn_passed_with d acting i (i + 1) f so_far more refl other f
+      (sym (settled_noted d acting (i + 1) f so_far.passed.stand so_far.passed.faultless so_far.passed.narrow
       (get_or d.processes i other).location h fit e)) so_far.passed.faultless

@@ -1,5 +1,7 @@
 // The second engine: the lock over entries that hold the first and the last time at which a process may act. `fresh` makes a state of
 // deadlines, and `step` takes one action in it. The rows of the acts and the judgement are those of `rules`; the first engine is not used.
+#![tactic(auto)]
+
 pub mod bounds;
 pub mod locations;
 
@@ -19,7 +21,7 @@ use values::limits::{count_stands, limit_of, parameters_stand};
 use values::{answer_with, no_parameters};
 
 // [12.10] Where a process is; the timed locations carry the first and the last time at which it may act.
-#[derive(Drop)]
+#[derive(Clone, Copy)]
 pub enum DeadlineLocation {
     Remainder,
     Testing(u64, u64),
@@ -32,13 +34,13 @@ pub enum DeadlineLocation {
 }
 
 // [12.10] An entry.
-#[derive(Drop)]
+#[derive(Clone, Copy)]
 pub struct DeadlineProcess {
     pub location: DeadlineLocation,
 }
 
 // [12.10] Process p, from 1, has the entry at place p - 1.
-#[derive(Drop)]
+#[derive(Clone, Copy)]
 pub struct DeadlineState {
     pub parameters: Parameters,
     pub clock: u64,
@@ -47,7 +49,7 @@ pub struct DeadlineState {
 }
 
 // What a call gives back.
-#[derive(Drop)]
+#[derive(Clone, Copy)]
 pub struct DeadlineOutcome {
     pub answer: Answer,
     pub state: DeadlineState,

@@ -14,8 +14,8 @@ use Rattle.model.specs.Readings.{Lists, room}
 use Rattle.model.specs.Writings.{events_of, event_in}
 use Rattle.model.specs.Executions.{state_from, answers_from, codes_from, attempts_of, attempts_from}
 use Rattle.model.proofs.Lists.{drop_at}
-use Rattle.model.proofs.Folds.{results-append, length-results}
-use Rattle.model.proofs.Steps.{from, steps-from, steps_next}
+use Rattle.model.proofs.Folds.{results_append, length_results}
+use Rattle.model.proofs.Steps.{from, steps_from, steps_next}
 use Rattle.execution.specs.Turns.{rows_from, attempts_by_rows}
 use Rattle.execution.proofs.Blocks.{Taken}
 
@@ -42,11 +42,11 @@ codes_append (x ∷ xs) ys [] ds h = absurd (omega arith)
 codes_append (x ∷ xs) ys (c ∷ cs) ds h = ap (λ (rest : List Attempt). attempted x c ∷ rest) (codes_append xs ys cs ds (omega arith))
 
 length_codes : (s : State) (events : List Event) → length (codes_from s events) ≡ length events
-length_codes s events = simp (length-map, length-results)
+length_codes s events = simp (length-map, length_results)
 
 attempts_append : (s : State) (xs ys : List Event) → attempts_from s (xs ++ ys) ≡ attempts_from s xs ++ attempts_from (state_from s xs) ys
 attempts_append s xs ys =
-    simp (results-append, map-append) (codes_append xs ys (codes_from s xs) (codes_from (state_from s xs) ys) (length_codes s xs))
+    simp (results_append, map-append) (codes_append xs ys (codes_from s xs) (codes_from (state_from s xs) ys) (length_codes s xs))
 
 -- Steps with the rows of their answers
 
@@ -68,14 +68,14 @@ module _ (s : State) (l : Lists) (i k : ℕ) where
 
   module _ {t : State} {m : List (List ℕ)} (h : Taken s (take k rest) k t m) where
     -- its rows tell its attempts
-    block-is : attempts_by_rows (from i l) (take k m) ≡ attempts_from s (take k rest)
-    block-is =
+    block_is : attempts_by_rows (from i l) (take k m) ≡ attempts_from s (take k rest)
+    block_is =
         let size = length_codes s (take k rest) ∙ h.size in
-        rw (h.rows, codes_in s (take k rest), steps-from l i)
+        rw (h.rows, codes_in s (take k rest), steps_from l i)
         (codes_front rest (codes_from s (take k rest)) ∙ ap (λ (n : ℕ). attempts_of (take n rest) (codes_from s (take k rest))) size)
 
     -- its attempts, and then those of the steps that are left
-    pub block-next : attempts_from s rest ≡ attempts_by_rows (from i l) (take k m) ++ attempts_from t (drop (i + k) (events_of l))
-    block-next =
+    pub block_next : attempts_from s rest ≡ attempts_by_rows (from i l) (take k m) ++ attempts_from t (drop (i + k) (events_of l))
+    block_next =
         ap (attempts_from s) (sym (take-append-drop k rest))
-        ∙ rw (block-is, h.led, ← drop-drop k i (events_of l)) (attempts_append s (take k rest) (drop k rest))
+        ∙ rw (block_is, h.led, ← drop-drop k i (events_of l)) (attempts_append s (take k rest) (drop k rest))

@@ -17,7 +17,7 @@ use Rattle.model.specs.Executions.{Started, start_gave, first_state, started_of}
 use Rattle.grammar.specs.RoundTrips.{first_of}
 use Rattle.grammar.proofs.Exact.{read_exactly, refused_exactly}
 use Rattle.grammar.proofs.Faults.{fault_some}
-use Rattle.grammar.proofs.Fits.{says-line, events_fit}
+use Rattle.grammar.proofs.Fits.{says_line, events_fit}
 use Rattle.grammar.proofs.RoundTrips.{events_back}
 
 -- what is found with code 0: the text is the trace whose steps stand in the first places of the lists, to be taken from the state on
@@ -44,14 +44,14 @@ module _ (text : List ℕ) (l : Lists) (wide : room l ≡ 8187) where
       rw (roomy line k events q)
       (λ _. record {
         few = events_fit text line k events q;
-        low = (says-line ((read_exactly text line k events).0 q)).1;
+        low = (says_line ((read_exactly text line k events).0 q)).1;
         is = q ∙ rw (events_back events l);
         state = refl;
       })
 
-  refusal-of : (t : Trace) → trace_of text ≡ t → (into l t).scan.code ≢ 0 → Refusal text (start_from (into l t))
-  refusal-of (refused code line) q = λ _. q
-  refusal-of (trace line k events) q = rw (roomy line k events q) (λ z. absurd (z refl))
+  refusal_of : (t : Trace) → trace_of text ≡ t → (into l t).scan.code ≢ 0 → Refusal text (start_from (into l t))
+  refusal_of (refused code line) q = λ _. q
+  refusal_of (trace line k events) q = rw (roomy line k events q) (λ z. absurd (z refl))
 
   module _ {x : Started} (e : x ≡ started_of text l) where
     pub ready : x.scan.code ≡ 0 → Ready text x
@@ -60,4 +60,4 @@ module _ (text : List ℕ) (l : Lists) (wide : room l ≡ 8187) where
 
     pub refusal : x.scan.code ≢ 0 → Refusal text x
     unfolding started_of scanned_of
-    refusal = subst (λ (y : Started). y.scan.code ≢ 0 → Refusal text y) (sym e) (refusal-of (trace_of text) refl)
+    refusal = subst (λ (y : Started). y.scan.code ≢ 0 → Refusal text y) (sym e) (refusal_of (trace_of text) refl)

@@ -14,9 +14,9 @@ use Rattle.model.specs.Writings.{events_of, event_in}
 use Rattle.model.specs.Folds.{results_by}
 use Rattle.model.specs.Executions.{step_by, state_after, Executed, executed_gave, executed_of}
 use Rattle.model.proofs.Lists.{rows_snoc}
-use Rattle.model.proofs.Folds.{Going, sets-out, count-going, long-going, moves-on, end-reached, all-written}
+use Rattle.model.proofs.Folds.{Going, sets_out, count_going, long_going, moves_on, end_reached, all_written}
 use Rattle.execution.specs.Turns.{step_turn_of}
-use Rattle.model.proofs.Steps.{length-steps, step-at}
+use Rattle.model.proofs.Steps.{length_steps, step_at}
 
 -- The steps that there are rows for
 
@@ -24,7 +24,7 @@ abbrev steps_for : Lists → List (List ℕ) → List Event
 steps_for l rows = take (length rows) (events_of l)
 
 length_for : (l : Lists) (rows : List (List ℕ)) → length (steps_for l rows) ≡ min (length rows) (room l)
-length_for l rows = simp (length-take, length-steps)
+length_for l rows = simp (length-take, length_steps)
 
 -- The loop: of n steps i have been taken, the state is t, and the rows have become m
 
@@ -38,25 +38,25 @@ abbrev pub Taking : State → Lists → List (List ℕ) → ℕ → ℕ → Stat
 Taking s l rows n i t m = Going step_by state_after steps_for answered s l rows n i t m
 
 pub sets_off : {s : State} {l : Lists} {rows : List (List ℕ)} {n : ℕ} → n ≡ min (length rows) (room l) → Taking s l rows n 0 s rows
-sets_off {l = l} {rows = rows} e = sets-out (e ∙ sym (length_for l rows)) refl
+sets_off {l = l} {rows = rows} e = sets_out (e ∙ sym (length_for l rows)) refl
 
 module _ {s : State} {l : Lists} {rows : List (List ℕ)} {n i : ℕ} {t : State} {m : List (List ℕ)} (g : Taking s l rows n i t m) where
-  pub is-inside : i < n → i < min (length rows) (room l)
-  is-inside h = omega (arith, g.all, length_for l rows)
+  pub is_inside : i < n → i < min (length rows) (room l)
+  is_inside h = omega (arith, g.all, length_for l rows)
 
-  pub takes-on : i < n → {u : State} {k : List (List ℕ)} → executed_gave u k ≡ step_turn_of t l m i → Taking s l rows n (i + 1) u k
-  takes-on h e =
-      let inside = is-inside h in
-      let this = get_or-take (length rows) (events_of l) i (event_in l i) (omega arith) ∙ step-at l i (event_in l i) (omega arith) in
-      moves-on g h (event_in l i) (event_in l i) this (ap (λ (x : Executed). x.state) e)
-      (ap (λ (x : Executed). x.answers) e ∙ rw g.written (rows_snoc row_of g.results rows i (count-going g) (omega arith) _))
+  pub takes_on : i < n → {u : State} {k : List (List ℕ)} → executed_gave u k ≡ step_turn_of t l m i → Taking s l rows n (i + 1) u k
+  takes_on h e =
+      let inside = is_inside h in
+      let this = get_or-take (length rows) (events_of l) i (event_in l i) (omega arith) ∙ step_at l i (event_in l i) (omega arith) in
+      moves_on g h (event_in l i) (event_in l i) this (ap (λ (x : Executed). x.state) e)
+      (ap (λ (x : Executed). x.answers) e ∙ rw g.written (rows_snoc row_of g.results rows i (count_going g) (omega arith) _))
 
   -- there are as many rows as before
-  pub rows-kept : length m ≡ length rows
-  rows-kept = rw g.written (long-going g row_of rows (omega (arith, g.all, length_for l rows)))
+  pub rows_kept : length m ≡ length rows
+  rows_kept = rw g.written (long_going g row_of rows (omega (arith, g.all, length_for l rows)))
 
-  pub all-taken : n ≤ i → executed_gave t m ≡ executed_of s (events_of l) rows
+  pub all_taken : n ≤ i → executed_gave t m ≡ executed_of s (events_of l) rows
   unfolding executed_of
-  all-taken h =
+  all_taken h =
       let same = map-map answer_numbers (λ (o : Outcome). o.answer) (results_by step_by state_after s (steps_for l rows)) in
-      λ j. executed_gave (end-reached g h j) ((all-written g h ∙ ap (λ (x : List (List ℕ)). over x rows) (sym same)) j)
+      λ j. executed_gave (end_reached g h j) ((all_written g h ∙ ap (λ (x : List (List ℕ)). over x rows) (sym same)) j)

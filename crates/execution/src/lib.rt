@@ -1,5 +1,7 @@
 // A trace that is run: it is read, and its steps are taken from a fresh state on, as many at a time as there are rows for their answers.
 // What prints or judges a trace by its answers stands on this, and needs no room for more of them than it looks at.
+#![tactic(auto)]
+
 ghost use Rattle.std.specs.Prelude.{◌≡◌, ◌<◌, length, replicate};
 ghost use Rattle.model.specs.Readings.{lent};
 ghost use Rattle.model.specs.Writings.{events_of};
@@ -34,7 +36,7 @@ pub fn answer_rows() -> [[u64; 3]; 64]
 }
 
 // [7.46] What was found of a text, and the state that its first step is taken in.
-#[derive(Drop)]
+#[derive(Clone, Copy)]
 pub struct Started {
     pub found: Scan,
     pub state: State,

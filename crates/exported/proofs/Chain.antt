@@ -11,7 +11,7 @@ use Rattle.recent.specs.Encodings.{LentBoard, lent_set_up, lent_add, lent_show}
 use Rattle.recent.specs.Lists.{BoardCall, lent_board_call, board_after}
 use Rattle.recent.specs.Tellings.{LentTold, told_gave, TellCall, lent_tell, lent_tell_call, tell_start}
 use Rattle.model.proofs.Tests.{by_test}
-use Rattle.model.proofs.Folds.{chain-results, chain-last, list-chain}
+use Rattle.model.proofs.Folds.{chain_results, chain_last, list_chain}
 use Rattle.recent.proofs.Refusals.{lent_set_ups}
 use Rattle.recent.proofs.Lists.{every_board_list}
 use Rattle.recent.proofs.OneTelling.{tell_is_plain}
@@ -27,15 +27,15 @@ use Rattle.exported.proofs.TableChain.{some_table_start, some_summary_start}
 
 made_is : (l : List ℕ) (d : BoardCall) (r : LentBoard) → MadeOnBoard l d r → r ≡ lent_board_call l d
 unfolding lent_board_call
-made_is l d r (MadeOnBoard.by-add e a) = rw e (adds_is l d.time d.process d.wait r a)
-made_is l d r (MadeOnBoard.by-show e a) = rw e (shows_is l d.time r a)
-made_is l d r (MadeOnBoard.by-tell e table summary act t a h w f) =
+made_is l d r (MadeOnBoard.by_add e a) = rw e (adds_is l d.time d.process d.wait r a)
+made_is l d r (MadeOnBoard.by_show e a) = rw e (shows_is l d.time r a)
+made_is l d r (MadeOnBoard.by_tell e table summary act t a h w f) =
     let is = tells_is table summary l act d.process d.time t a in
     rw (e, w) (f ∙ rw (← is) at (tell_is_plain table summary l act d.process d.time).told h)
 
 pub every_board_chain : EveryBoardChain
 every_board_chain w board start ds rs d r s ch m =
-    rw (made_is _ d r m, chain-last board_after made_is ch, chain-results board_after made_is ch, sets_up_is w board start s)
+    rw (made_is _ d r m, chain_last board_after made_is ch, chain_results board_after made_is ch, sets_up_is w board start s)
     (every_board_list w board ds d)
 
 -- Every list has a chain
@@ -46,23 +46,23 @@ shows_on l t = (([], tt), lending l (lent_show l t).board, refl)
 board_callable : (l : List ℕ) (d : BoardCall) → MadeOnBoard l d (lent_board_call l d)
 unfolding lent_board_call
 board_callable l d = by_test d.adds
-    (λ e. MadeOnBoard.by-add e
+    (λ e. MadeOnBoard.by_add e
     (rw e (([], tt), lending l (lent_add l d.time d.process d.wait).board, refl)))
-    (λ e. MadeOnBoard.by-show e (rw e (shows_on l d.time)))
+    (λ e. MadeOnBoard.by_show e (rw e (shows_on l d.time)))
 
 pub some_board_chain : SomeBoardChain
 some_board_chain = record {
   start = λ w board. (lent_set_up w board, (([], tt), lending board (lent_set_up w board).board, refl));
-  chain = λ l ds. (results_by lent_board_call board_after l ds, list-chain lent_board_call board_after board_callable l ds);
+  chain = λ l ds. (results_by lent_board_call board_after l ds, list_chain lent_board_call board_after board_callable l ds);
 }
 
 -- Recorded steps that tell the board
 
 tell_made_is : (r : LentTold) (d : TellCall) (t : LentTold) → MadeTelling r d t → t ≡ lent_tell_call r d
 unfolding lent_tell_call
-tell_made_is r d t (MadeTelling.by-tell e a) =
+tell_made_is r d t (MadeTelling.by_tell e a) =
     rw e (tells_is r.table r.summary r.board d.action d.process d.time t a)
-tell_made_is r d t (MadeTelling.by-show e b a h) =
+tell_made_is r d t (MadeTelling.by_show e b a h) =
     rw e (h ∙ ap (told_gave (record_gave (answer_of 0 0 0) r.table r.summary)) (shows_is r.board d.time b a))
 
 -- what the first call is given
@@ -75,8 +75,8 @@ pub every_told_figures_chain : EveryToldFiguresChain
 every_told_figures_chain k w table summary board f x b ds rs d r s n u fe xe be ch m =
     rw (
       tell_made_is _ d r m,
-      chain-last itself tell_made_is ch,
-      chain-results itself tell_made_is ch,
+      chain_last itself tell_made_is ch,
+      chain_results itself tell_made_is ch,
       start_is k w table summary board f x b s n u,
     )
     (every_told_figures k w table summary board ds d
@@ -84,15 +84,15 @@ every_told_figures_chain k w table summary board f x b ds rs d r s n u fe xe be 
 
 pub every_told_steps_chain : EveryToldStepsChain
 every_told_steps_chain k w table summary board f x b ds rs s n u fe xe ch = record {
-  results-are = rw (← start_is k w table summary board f x b s n u) (chain-results itself tell_made_is ch);
+  results_are = rw (← start_is k w table summary board f x b s n u) (chain_results itself tell_made_is ch);
   holds = every_told_steps k w table summary board ds (rw (starts_is k table f s) at fe) (rw (new_is summary x n) at xe);
 }
 
 tell_callable : (r : LentTold) (d : TellCall) → MadeTelling r d (lent_tell_call r d)
 unfolding lent_tell_call
 tell_callable r d = by_test d.shows
-    (λ e. MadeTelling.by-show e (lent_show r.board d.time) (shows_on r.board d.time) (rw e))
-    (λ e. MadeTelling.by-tell e
+    (λ e. MadeTelling.by_show e (lent_show r.board d.time) (shows_on r.board d.time) (rw e))
+    (λ e. MadeTelling.by_tell e
     (let t = lent_tell r.table r.summary r.board d.action d.process d.time in
     rw e (([], ([], ([], tt))), lending r.table t.table, lending r.summary t.summary, lending r.board t.board, refl)))
 
@@ -105,5 +105,5 @@ some_told_chain = record {
     (([], tt), lending board (lent_set_up w board).board, refl),
     (lent_set_ups.accepted w board).1 (stand, long),
   );
-  chain = λ r ds. (results_by lent_tell_call itself r ds, list-chain lent_tell_call itself tell_callable r ds);
+  chain = λ r ds. (results_by lent_tell_call itself r ds, list_chain lent_tell_call itself tell_callable r ds);
 }

@@ -29,16 +29,16 @@ use Rattle.deadline_layout.specs.Numbers.{IsWholeWith}
 use Rattle.deadline_layout.specs.Interface.{lent_fresh_with, lent_step_with, lent_to_deadlines, lent_to_arrivals}
 use Rattle.model.proofs.Tests.{by_test}
 use Rattle.model.proofs.Lists.{over_seam}
-use Rattle.model.proofs.Folds.{chain-results, chain-last, list-chain}
+use Rattle.model.proofs.Folds.{chain_results, chain_last, list_chain}
 use Rattle.theory.specs.Soundness.{ParametersStand}
 use Rattle.theory.proofs.Soundness.{fresh_is_plain}
 use Rattle.layout.proofs.Encodings as tables
 use Rattle.deadlines.proofs.Judging.{exit_unsound_with}
-use Rattle.deadlines.proofs.Matched.{length_dated, length_arrived, sound-same, sound_matched, arrived_matched}
-use Rattle.deadline_layout.proofs.Encodings.{table-length, deadlines_come_back, deadlines_are_whole, sound-is-table, table-is-sound}
+use Rattle.deadlines.proofs.Matched.{length_dated, length_arrived, sound_same, sound_matched, arrived_matched}
+use Rattle.deadline_layout.proofs.Encodings.{table-length, deadlines_come_back, deadlines_are_whole, sound_is_table, table_is_sound}
 use Rattle.deadline_layout.proofs.Starting.{fresh_whole}
 use Rattle.matching.proofs.Matchings.{matches_matched}
-use Rattle.matching.proofs.Engines.{fresh_match, arrived-matches, arrived-sound}
+use Rattle.matching.proofs.Engines.{fresh_match, arrived_matches, arrived_sound}
 use Rattle.matching.proofs.Acceptance.{next_is_changed_with, refused_stays_with}
 use Rattle.matching.proofs.Demand3.{every_list_with}
 use Rattle.exported.specs.DeadlineChains.{StartsDeadlines, StepsDeadlines, GoesToDeadlines, GoesToArrivals, MadeOnDeadlines, numbers_after}
@@ -66,8 +66,8 @@ step_whole : (d : DeadlineState) (act p m : ℕ) → IsWholeWith d → IsWholeWi
 step_whole d act p m size =
     by_test (eqb (step_with d act p m).answer.code 0)
     (λ e. let changed = next_is_changed_with d size.entries act p m (eqb-true _ 0 e) in record {
-      limits = ap (λ (k : Parameters). length k.a) changed.parameters-stay ∙ size.limits;
-      entries = changed.size-stays ∙ size.entries;
+      limits = ap (λ (k : Parameters). length k.a) changed.parameters_stay ∙ size.limits;
+      entries = changed.size_stays ∙ size.entries;
     })
     (λ e. rw (refused_stays_with d act p m (eqb-false _ 0 e)) size)
 
@@ -146,12 +146,12 @@ every_deadline_table_chain k table f es rs s e ch =
     let holds = every_list_with k start.accepted es in
     let from : f.table ≡ state_numbers_with d ++ rest = ap (λ (r : Lent). r.table) fresh ∙ start.numbers in
     let lists = list_numbers d (fresh_whole k) rest es in
-    let left = chain-last numbers_after made_is ch ∙ ap (λ (l : List ℕ). end_by lent_by numbers_after l es) from ∙ lists.last in
+    let left = chain_last numbers_after made_is ch ∙ ap (λ (l : List ℕ). end_by lent_by numbers_after l es) from ∙ lists.last in
     record {
       results = steps_with d es;
       last = run_with d es;
-      results-are = chain-results numbers_after made_is ch ∙ ap (λ (l : List ℕ). results_by lent_by numbers_after l es) from ∙ lists.results;
-      last-is = left;
+      results_are = chain_results numbers_after made_is ch ∙ ap (λ (l : List ℕ). results_by lent_by numbers_after l es) from ∙ lists.results;
+      last_is = left;
       demand3 = holds;
       not_stuck = rw left (not_stuck_on (run_with d es) (run_whole d (fresh_whole k) es) rest holds);
     }
@@ -178,7 +178,7 @@ starts_for k table stand = (
 pub some_deadline_table_chain : SomeDeadlineTableChain
 some_deadline_table_chain = record {
   start = λ k table stand long. (lent_fresh_with k table, starts_for k table stand, begins k table stand long);
-  chain = λ l es. (results_by lent_by numbers_after l es, list-chain lent_by numbers_after made_for l es);
+  chain = λ l es. (results_by lent_by numbers_after l es, list_chain lent_by numbers_after made_for l es);
 }
 
 -- To and fro
@@ -187,12 +187,12 @@ module _ (table : List ℕ) (sound : is_sound_table table ≡ true) where
   abbrev s : State
   s = table_in table
 
-  s-sound : sound_of s ≡ true
-  s-sound = tables.table-is-sound table sound
+  s_sound : sound_of s ≡ true
+  s_sound = tables.table_is_sound table sound
 
-  matched-whole : IsWholeWith (matched s)
-  matched-whole =
-      let all = tables.table_is_whole table (tables.sound-is-table table sound) in
+  matched_whole : IsWholeWith (matched s)
+  matched_whole =
+      let all = tables.table_is_whole table (tables.sound_is_table table sound) in
       record { limits = all.limits; entries = length_dated s.parameters 1 s.processes ∙ all.entries }
 
   -- what stands after the numbers of the deadline table
@@ -200,28 +200,28 @@ module _ (table : List ℕ) (sound : is_sound_table table ≡ true) where
       → lent_to_deadlines table deadlines ≡ lent_gave (answer_of 0 0 0) (state_numbers_with (matched s) ++ drop deadline_length deadlines)
   unfolding lent_to_deadlines to_deadlines
   goes_to deadlines long =
-      rw (sound, le-ltb (length deadlines) deadline_length long, s-sound, table-length (matched s) matched-whole)
+      rw (sound, le-ltb (length deadlines) deadline_length long, s_sound, table-length (matched s) matched_whole)
 
   comes_back : (rest out : List ℕ) → table_length ≤ length out
       → lent_to_arrivals (state_numbers_with (matched s) ++ rest) out ≡ lent_gave (answer_of 0 0 0) (over (state_numbers s) out)
   unfolding lent_to_arrivals is_sound_deadline_table to_arrivals
   comes_back rest out long =
-      let told = deadlines_come_back (matched s) matched-whole rest in
-      rw (told.0, told.1, sound-same s ∙ s-sound, le-ltb (length out) table_length long)
+      let told = deadlines_come_back (matched s) matched_whole rest in
+      rw (told.0, told.1, sound_same s ∙ s_sound, le-ltb (length out) table_length long)
       (ap (λ (t : State). lent_gave (answer_of 0 0 0) (over (state_numbers t) out)) (arrived_matched s))
 
-  sound-told : (rest : List ℕ) → is_sound_deadline_table (state_numbers_with (matched s) ++ rest) ≡ true
+  sound_told : (rest : List ℕ) → is_sound_deadline_table (state_numbers_with (matched s) ++ rest) ≡ true
   unfolding is_sound_deadline_table
-  sound-told rest = let told = deadlines_come_back (matched s) matched-whole rest in rw (told.0, told.1) (sound-same s ∙ s-sound)
+  sound_told rest = let told = deadlines_come_back (matched s) matched_whole rest in rw (told.0, told.1) (sound_same s ∙ s_sound)
 
 pub every_there_and_back : EveryThereAndBack
 every_there_and_back table deadlines out to fro sound long room t f =
     let there = to_is table deadlines to t ∙ goes_to table sound deadlines long in
     let rest = drop deadline_length deadlines in
-    let told = deadlines_come_back (matched (table_in table)) (matched-whole table sound) rest in
+    let told = deadlines_come_back (matched (table_in table)) (matched_whole table sound) rest in
     record {
       answer = ap (λ (r : Lent). r.answer) there;
-      sound = rw there (sound-told table sound rest);
+      sound = rw there (sound_told table sound rest);
       matches = rw (there, told.1) (matches_matched (table_in table));
       back = fro_is to.table out fro f ∙ rw there (comes_back table sound rest out room);
     }
@@ -230,12 +230,12 @@ module _ (deadlines : List ℕ) (sound : is_sound_deadline_table deadlines ≡ t
   abbrev d : DeadlineState
   d = deadline_table_in deadlines
 
-  d-sound : sound_with d ≡ true
-  d-sound = table-is-sound deadlines sound
+  d_sound : sound_with d ≡ true
+  d_sound = table_is_sound deadlines sound
 
-  arrived-whole : IsWhole (arrived d)
-  arrived-whole =
-      let all = deadlines_are_whole deadlines (sound-is-table deadlines sound) in
+  arrived_whole : IsWhole (arrived d)
+  arrived_whole =
+      let all = deadlines_are_whole deadlines (sound_is_table deadlines sound) in
       record { limits = all.limits; entries = length_arrived d.parameters d.processes ∙ all.entries }
 
   -- what stands after the numbers of the table
@@ -243,28 +243,28 @@ module _ (deadlines : List ℕ) (sound : is_sound_deadline_table deadlines ≡ t
       → lent_to_arrivals deadlines table ≡ lent_gave (answer_of 0 0 0) (state_numbers (arrived d) ++ drop table_length table)
   unfolding lent_to_arrivals to_arrivals
   goes_fro table long =
-      rw (sound, le-ltb (length table) table_length long, d-sound, tables.table-length (arrived d) arrived-whole)
+      rw (sound, le-ltb (length table) table_length long, d_sound, tables.table-length (arrived d) arrived_whole)
 
-  arrivals-told : (rest : List ℕ) → is_sound_table (state_numbers (arrived d) ++ rest) ≡ true
+  arrivals_told : (rest : List ℕ) → is_sound_table (state_numbers (arrived d) ++ rest) ≡ true
   unfolding is_sound_table
-  arrivals-told rest = let told = tables.table_comes_back (arrived d) arrived-whole rest in rw (told.0, told.1) (arrived-sound d d-sound)
+  arrivals_told rest = let told = tables.table_comes_back (arrived d) arrived_whole rest in rw (told.0, told.1) (arrived_sound d d_sound)
 
-  deadlines-back : (rest out : List ℕ) → deadline_length ≤ length out
+  deadlines_back : (rest out : List ℕ) → deadline_length ≤ length out
       → lent_to_deadlines (state_numbers (arrived d) ++ rest) out ≡ lent_gave (answer_of 0 0 0) (over (state_numbers_with d) out)
   unfolding lent_to_deadlines is_sound_table to_deadlines
-  deadlines-back rest out long =
-      let told = tables.table_comes_back (arrived d) arrived-whole rest in
-      rw (told.0, told.1, arrived-sound d d-sound, le-ltb (length out) deadline_length long)
-      (ap (λ (x : DeadlineState). lent_gave (answer_of 0 0 0) (over (state_numbers_with x) out)) (sound_matched d d-sound))
+  deadlines_back rest out long =
+      let told = tables.table_comes_back (arrived d) arrived_whole rest in
+      rw (told.0, told.1, arrived_sound d d_sound, le-ltb (length out) deadline_length long)
+      (ap (λ (x : DeadlineState). lent_gave (answer_of 0 0 0) (over (state_numbers_with x) out)) (sound_matched d d_sound))
 
 pub every_back_and_there : EveryBackAndThere
 every_back_and_there deadlines table out fro to sound long room f t =
     let back = fro_is deadlines table fro f ∙ goes_fro deadlines sound table long in
     let rest = drop table_length table in
-    let told = tables.table_comes_back (arrived (deadline_table_in deadlines)) (arrived-whole deadlines sound) rest in
+    let told = tables.table_comes_back (arrived (deadline_table_in deadlines)) (arrived_whole deadlines sound) rest in
     record {
       answer = ap (λ (r : Lent). r.answer) back;
-      sound = rw back (arrivals-told deadlines sound rest);
-      matches = rw (back, told.1) (arrived-matches (deadline_table_in deadlines) (d-sound deadlines sound));
-      back = to_is fro.table out to t ∙ rw back (deadlines-back deadlines sound rest out room);
+      sound = rw back (arrivals_told deadlines sound rest);
+      matches = rw (back, told.1) (arrived_matches (deadline_table_in deadlines) (d_sound deadlines sound));
+      back = to_is fro.table out to t ∙ rw back (deadlines_back deadlines sound rest out room);
     }

@@ -16,7 +16,7 @@ use Rattle.lending.specs.Guarantees.{LentCall, lent_call, table_after, lent_resu
 use Rattle.lending.specs.Guarantees.{lent_next, lent_all, lent_records, lent_start}
 use Rattle.recent.specs.Tellings.{LentTold}
 use Rattle.model.proofs.Tests.{by_test}
-use Rattle.model.proofs.Folds.{chain-results, chain-last, list-chain}
+use Rattle.model.proofs.Folds.{chain_results, chain_last, list_chain}
 use Rattle.lending.proofs.Refusals.{lent_successes}
 use Rattle.lending.proofs.LentLists.{every_lent_list}
 use Rattle.lending.proofs.LentTakenBack.{lent_withdraw_undoes_try}
@@ -38,10 +38,10 @@ tells_step table summary board act p m t a =
 
 made_is : (l : List ℕ) (d : LentCall) (r : LentBoth) → MadeOnTable l d r → r ≡ lent_call l d
 unfolding lent_call
-made_is l d r (MadeOnTable.by-step e a h) =
+made_is l d r (MadeOnTable.by_step e a h) =
     let is = steps_is l d.action d.process d.time _ a in rw e (λ i. record_gave (is i).answer (is i).table (h i))
-made_is l d r (MadeOnTable.by-record e a) = rw e (records_is l d.summary d.action d.process d.time r a)
-made_is l d r (MadeOnTable.by-tell e board t a h) =
+made_is l d r (MadeOnTable.by_record e a) = rw e (records_is l d.summary d.action d.process d.time r a)
+made_is l d r (MadeOnTable.by_tell e board t a h) =
     rw e (h ∙ tells_step l d.summary board d.action d.process d.time t a)
 
 not_stuck_on : {s : State} {l : List ℕ} → LentNotStuck s l → NotStuckOn s l
@@ -54,12 +54,12 @@ pub every_table_chain : EveryTableChain
 every_table_chain k table f ds rs s e ch =
     let fresh = starts_is k table f s in
     let holds = every_lent_list k table ds (rw fresh at e) in
-    let left = chain-last table_after made_is ch ∙ ap (λ (g : Lent). lent_run g.table ds) fresh in
+    let left = chain_last table_after made_is ch ∙ ap (λ (g : Lent). lent_run g.table ds) fresh in
     record {
       results = holds.results;
       last = holds.last;
-      results-are = chain-results table_after made_is ch ∙ ap (λ (g : Lent). lent_results g.table ds) fresh ∙ holds.results-are;
-      last-is = left ∙ holds.last-is;
+      results_are = chain_results table_after made_is ch ∙ ap (λ (g : Lent). lent_results g.table ds) fresh ∙ holds.results_are;
+      last_is = left ∙ holds.last_is;
       demand3 = holds.demand3;
       not_stuck = rw left (not_stuck_on holds.not_stuck);
     }
@@ -72,8 +72,8 @@ every_taken_back table p m f g tried accepted withdrawn =
 -- The tally
 
 next_is : (r : LentBoth) (e : Event) (q : LentBoth) → MadeOnBoth r e q → q ≡ lent_next r e
-next_is r e q (MadeOnBoth.by-record a) = records_is r.table r.summary e.action e.process e.time q a
-next_is r e q (MadeOnBoth.by-tell board t a h) =
+next_is r e q (MadeOnBoth.by_record a) = records_is r.table r.summary e.action e.process e.time q a
+next_is r e q (MadeOnBoth.by_tell board t a h) =
     h ∙ tells_step r.table r.summary board e.action e.process e.time t a
 
 -- what the first step is given
@@ -85,12 +85,12 @@ pub every_recorded_table_chain : EveryRecordedTableChain
 every_recorded_table_chain k table summary f x es rs s n fe xe ch =
     let start = start_is k table summary f x s n in
     let tally = every_lent_tally k table summary es (rw (starts_is k table f s) at fe) (rw (new_is summary x n) at xe) in
-    let results = chain-results itself next_is ch ∙ ap (λ (r : LentBoth). lent_records r es) start in
+    let results = chain_results itself next_is ch ∙ ap (λ (r : LentBoth). lent_records r es) start in
     record {
-      results-are = results ∙ tally.results-are;
+      results_are = results ∙ tally.results_are;
       last = record_all (start_of (fresh_of k).state) es;
-      last-is = chain-last itself next_is ch ∙ ap (λ (r : LentBoth). lent_all r es) start ∙ tally.last-is;
-      last-plain = refl;
+      last_is = chain_last itself next_is ch ∙ ap (λ (r : LentBoth). lent_all r es) start ∙ tally.last_is;
+      last_plain = refl;
       tallied = rw results tally.tallied;
     }
 
@@ -105,14 +105,14 @@ some_table_start k table stand long = (
     lending table (lent_fresh k table).table,
     ap (λ (a : List ℕ). lent_fresh (parameters_of k.n k.b k.c a) table) (sym (whole k.a stand.limits.size)),
   ),
-  (lent_successes.fresh-iff k table).1 (stand, long),
+  (lent_successes.fresh_iff k table).1 (stand, long),
 )
 
 pub some_summary_start : SomeSummaryStart
 some_summary_start summary long = (
   lent_summary summary,
   (([], tt), lending summary (lent_summary summary).summary, refl),
-  (lent_successes.new-summary-iff summary).1 long,
+  (lent_successes.new_summary_iff summary).1 long,
 )
 
 records_to : (table summary : List ℕ) (act p m : ℕ) → RecordsTo table summary act p m (lent_record table summary act p m)
@@ -123,16 +123,16 @@ records_to table summary act p m =
 table_callable : (l : List ℕ) (d : LentCall) → MadeOnTable l d (lent_call l d)
 unfolding lent_call
 table_callable l d = by_test d.recorded
-    (λ e. MadeOnTable.by-record e (rw e (records_to l d.summary d.action d.process d.time)))
-    (λ e. MadeOnTable.by-step e
+    (λ e. MadeOnTable.by_record e (rw e (records_to l d.summary d.action d.process d.time)))
+    (λ e. MadeOnTable.by_step e
     (rw e (([], tt), lending l (lent_step l d.action d.process d.time).table, refl)) (rw e))
 
 pub some_table_chain : SomeTableChain
-some_table_chain l ds = (results_by lent_call table_after l ds, list-chain lent_call table_after table_callable l ds)
+some_table_chain l ds = (results_by lent_call table_after l ds, list_chain lent_call table_after table_callable l ds)
 
 pub some_recorded_table_chain : SomeRecordedTableChain
 some_recorded_table_chain r es = (
   lent_records r es,
-  list-chain lent_next itself
-      (λ q e. MadeOnBoth.by-record (records_to q.table q.summary e.action e.process e.time)) r es,
+  list_chain lent_next itself
+      (λ q e. MadeOnBoth.by_record (records_to q.table q.summary e.action e.process e.time)) r es,
 )

@@ -19,9 +19,9 @@ use Rattle.exported.specs.TableChains.{SomeTableStart, SomeSummaryStart}
 -- [10.150] [10.236] a result of one call on the numbers l; an adding is made, too, by a recorded step that accepts a crit, on any table and any
 -- summary, with the wait that the two tell
 pub data MadeOnBoard (l : List ℕ) (d : BoardCall) (r : LentBoard) : Type 0 where
-  by-add : d.adds ≡ true → AddsTo l d.time d.process d.wait r → MadeOnBoard l d r
-  by-show : d.adds ≡ false → ShowsOn l d.time r → MadeOnBoard l d r
-  by-tell : d.adds ≡ true → (table summary : List ℕ) (act : ℕ) (t : LentTold)
+  by_add : d.adds ≡ true → AddsTo l d.time d.process d.wait r → MadeOnBoard l d r
+  by_show : d.adds ≡ false → ShowsOn l d.time r → MadeOnBoard l d r
+  by_tell : d.adds ≡ true → (table summary : List ℕ) (act : ℕ) (t : LentTold)
       → TellsTo table summary l act d.process d.time t → entered t.answer.code act ≡ true
       → d.wait ≡ wait_of (table_in table) (summary_in summary) d.process d.time → r ≡ board_gave t.told t.board → MadeOnBoard l d r
 
@@ -44,8 +44,8 @@ pub record SomeBoardChain : Type 0 where
 
 -- [10.220] [10.236] a result of one call, on the numbers that r left; a showing is not lent table and summary, which stay
 pub data MadeTelling (r : LentTold) (d : TellCall) (t : LentTold) : Type 0 where
-  by-tell : d.shows ≡ false → TellsTo r.table r.summary r.board d.action d.process d.time t → MadeTelling r d t
-  by-show : d.shows ≡ true → (b : LentBoard) → ShowsOn r.board d.time b
+  by_tell : d.shows ≡ false → TellsTo r.table r.summary r.board d.action d.process d.time t → MadeTelling r d t
+  by_show : d.shows ≡ true → (b : LentBoard) → ShowsOn r.board d.time b
       → t ≡ told_gave (record_gave (answer_of 0 0 0) r.table r.summary) b → MadeTelling r d t
 
 -- [10.220] [10.236] each on the numbers that the one before it left
@@ -67,7 +67,7 @@ EveryToldFiguresChain = (k : Parameters) (w : ℕ) (table summary board : List �
 
 -- [10.225] [10.236] and of all calls together demand 3 and the tally: the results are those that `ToldHolds` speaks of
 pub record ToldStepsChain (k : Parameters) (w : ℕ) (table summary board : List ℕ) (ds : List TellCall) (rs : List LentTold) : Type 0 where
-  pub results-are : rs ≡ tell_results (tell_start k w table summary board) ds
+  pub results_are : rs ≡ tell_results (tell_start k w table summary board) ds
   pub holds : ToldHolds k w table summary board ds
 
 -- [10.225] [10.236]

@@ -84,8 +84,8 @@ in_numbers_with rest o = lent_gave o.answer (state_numbers_with o.state ++ rest)
 pub record DeadlineTableHolds (k : Parameters) (rest : List ℕ) (es : List Event) (rs : List Lent) (l : List ℕ) : Type 0 where
   pub results : List DeadlineOutcome
   pub last : DeadlineState
-  pub results-are : rs ≡ map (in_numbers_with rest) results
-  pub last-is : l ≡ state_numbers_with last ++ rest
+  pub results_are : rs ≡ map (in_numbers_with rest) results
+  pub last_is : l ≡ state_numbers_with last ++ rest
   pub demand3 : Demand3With k es results last
   pub not_stuck : NotStuckOnDeadlines last l
 

@@ -25,10 +25,10 @@ use Rattle.exported.specs.Lending.{Starts, StartsSummary, StepsTo, RecordsTo, Te
 -- [9.152] a result of one call on the numbers l; a step is not lent the list that stands for a summary, which stays; and a recorded step may
 -- tell a board, whatever numbers that has
 pub data MadeOnTable (l : List ℕ) (d : LentCall) (r : LentBoth) : Type 0 where
-  by-step : d.recorded ≡ false → StepsTo l d.action d.process d.time (lent_gave r.answer r.table)
+  by_step : d.recorded ≡ false → StepsTo l d.action d.process d.time (lent_gave r.answer r.table)
       → r.summary ≡ d.summary → MadeOnTable l d r
-  by-record : d.recorded ≡ true → RecordsTo l d.summary d.action d.process d.time r → MadeOnTable l d r
-  by-tell : d.recorded ≡ true → (board : List ℕ) (t : LentTold) → TellsTo l d.summary board d.action d.process d.time t
+  by_record : d.recorded ≡ true → RecordsTo l d.summary d.action d.process d.time r → MadeOnTable l d r
+  by_tell : d.recorded ≡ true → (board : List ℕ) (t : LentTold) → TellsTo l d.summary board d.action d.process d.time t
       → r ≡ record_gave t.answer t.table t.summary → MadeOnTable l d r
 
 -- [9.152] each on the numbers that the one before it left
@@ -52,8 +52,8 @@ pub record NotStuckOn (s : State) (l : List ℕ) : Type 0 where
 pub record TableChainHolds (k : Parameters) (rest : List ℕ) (ds : List LentCall) (rs : List LentBoth) (l : List ℕ) : Type 0 where
   pub results : List Recorded
   pub last : State
-  pub results-are : rs ≡ all_in_numbers rest ds results
-  pub last-is : l ≡ state_numbers last ++ rest
+  pub results_are : rs ≡ all_in_numbers rest ds results
+  pub last_is : l ≡ state_numbers last ++ rest
   pub demand3 : Demand3 (fresh_of k).state (map call_lent ds) results last
   pub not_stuck : NotStuckOn last l
 
@@ -72,8 +72,8 @@ EveryTakenBack = (table : List ℕ) (p m : ℕ) (f g : Lent)
 
 -- [9.154] a result q of a recorded step, told or not, on the table and the summary that the result r before it left
 pub data MadeOnBoth (r : LentBoth) (e : Event) (q : LentBoth) : Type 0 where
-  by-record : RecordsTo r.table r.summary e.action e.process e.time q → MadeOnBoth r e q
-  by-tell : (board : List ℕ) (t : LentTold) → TellsTo r.table r.summary board e.action e.process e.time t
+  by_record : RecordsTo r.table r.summary e.action e.process e.time q → MadeOnBoth r e q
+  by_tell : (board : List ℕ) (t : LentTold) → TellsTo r.table r.summary board e.action e.process e.time t
       → q ≡ record_gave t.answer t.table t.summary → MadeOnBoth r e q
 
 -- [9.154] each on the table and the summary that the one before it left
@@ -87,10 +87,10 @@ starts_both f x = record_gave f.answer f.table x.summary
 -- [9.154] the acts es gave back rs and left r, which are the numbers, before `rest` and before `spare`, of recorded steps from a fresh table and
 -- with a new summary; and the table and the summary whose numbers are left are tallied, beside the log of the acts and of the codes in rs
 pub record TableTallyHolds (k : Parameters) (rest spare : List ℕ) (es : List Event) (rs : List LentBoth) (r : LentBoth) : Type 0 where
-  pub results-are : rs ≡ map (both_in_numbers rest spare) (records_of (start_of (fresh_of k).state) es)
+  pub results_are : rs ≡ map (both_in_numbers rest spare) (records_of (start_of (fresh_of k).state) es)
   pub last : Recorded
-  pub last-is : r ≡ both_in_numbers rest spare last
-  pub last-plain : last ≡ record_all (start_of (fresh_of k).state) es
+  pub last_is : r ≡ both_in_numbers rest spare last
+  pub last_plain : last ≡ record_all (start_of (fresh_of k).state) es
   pub tallied : Tallied (log_of es (map lent_code rs)) last
 
 -- [9.154] whoever makes the calls, from lists in which `funnelfawn_fresh` and `funnelfawn_new_summary` put a table for k and a summary with

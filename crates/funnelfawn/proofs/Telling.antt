@@ -9,7 +9,7 @@ use Rattle.model.specs.Acts.{crit_act}
 use Rattle.layout.specs.Interface.{record_gave, lent_record, entry_gave, lent_entry}
 use Rattle.recent.specs.Encodings.{board_gave, lent_add}
 use Rattle.recent.specs.Tellings.{told_gave, lent_tell}
-use Rattle.layout.proofs.Recording.{entry-record, entry-wait}
+use Rattle.layout.proofs.Recording.{entry_record, entry_wait}
 use Rattle.funnelfawn.specs.declared.Told.{Told}
 use Rattle.funnelfawn.specs.Telling.{alone_with}
 
@@ -19,18 +19,18 @@ module _ (table summary board : List ℕ) (act p m : ℕ) {step : Answer} {t x :
   Gives r b = told_gave (record_gave r.answer t x) (board_gave r.told b) ≡ lent_tell table summary board act p m
 
   stepped : record_gave step t x ≡ lent_record table summary act p m
-  stepped = entry-record table summary act p m entered
+  stepped = entry_record table summary act p m entered
 
-  pub tell-refused : step.code ≢ 0 → {r : Told} → r ≡ alone_with step → Gives r board
+  pub tell_refused : step.code ≢ 0 → {r : Told} → r ≡ alone_with step → Gives r board
   unfolding lent_tell
-  tell-refused n e = rw (e, ← stepped, ne_eqb _ _ n)
+  tell_refused n e = rw (e, ← stepped, ne_eqb _ _ n)
 
-  pub tell-other : step.code ≡ 0 → act ≢ crit_act → {r : Told} → r ≡ alone_with step → Gives r board
+  pub tell_other : step.code ≡ 0 → act ≢ crit_act → {r : Told} → r ≡ alone_with step → Gives r board
   unfolding lent_tell
-  tell-other a n e = rw (e, ← stepped, a, ne_eqb _ _ n)
+  tell_other a n e = rw (e, ← stepped, a, ne_eqb _ _ n)
 
-  pub tell-entered : step.code ≡ 0 → act ≡ crit_act → {told : Answer} {b : List ℕ} → board_gave told b ≡ lent_add board m p wait
+  pub tell_entered : step.code ≡ 0 → act ≡ crit_act → {told : Answer} {b : List ℕ} → board_gave told b ≡ lent_add board m p wait
       → Gives (record { answer = step; told = told }) b
   unfolding lent_tell
-  tell-entered a c e =
-      rw (← stepped, a, c, ← entry-wait table summary act p m entered a, ← e)
+  tell_entered a c e =
+      rw (← stepped, a, c, ← entry_wait table summary act p m entered a, ← e)

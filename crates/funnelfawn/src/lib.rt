@@ -1,6 +1,8 @@
 // The box for callers in C: each function takes numbers and lists of numbers, any at all, and gives back what its definition says, the
 // lent numbers included. include/funnelfawn.h says the same in C.
 
+#![tactic(auto)]
+
 ghost use Rattle.std.specs.Prelude.{◌≡◌};
 ghost use Rattle.model.specs.States.{parameters_of, limits_in};
 ghost use Rattle.model.specs.Readings.{lent};
@@ -201,7 +203,7 @@ pub extern "C" fn funnelfawn_show_board(board: &mut [u64], clock: u64) -> Answer
 
 // [10.200] The answer of a recorded step, and what the board answered.
 #[repr(C)]
-#[derive(Drop)]
+#[derive(Clone, Copy)]
 pub struct Told {
     pub answer: Answer,
     pub told: Answer,

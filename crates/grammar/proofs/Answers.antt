@@ -20,7 +20,7 @@ use Rattle.model.specs.Writings.{formless_from, Written, unwritten, written, fit
 use Rattle.model.specs.Reports.{report_text}
 use Rattle.grammar.specs.Exact.{Formed}
 use Rattle.grammar.specs.Faults.{Fault, long, names, values, count, limit-names, limit, limits, steps, step}
-use Rattle.grammar.specs.Answers.{Readable, ReadTells, ReadIff, TellsLine, of-count, of-limits, of-names, of-line, of-text}
+use Rattle.grammar.specs.Answers.{Readable, ReadTells, ReadIff, TellsLine, of_count, of-limits, of_names, of_line, of_text}
 use Rattle.grammar.specs.Answers.{Unreadable, RefusedRead, ReadRefusedExactly, Wrote, WriteTells, WriteIff, ReportTells, ReportIff}
 use Rattle.model.proofs.Tests.{by_cond, and_true_iff, tests}
 use Rattle.grammar.proofs.Faults.{fault_some}
@@ -62,26 +62,26 @@ read_iff text l = (
 
 -- a fault tells the line that `line_told` has for it
 fault_line : {text : List ℕ} {code line : ℕ} → Fault text code line → TellsLine code line (line_told code line)
-fault_line (long h) = of-text
-fault_line (names h d f) = of-names
-fault_line (values first rest more w h e d) = of-line
-fault_line (count first n others rest w s c) = of-count
-fault_line (limit-names n b c rest s e d) = of-names
-fault_line (limit n b c a rest s e f l d) = of-line
+fault_line (long h) = of_text
+fault_line (names h d f) = of_names
+fault_line (values first rest more w h e d) = of_line
+fault_line (count first n others rest w s c) = of_count
+fault_line (limit-names n b c rest s e d) = of_names
+fault_line (limit n b c a rest s e f l d) = of_line
 fault_line (limits k first rest line w h e c l) = of-limits
-fault_line (steps k first rest line w h e st d) = of-names
-fault_line (step k head line events rest w h e st f some none) = of-line
+fault_line (steps k first rest line w h e st d) = of_names
+fault_line (step k head line events rest w h e st f some none) = of_line
 
 told_line : {code line told : ℕ} → TellsLine code line told → line_told code line ≡ told
-told_line of-count = refl
+told_line of_count = refl
 told_line of-limits = refl
-told_line of-names = refl
-told_line of-line = refl
-told_line of-text = refl
+told_line of_names = refl
+told_line of_line = refl
+told_line of_text = refl
 
 -- all that a refused reading gives back
 refused_read : (l : Lists) (code line : ℕ) → code ≢ 0 → RefusedRead l code (line_told code line) (read_gave (reading_from (scan_fails code line)) l)
-refused_read l code line some = simp (ne_eqb code 0 some) (record { answer = refl; parameters = refl; lists-stay = refl })
+refused_read l code line some = simp (ne_eqb code 0 some) (record { answer = refl; parameters = refl; lists_stay = refl })
 
 module _ (text : List ℕ) (l : Lists) (code time : ℕ) (some : code ≢ 0) where
   abbrev Why : Scanned → Type 0
@@ -105,7 +105,7 @@ unfolding read_of scanned_of
 so {l = l} (Unreadable.faulty {code} {line} f t) =
     rw (refused_when f, ← told_line t) (refused_read l code line (λ (q : code ≡ 0). omega (arith, fault_some f)))
 so {text} {l} (Unreadable.no_room line k events says h) =
-    rw ((read_exactly text line k events).1 says, lt-ltb (room l) (length events) h) (record { answer = refl; parameters = refl; lists-stay = refl })
+    rw ((read_exactly text line k events).1 says, lt-ltb (room l) (length events) h) (record { answer = refl; parameters = refl; lists_stay = refl })
 
 pub read_refused_exactly : ReadRefusedExactly
 unfolding read_of scanned_of
@@ -117,8 +117,8 @@ read_refused_exactly text l code time some = (why text l code time some (trace_o
 pub wrote : (text out : List ℕ) → Wrote text out (written text out)
 wrote text out = record {
   answer = refl;
-  text-is = take_at text (drop (length text) out) (length text) refl;
-  rest-stays = drop-append_seam text (drop (length text) out);
+  text_is = take_at text (drop (length text) out) (length text) refl;
+  rest_stays = drop-append_seam text (drop (length text) out);
 }
 
 -- a text that is put as it is
@@ -132,18 +132,18 @@ fitted_short text out h = rw (lt-ltb (length out) (length text) h)
 
 -- of parameters that stand and steps that have a form, it is the text that decides
 module _ (k : Parameters) (events : List Event) (out : List ℕ) (stand : parameters_stand k ≡ true) (forms : formless_from (first_line k) events ≡ 0) where
-  pub write-long : text_limit < length (trace_text k events) → write_of k events out ≡ unwritten 15 0 out
+  pub write_long : text_limit < length (trace_text k events) → write_of k events out ≡ unwritten 15 0 out
   unfolding write_of
-  write-long h = let e = (and_true_iff (count_stands k.n) (limits_stand k)).0 stand in simp (e.0, e.1, forms, lt-ltb _ _ h)
+  write_long h = let e = (and_true_iff (count_stands k.n) (limits_stand k)).0 stand in simp (e.0, e.1, forms, lt-ltb _ _ h)
 
-  pub write-fitted : length (trace_text k events) ≤ text_limit → write_of k events out ≡ fitted (trace_text k events) out
+  pub write_fitted : length (trace_text k events) ≤ text_limit → write_of k events out ≡ fitted (trace_text k events) out
   unfolding write_of
-  write-fitted h = let e = (and_true_iff (count_stands k.n) (limits_stand k)).0 stand in simp (e.0, e.1, forms, le-ltb _ _ h)
+  write_fitted h = let e = (and_true_iff (count_stands k.n) (limits_stand k)).0 stand in simp (e.0, e.1, forms, le-ltb _ _ h)
 
 -- all that it gives back
 pub write_is : (k : Parameters) (events : List Event) (out : List ℕ) → Formed k events → length (trace_text k events) ≤ length out
     → write_of k events out ≡ written (trace_text k events) out
-write_is k events out f h = write-fitted k events out f.stand f.forms f.short ∙ fitted_is (trace_text k events) out h
+write_is k events out f h = write_fitted k events out f.stand f.forms f.short ∙ fitted_is (trace_text k events) out h
 
 pub write_tells : WriteTells
 write_tells k events out f h = rw (write_is k events out f h) (wrote (trace_text k events) out)
@@ -153,9 +153,9 @@ module _ (k : Parameters) (events : List Event) (out : List ℕ) where
   abbrev Done : Written → Type 0
   Done w = w.answer.code ≡ 0 → Formed k events × (length (trace_text k events) ≤ length out)
 
-  write-was : Done (write_of k events out)
+  write_was : Done (write_of k events out)
   unfolding write_of fitted
-  write-was =
+  write_was =
       by_cond Done (not (count_stands k.n)) (λ _ e. absurd (omega arith)) (λ t1.
       by_cond Done (not (limits_stand k)) (λ _ e. absurd (omega arith)) (λ t2.
       by_cond Done (not (eqb (formless_from (first_line k) events) 0)) (λ _ e. absurd (omega arith)) (λ t3.
@@ -170,7 +170,7 @@ module _ (k : Parameters) (events : List Event) (out : List ℕ) where
       ))))))
 
 pub write_iff : WriteIff
-write_iff k events out = (write-was k events out, λ h. ap (λ (w : Written). w.answer.code) (write_is k events out h.0 h.1))
+write_iff k events out = (write_was k events out, λ h. ap (λ (w : Written). w.answer.code) (write_is k events out h.0 h.1))
 
 -- Reports
 
@@ -178,13 +178,13 @@ module _ (text out : List ℕ) where
   abbrev Told : Written → Type 0
   Told w = w.answer.code ≡ 0 → length text ≤ length out
 
-  fitted-was : Told (fitted text out)
+  fitted_was : Told (fitted text out)
   unfolding fitted
-  fitted-was = by_cond Told (ltb (length out) (length text)) (λ _ e. absurd (omega arith)) (λ t _. ltb-false _ _ t)
+  fitted_was = by_cond Told (ltb (length out) (length text)) (λ _ e. absurd (omega arith)) (λ t _. ltb-false _ _ t)
 
 pub report_tells : ReportTells
 report_tells text out h = rw (fitted_is (report_text text) out h) (wrote (report_text text) out)
 
 pub report_iff : ReportIff
 report_iff text out =
-    (fitted-was (report_text text) out, λ h. ap (λ (w : Written). w.answer.code) (fitted_is (report_text text) out h))
+    (fitted_was (report_text text) out, λ h. ap (λ (w : Written). w.answer.code) (fitted_is (report_text text) out h))

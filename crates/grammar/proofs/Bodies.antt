@@ -77,33 +77,33 @@ pub some_left : (s : List ℕ) (at : ℕ) → at < length s → 0 < length (drop
 some_left s at h = omega (arith, length-drop at s)
 
 module _ (s : List ℕ) (first at count t p a k : ℕ) (more : at < length s) (e : event_at (first + count) (drop at s) ≡ Step t p a k) where
-  pub along-turn : body_of (first + count) (drop at s) ≡ before (event t p a) (body_of (first + (count + 1)) (drop (at + k) s))
-  along-turn = rw (add_assoc, drop-drop) at (body_step (first + count) (drop at s) (some_left s at more) t p a k e)
+  pub along_turn : body_of (first + count) (drop at s) ≡ before (event t p a) (body_of (first + (count + 1)) (drop (at + k) s))
+  along_turn = rw (add_assoc, drop-drop) at (body_step (first + count) (drop at s) (some_left s at more) t p a k e)
 
-  pub along-more : 0 < k
-  along-more = taken_some (first + count) (drop at s) t p a k e
+  pub along_more : 0 < k
+  along_more = taken_some (first + count) (drop at s) t p a k e
 
-  pub along-inside : at + k ≤ length s
-  along-inside = omega (arith, took_le (event_was (first + count) (drop at s) t p a k e).took, length-drop at s)
+  pub along_inside : at + k ≤ length s
+  along_inside = omega (arith, took_le (event_was (first + count) (drop at s) t p a k e).took, length-drop at s)
 
-  pub along-step : Along s first at count → Along s first (at + k) (count + 1)
-  along-step g =
+  pub along_step : Along s first at count → Along s first (at + k) (count + 1)
+  along_step g =
       record {
-        inside = along-inside;
-        fewer = omega (arith, along-more, g.fewer);
-        counted = omega (arith, g.counted, ap (λ (b : Body). length b.events) along-turn);
-        fault = sym (ap (λ (b : Body). b.fault) along-turn) ∙ g.fault;
+        inside = along_inside;
+        fewer = omega (arith, along_more, g.fewer);
+        counted = omega (arith, g.counted, ap (λ (b : Body). length b.events) along_turn);
+        fault = sym (ap (λ (b : Body). b.fault) along_turn) ∙ g.fault;
       }
 
 module _ (s : List ℕ) (first at count : ℕ) (g : Along s first at count) where
-  pub along-end : length s ≤ at → (count ≡ length (body_of first s).events) × ((body_of first s).fault ≡ 0)
-  along-end h =
+  pub along_end : length s ≤ at → (count ≡ length (body_of first s).events) × ((body_of first s).fault ≡ 0)
+  along_end h =
       let b : body_of (first + count) (drop at s) ≡ record { events = []; fault = 0 } =
       rw (drop_end s at h g.inside) (body_end (first + count)) in
       (omega (arith, g.counted, ap (λ (x : Body). length x.events) b), sym g.fault ∙ ap (λ (x : Body). x.fault) b)
 
-  pub along-fault : (code line : ℕ) → at < length s → event_at (first + count) (drop at s) ≡ Unread code line
+  pub along_fault : (code line : ℕ) → at < length s → event_at (first + count) (drop at s) ≡ Unread code line
       → (count ≡ length (body_of first s).events) × ((body_of first s).fault ≡ first + count)
-  along-fault code line h e =
+  along_fault code line h e =
       let b = body_fault (first + count) (drop at s) (some_left s at h) code line e in
       (omega (arith, g.counted, ap (λ (x : Body). length x.events) b), sym g.fault ∙ ap (λ (x : Body). x.fault) b)

@@ -26,8 +26,8 @@ use Rattle.grammar.proofs.Lines.{took_then, event_some, event_was, event_reads}
 use Rattle.grammar.proofs.Digits.{form_iff_digits}
 use Rattle.grammar.proofs.Bodies.{body_step, body_fault, body_end}
 use Rattle.grammar.proofs.Shapes.{first-line}
-use Rattle.grammar.proofs.Heads.{HeadTook, head_line, HeadTells, head_tells, head_reads, trace-refused, trace-events, trace-fault}
-use Rattle.grammar.proofs.Heads.{fails_long, fails_names, fails_values, fails_count, fails-limit-names, fails_limit, fails-limits, fails-steps}
+use Rattle.grammar.proofs.Heads.{HeadTook, head_line, HeadTells, head_tells, head_reads, trace_refused, trace_events, trace_fault}
+use Rattle.grammar.proofs.Heads.{fails_long, fails_names, fails_values, fails_count, fails_limit_names, fails_limit, fails_limits, fails_steps}
 
 -- The steps
 
@@ -127,11 +127,11 @@ trace_reads : {text : List ℕ} {line : ℕ} {k : Parameters} {events : List Eve
 trace_reads {text} {line} {k} {events} f =
     let head : List ℕ = f.head in
     let h : head_of text ≡ scan_of line k (length head) =
-    rw f.text-is (head_reads f.shape (events_text events) f.stand (rw f.text-is at f.short)) in
+    rw f.text_is (head_reads f.shape (events_text events) f.stand (rw f.text_is at f.short)) in
     let body : body_of line (drop (length head) text) ≡ record { events = events; fault = 0 } =
-    rw (f.text-is, drop-append_seam, ← append-nil (events_text events))
+    rw (f.text_is, drop-append_seam, ← append-nil (events_text events))
     (body_reads line events [] (first-line f.shape f.stand).0 f.forms ∙ rw (body_end (line + length events), append-nil)) in
-    trace-events text (scan_of line k (length head)) h refl (ap (λ (b : Body). b.fault) body) ∙ rw body
+    trace_events text (scan_of line k (length head)) h refl (ap (λ (b : Body). b.fault) body) ∙ rw body
 
 -- a line that is no step ends the steps
 body_stops : (line : ℕ) (rest : List ℕ) → 0 < length rest → NoStep rest → body_of line rest ≡ record { events = []; fault = line }
@@ -157,7 +157,7 @@ module _ (text : List ℕ) (h : Scan) (told : HeadTook text h) (body : Body) (r 
   says z = record {
     head = told.head;
     shape = told.shape;
-    text-is = rw (r.ends z, append-nil) at split;
+    text_is = rw (r.ends z, append-nil) at split;
     stand = told.stand;
     forms = r.forms h.line;
     short = told.short;
@@ -171,8 +171,8 @@ module _ (text : List ℕ) (h : Scan) (told : HeadTook text h) (body : Body) (r 
       (step h.parameters told.head h.line body.events r.rest told.shape told.short split told.stand (r.forms h.line)
       o.some o.none)
 
-  body-then : TraceTells text (of_body h.line h.parameters body)
-  body-then = by_cond (TraceTells text) (eqb body.fault 0) (λ t. says (eqb-true _ _ t)) (λ t. faulty (eqb-false _ _ t))
+  body_then : TraceTells text (of_body h.line h.parameters body)
+  body_then = by_cond (TraceTells text) (eqb body.fault 0) (λ t. says (eqb-true _ _ t)) (λ t. faulty (eqb-false _ _ t))
 
 head_then : (text : List ℕ) (h : Scan) → HeadTells text h → TraceTells text (of_head text h)
 unfolding body_of
@@ -181,7 +181,7 @@ head_then text h t =
     by_cond (TraceTells text) (eqb h.code 0)
     (λ z.
     let told = t.read (eqb-true h.code 0 z) in
-    body-then text h told (body_in (length s) h.line s) (body_tells (length s) h.line s (head_line told).0 (omega arith)))
+    body_then text h told (body_in (length s) h.line s) (body_tells (length s) h.line s (head_line told).0 (omega arith)))
     (λ n. t.faulty (eqb-false h.code 0 n))
 
 pub trace_tells : (text : List ℕ) → TraceTells text (trace_of text)
@@ -195,12 +195,12 @@ read_exactly text line k events =
 -- the text that is written for a trace that has a form says it
 pub formed_says : {k : Parameters} {events : List Event} → Formed k events → Says (trace_text k events) (first_line k) k events
 formed_says {k} f =
-    record { head = head_text k; shape = FirstLines.new k; text-is = refl; stand = f.stand; forms = f.forms; short = f.short }
+    record { head = head_text k; shape = FirstLines.new k; text_is = refl; stand = f.stand; forms = f.forms; short = f.short }
 
 -- A text with a fault is refused for it
 
 fails_first : {text : List ℕ} {code line : ℕ} → Fault text code line → head_of text ≡ scan_fails code line → trace_of text ≡ refused code line
-fails_first {text} {code} {line} f e = trace-refused text (scan_fails code line) e (λ z. omega (arith, fault_some f))
+fails_first {text} {code} {line} f e = trace_refused text (scan_fails code line) e (λ z. omega (arith, fault_some f))
 
 fails_step : {text : List ℕ} {k : Parameters} {head : List ℕ} {line : ℕ} (events : List Event) (rest : List ℕ) → FirstLines k head line
     → length text ≤ text_limit → text ≡ head ++ (events_text events ++ rest) → parameters_stand k ≡ true
@@ -211,17 +211,17 @@ fails_step {text} {k} {head} {line} events rest shape short is stand forms some 
     let h : head_of text ≡ scan_of line k (length head) = rw is (head_reads shape (events_text events ++ rest) stand (rw is at short)) in
     let fault : (body_of line (drop (length head) text)).fault ≡ line + length events =
     rw (is, drop-append_seam, body_reads line events rest first.0 forms, body_stops (line + length events) rest some none) in
-    trace-fault text (scan_of line k (length head)) h refl (λ z. omega (arith, fault)) ∙ rw fault
+    trace_fault text (scan_of line k (length head)) h refl (λ z. omega (arith, fault)) ∙ rw fault
 
 pub refused_when : {text : List ℕ} {code line : ℕ} → Fault text code line → trace_of text ≡ refused code line
 refused_when {text} (long h) = fails_first (long h) (fails_long text h)
 refused_when {text} (names h d f) = fails_first (names h d f) (fails_names text h d f)
 refused_when (values first rest more w h e d) = fails_first (values first rest more w h e d) (fails_values w rest h e d)
 refused_when (count first n others rest w s c) = fails_first (count first n others rest w s c) (fails_count w refl s c)
-refused_when (limit-names n b c rest s e d) = fails_first (limit-names n b c rest s e d) (fails-limit-names s e d)
+refused_when (limit-names n b c rest s e d) = fails_first (limit-names n b c rest s e d) (fails_limit_names s e d)
 refused_when (limit n b c a rest s e f l d) = fails_first (limit n b c a rest s e f l d) (fails_limit a rest s e f l d)
-refused_when (limits k first rest line w h e c l) = fails_first (limits k first rest line w h e c l) (fails-limits h w rest e c l)
-refused_when (steps k first rest line w h e st d) = fails_first (steps k first rest line w h e st d) (fails-steps h w rest e st d)
+refused_when (limits k first rest line w h e c l) = fails_first (limits k first rest line w h e c l) (fails_limits h w rest e c l)
+refused_when (steps k first rest line w h e st d) = fails_first (steps k first rest line w h e st d) (fails_steps h w rest e st d)
 refused_when (step k head line events rest w h e st f some none) = fails_step events rest w h e st f some none
 
 pub refused_exactly : RefusedExactly

@@ -34,10 +34,10 @@ took text s k e = record { split = ap (λ (l : List ℕ). text ++ l) (sym (drop_
 -- A number that is written is read
 
 module _ (bound end : ℕ) (small : end < 48) where
-  digit-taken : (v k d : ℕ) (s : List ℕ) → d < 10 → (0 < k → 0 < v) → v * 10 + d < bound
+  digit_taken : (v k d : ℕ) (s : List ℕ) → d < 10 → (0 < k → 0 < v) → v * 10 + d < bound
       → number_from bound end v k ((48 + d) ∷ s) ≡ number_from bound end (v * 10 + d) (k + 1) s
   unfolding number_from
-  digit-taken v k d s h pos l =
+  digit_taken v k d s h pos l =
       let q : 48 + d - 48 ≡ d = omega arith in
       let other : eqb (48 + d) end ≡ false = simp tests (λ (e : 48 + d ≡ end). omega arith) in
       let digit : (ltb (48 + d) 48 || ltb 57 (48 + d)) ≡ false = simp tests (omega arith, omega arith) in
@@ -45,46 +45,46 @@ module _ (bound end : ℕ) (small : end < 48) where
       simp tests (λ (e : v ≡ 0). if_lt 0 k (λ g. omega (arith, pos g)) (λ g. omega arith)) in
       rw q (simp (other, digit, led, lt-leb bound (v * 10 + d) l))
 
-  digits-taken : (f v : ℕ) (s : List ℕ) → v < f → v < bound
+  digits_taken : (f v : ℕ) (s : List ℕ) → v < f → v < bound
       → number_from bound end 0 0 (decimal v ++ s) ≡ number_from bound end v (length (decimal v)) s
-  digits-taken zero v s h l = absurd (omega arith)
-  digits-taken (suc f) v s h l =
+  digits_taken zero v s h l = absurd (omega arith)
+  digits_taken (suc f) v s h l =
       if_lt v 10
       (λ t. let z : 0 + v ≡ v = omega arith in
-      rw (decimal_small v t) (digit-taken 0 0 v s t (λ (g : 0 < 0). omega arith) (omega arith) ∙ rw z))
+      rw (decimal_small v t) (digit_taken 0 0 v s t (λ (g : 0 < 0). omega arith) (omega arith) ∙ rw z))
       (λ m. let q : v / 10 * 10 + v % 10 ≡ v = omega arith in
       let k : ℕ = length (decimal (v / 10)) in
       let size : length (decimal v) ≡ k + 1 =
       rw (decimal_more v m) (length-append (decimal (v / 10)) ((48 + v % 10) ∷ [])) in
       rw (size, decimal_more v m, append_snoc)
-      (digits-taken f (v / 10) ((48 + v % 10) ∷ s) (omega arith) (omega arith)
-      ∙ (digit-taken (v / 10) k (v % 10) s (omega arith) (λ (g : 0 < k). omega arith) (omega arith) ∙ rw q)))
+      (digits_taken f (v / 10) ((48 + v % 10) ∷ s) (omega arith) (omega arith)
+      ∙ (digit_taken (v / 10) k (v % 10) s (omega arith) (λ (g : 0 < k). omega arith) (omega arith) ∙ rw q)))
 
-  pub number-reads : (v : ℕ) (s : List ℕ) → v < bound
+  pub number_reads : (v : ℕ) (s : List ℕ) → v < bound
       → number_at bound end (number_text end v ++ s) ≡ Value v (length (number_text end v))
   unfolding number_text number_from
-  number-reads v s l =
+  number_reads v s l =
       let some : eqb (length (decimal v)) 0 ≡ false = ne_eqb _ _ (λ (z : length (decimal v) ≡ 0). omega (arith, some_digit v)) in
-      rw (append_snoc (decimal v) end s, digits-taken (suc v) v (end ∷ s) (omega arith) l)
+      rw (append_snoc (decimal v) end s, digits_taken (suc v) v (end ∷ s) (omega arith) l)
       (simp (eq-eqb end end refl, some, length-append))
 
 -- So its bytes tell it, whatever follows
 
 module _ (end : ℕ) (small : end < 48) where
   -- a text starts with one number at most
-  pub number-first : (v w : ℕ) (s t : List ℕ) → number_text end v ++ s ≡ number_text end w ++ t → (v ≡ w) × (s ≡ t)
-  number-first v w s t e =
+  pub number_first : (v w : ℕ) (s t : List ℕ) → number_text end v ++ s ≡ number_text end w ++ t → (v ≡ w) × (s ≡ t)
+  number_first v w s t e =
       let bound : ℕ = suc (v + w) in
       let read =
-      sym (number-reads bound end small v s (omega arith)) ∙ (ap (number_at bound end) e ∙ number-reads bound end small w t (omega arith)) in
+      sym (number_reads bound end small v s (omega arith)) ∙ (ap (number_at bound end) e ∙ number_reads bound end small w t (omega arith)) in
       let same : v ≡ w = cc in
       let text : List ℕ = number_text end w in
       (same, sym (drop-append_seam text s) ∙ (ap (drop (length text)) (rw same at e) ∙ drop-append_seam text t))
 
   -- and with none where none is read
-  pub number-none : (v : ℕ) (s t : List ℕ) → ((bound : ℕ) → number_at bound end t ≡ Bad) → number_text end v ++ s ≢ t
-  number-none v s t none e =
-      let read = sym (number-reads (suc v) end small v s (omega arith)) ∙ (ap (number_at (suc v) end) e ∙ none (suc v)) in
+  pub number_none : (v : ℕ) (s t : List ℕ) → ((bound : ℕ) → number_at bound end t ≡ Bad) → number_text end v ++ s ≢ t
+  number_none v s t none e =
+      let read = sym (number_reads (suc v) end small v s (omega arith)) ∙ (ap (number_at (suc v) end) e ∙ none (suc v)) in
       let z : ◌≡◌ {A = ℕ} 0 1 = cc in
       absurd (omega arith)
 
@@ -122,10 +122,10 @@ module _ (bound end : ℕ) where
   NumberTells s (Value v k) = Took s (number_text end v) k × (v < bound)
   NumberTells s Bad = Unit
 
-  number-tells : (s p : List ℕ) (v k : ℕ) → Digits p v k → v < bound → NumberTells (p ++ s) (number_from bound end v k s)
+  number_tells : (s p : List ℕ) (v k : ℕ) → Digits p v k → v < bound → NumberTells (p ++ s) (number_from bound end v k s)
   unfolding number_from
-  number-tells [] p v k d l = tt
-  number-tells (x ∷ s) p v k d l =
+  number_tells [] p v k d l = tt
+  number_tells (x ∷ s) p v k d l =
       by_cond (NumberTells (p ++ x ∷ s)) (eqb x end)
       (λ t.
       by_cond (NumberTells (p ++ x ∷ s)) (eqb k 0) (λ _. tt) (λ z.
@@ -139,14 +139,14 @@ module _ (bound end : ℕ) where
       let pos : 0 < k → 0 < v = λ (g : 0 < k). if_eq v 0 (λ e. omega (arith, led e)) (λ n. omega arith) in
       let q : 48 + (x - 48) ≡ x = omega arith in
       rw append_snoc at
-      (number-tells s (p ++ (x ∷ [])) (v * 10 + (x - 48)) (k + 1)
+      (number_tells s (p ++ (x ∷ [])) (v * 10 + (x - 48)) (k + 1)
       (rw q at (more_digits p v k (x - 48) d (omega arith) pos)) (leb-false _ _ m))))))
 
-  pub number-was : (s : List ℕ) (v k : ℕ) → 0 < bound → number_at bound end s ≡ Value v k
+  pub number_was : (s : List ℕ) (v k : ℕ) → 0 < bound → number_at bound end s ≡ Value v k
       → Took s (number_text end v) k × (v < bound)
-  number-was s v k h e =
+  number_was s v k h e =
       rw e at
-      (number-tells s [] 0 0 (record { none = λ _. (refl, refl); some = λ (g : 0 < 0). absurd (omega arith); size = refl }) h)
+      (number_tells s [] 0 0 (record { none = λ _. (refl, refl); some = λ (g : 0 < 0). absurd (omega arith); size = refl }) h)
 
 -- The start of a text
 

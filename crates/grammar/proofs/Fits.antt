@@ -28,13 +28,13 @@ events_long line (e ∷ es) h f =
 
 -- what the first lines of either shape leave for the steps, and the line of the first of them
 module _ {text : List ℕ} {line : ℕ} {k : Parameters} {events : List Event} (s : Says text line k events) where
-  pub says-long : 38 + length (events_text events) ≤ length text
-  says-long = omega (arith, ap length s.text-is ∙ length-append s.head (events_text events), first_long s.shape)
+  pub says_long : 38 + length (events_text events) ≤ length text
+  says_long = omega (arith, ap length s.text_is ∙ length-append s.head (events_text events), first_long s.shape)
 
-  pub says-line : (0 < line) × (line ≤ text_limit)
-  says-line =
+  pub says_line : (0 < line) × (line ≤ text_limit)
+  says_line =
       let f = first-line s.shape s.stand in
-      let t = ap length s.text-is ∙ length-append s.head (events_text events) in
+      let t = ap length s.text_is ∙ length-append s.head (events_text events) in
       let h = s.short in
       (f.0, omega arith)
 
@@ -42,4 +42,4 @@ module _ {text : List ℕ} {line : ℕ} {k : Parameters} {events : List Event} (
 pub events_fit : (text : List ℕ) (line : ℕ) (k : Parameters) (events : List Event) → trace_of text ≡ trace line k events → length events ≤ 8187
 events_fit text line k events e =
     let s = (read_exactly text line k events).0 e in
-    omega (arith, s.short, says-long s, events_long line events (says-line s).0 s.forms)
+    omega (arith, s.short, says_long s, events_long line events (says_line s).0 s.forms)

@@ -25,7 +25,7 @@ use Rattle.grammar.specs.Faults.{Differs, NoValues, NoLimit, Shape, StartsWithVa
 use Rattle.grammar.specs.Faults.{Fault, long, names, values, count, limit-names, limit, limits, steps}
 use Rattle.grammar.proofs.Fields.{Took, starts_took, starts_here}
 use Rattle.grammar.proofs.Lines.{took_both, numbers_many, numbers_was, numbers_fail, numbers_reads}
-use Rattle.grammar.proofs.LinesOfA.{LimitsTook, LimitsStop, LimitsTell, limits_tell, limits_stop, limits-filled, limits-read}
+use Rattle.grammar.proofs.LinesOfA.{LimitsTook, LimitsStop, LimitsTell, limits_tell, limits_stop, limits_filled, limits_read}
 use Rattle.grammar.proofs.Shapes.{count_parts, first_lines, limited, first-line}
 use Rattle.grammar.proofs.Faults.{fault_some, differs, starts_not}
 
@@ -62,9 +62,9 @@ first_stays (v ∷ vs) l i = first_stays vs (set l (suc i) v) (suc i) ∙ get_or
 
 module _ (text : List ℕ) (short : length text ≤ text_limit) where
   -- the limits have been read: they are judged, and the names of the steps follow
-  judge-tells : {k : Parameters} {first : List ℕ} {line at : ℕ} → LimitLines k first line → Took text first at → count_stands k.n ≡ true
+  judge_tells : {k : Parameters} {first : List ℕ} {line at : ℕ} → LimitLines k first line → Took text first at → count_stands k.n ≡ true
       → HeadTells text (judge_limits text at line k)
-  judge-tells {k} {first} {line} {at} lines t c =
+  judge_tells {k} {first} {line} {at} lines t c =
       let rest = drop at text in
       by_cond (HeadTells text) (not (limits_stand k)) (λ u. fails (limits k first rest line lines short t.split c (not-true _ u))) (λ u.
       let stand = (and_true_iff (count_stands k.n) (limits_stand k)).1 (c, not-false _ u) in
@@ -82,9 +82,9 @@ module _ (text : List ℕ) (short : length text ≤ text_limit) where
       }))
 
   -- line 2, of either shape
-  second-fails : {first : List ℕ} {more : ℕ} → Shape first more → starts_with first text ≡ true
+  second_fails : {first : List ℕ} {more : ℕ} → Shape first more → starts_with first text ≡ true
       → (l : Line) → numbers_at 2 more (drop (length first) text) ≡ l → l.code ≢ 0 → HeadTells text (scan_fails l.code l.line)
-  second-fails {first} {more} shape named l e n =
+  second_fails {first} {more} shape named l e n =
       let s = drop (length first) text in
       rw (numbers_fail 2 more s l e n)
       (fails (values first s more shape short (starts_took first text named).split (λ m others q h rest p.
@@ -109,28 +109,28 @@ module _ (text : List ℕ) (short : length text ≤ text_limit) where
         rw (r.told, line)
         (fails (limit n b c r.values r.rest (record { short = short; is = is; digits = digits }) stands r.digits r.fewer r.none))
 
-    lines-read : LimitsTook (drop at text) n 1 0 0 (replicate 96 0) l → HeadTells text (judge_limits text (at + l.size) (n + 3) (parameters_of n b c l.a))
+    lines_read : LimitsTook (drop at text) n 1 0 0 (replicate 96 0) l → HeadTells text (judge_limits text (at + l.size) (n + 3) (parameters_of n b c l.a))
     unfolding values_text
-    lines-read r =
+    lines_read r =
         let v = r.values in
         let p = count_parts n stands in
         let many = r.counted in
-        let filled : l.a ≡ limits_in v = r.is ∙ limits-filled v (omega arith) in
+        let filled : l.a ≡ limits_in v = r.is ∙ limits_filled v (omega arith) in
         let size : at + r.bytes ≡ at + l.size = omega (arith, r.sized) in
         let took : Took text (value_names ++ (second ++ (limit_names ++ limits_text 1 v))) (at + l.size) =
         rw (append_assoc second limit_names (limits_text 1 v), size) at (took_both t r.took) in
         subst (λ (a : List ℕ). HeadTells text (judge_limits text (at + l.size) (n + 3) (parameters_of n b c a))) (sym filled)
-        (judge-tells (LimitLines.new n b c v many (digits.0, (digits.1.0, (digits.1.1.0, r.digits)))) took stands)
+        (judge_tells (LimitLines.new n b c v many (digits.0, (digits.1.0, (digits.1.1.0, r.digits)))) took stands)
 
     lines_tell : LimitsTell (drop at text) n 1 0 0 (replicate 96 0) l → HeadTells text (of_limits text at n b c l)
     lines_tell tells =
         by_cond (HeadTells text) (not (eqb l.code 0))
         (λ u. line-fails (tells.fails (simp tests at u)))
-        (λ u. lines-read (tells.read (simp tests at u)))
+        (λ u. lines_read (tells.read (simp tests at u)))
 
-  values-tell : (at n b c : ℕ) → Took text (value_names ++ numbers_text n (b ∷ c ∷ [])) at → Few (n ∷ b ∷ c ∷ [])
+  values_tell : (at n b c : ℕ) → Took text (value_names ++ numbers_text n (b ∷ c ∷ [])) at → Few (n ∷ b ∷ c ∷ [])
       → HeadTells text (after_values text at n b c)
-  values-tell at n b c t digits =
+  values_tell at n b c t digits =
       let rest = drop at text in
       let s = starts {others = b ∷ c ∷ []} t digits in
       by_cond (HeadTells text) (not (count_stands n)) (λ u. fails (count value_names n (b ∷ c ∷ []) rest Shape.new s (not-true _ u))) (λ u.
@@ -141,62 +141,62 @@ module _ (text : List ℕ) (short : length text ≤ text_limit) where
       lines_tell n b c at' digits (not-false _ u) (took_both t (starts_took limit_names rest (not-false _ v))) _
       (limits_tell n 1 0 0 (replicate 96 0) (drop at' text) refl (omega (arith, count_parts n (not-false _ u))))))
 
-  new-tells : starts_with value_names text ≡ true → (l : Line) → numbers_at 2 2 (drop (length value_names) text) ≡ l → HeadTells text (of_values text l)
-  new-tells named l e =
-      by_cond (HeadTells text) (not (eqb l.code 0)) (λ t. second-fails Shape.new named l e (simp tests at t)) (λ t.
+  new_tells : starts_with value_names text ≡ true → (l : Line) → numbers_at 2 2 (drop (length value_names) text) ≡ l → HeadTells text (of_values text l)
+  new_tells named l e =
+      by_cond (HeadTells text) (not (eqb l.code 0)) (λ t. second_fails Shape.new named l e (simp tests at t)) (λ t.
       let w = numbers_was 2 2 (drop (length value_names) text) l (omega arith) e (simp tests at t) in
-      values-tell (length value_names + l.size) _ _ _ (took_both (starts_took value_names text named) w.took) w.digits)
+      values_tell (length value_names + l.size) _ _ _ (took_both (starts_took value_names text named) w.took) w.digits)
 
   -- the former shape
-  former-values-tell : (at n a b c : ℕ) → Took text (former_names ++ numbers_text n (a ∷ b ∷ c ∷ [])) at → Few (n ∷ a ∷ b ∷ c ∷ [])
+  former_values_tell : (at n a b c : ℕ) → Took text (former_names ++ numbers_text n (a ∷ b ∷ c ∷ [])) at → Few (n ∷ a ∷ b ∷ c ∷ [])
       → HeadTells text (after_former text at n a b c)
   unfolding former_values_text
-  former-values-tell at n a b c t digits =
+  former_values_tell at n a b c t digits =
       by_cond (HeadTells text) (not (count_stands n))
       (λ u. fails (count former_names n (a ∷ b ∷ c ∷ []) (drop at text) Shape.former (starts {others = a ∷ b ∷ c ∷ []} t digits) (not-true _ u)))
-      (λ u. judge-tells (LimitLines.former n a b c digits) t (not-false _ u))
+      (λ u. judge_tells (LimitLines.former n a b c digits) t (not-false _ u))
 
-  former-tells : starts_with former_names text ≡ true → (l : Line) → numbers_at 2 3 (drop (length former_names) text) ≡ l → HeadTells text (of_former text l)
-  former-tells named l e =
-      by_cond (HeadTells text) (not (eqb l.code 0)) (λ t. second-fails Shape.former named l e (simp tests at t)) (λ t.
+  former_tells : starts_with former_names text ≡ true → (l : Line) → numbers_at 2 3 (drop (length former_names) text) ≡ l → HeadTells text (of_former text l)
+  former_tells named l e =
+      by_cond (HeadTells text) (not (eqb l.code 0)) (λ t. second_fails Shape.former named l e (simp tests at t)) (λ t.
       let w = numbers_was 2 3 (drop (length former_names) text) l (omega arith) e (simp tests at t) in
-      former-values-tell (length former_names + l.size) _ _ _ _ (took_both (starts_took former_names text named) w.took) w.digits)
+      former_values_tell (length former_names + l.size) _ _ _ _ (took_both (starts_took former_names text named) w.took) w.digits)
 
 pub head_tells : (text : List ℕ) → HeadTells text (head_of text)
 unfolding head_of
 head_tells text =
     by_cond (HeadTells text) (ltb text_limit (length text)) (λ t. fails (long (omega (arith, ltb-true text_limit (length text) t)))) (λ t.
     let short = ltb-false text_limit (length text) t in
-    by_cond (HeadTells text) (starts_with value_names text) (λ u. new-tells text short u _ refl) (λ u.
-    by_cond (HeadTells text) (starts_with former_names text) (λ v. former-tells text short v _ refl) (λ v.
+    by_cond (HeadTells text) (starts_with value_names text) (λ u. new_tells text short u _ refl) (λ u.
+    by_cond (HeadTells text) (starts_with former_names text) (λ v. former_tells text short v _ refl) (λ v.
     fails (names short (differs value_names text u) (differs former_names text v)))))
 
 -- A head that is written is read
 
 -- line 1 tells the shape
 module _ {text : List ℕ} (short : length text ≤ text_limit) (rest : List ℕ) where
-  new-read : text ≡ value_names ++ rest → head_of text ≡ of_values text (numbers_at 2 2 rest)
+  new_read : text ≡ value_names ++ rest → head_of text ≡ of_values text (numbers_at 2 2 rest)
   unfolding head_of starts_with
-  new-read is = rw (le-ltb text_limit (length text) short, is)
+  new_read is = rw (le-ltb text_limit (length text) short, is)
 
-  former-read : text ≡ former_names ++ rest → head_of text ≡ of_former text (numbers_at 2 3 rest)
+  former_read : text ≡ former_names ++ rest → head_of text ≡ of_former text (numbers_at 2 3 rest)
   unfolding head_of starts_with
-  former-read is = rw (le-ltb text_limit (length text) short, is)
+  former_read is = rw (le-ltb text_limit (length text) short, is)
 
 -- the new shape, whose line 3 starts after `seconds` bytes
 module _ {text : List ℕ} {n b c : ℕ} {rest : List ℕ} (s : StartsWithValues text value_names n (b ∷ c ∷ []) rest) where
   abbrev seconds : ℕ
   seconds = length value_names + length (numbers_text n (b ∷ c ∷ []))
 
-  values-read : head_of text ≡ after_values text seconds n b c
-  values-read =
-      new-read s.short (numbers_text n (b ∷ c ∷ []) ++ rest) s.is ∙ ap (of_values text) (numbers_reads 2 n (b ∷ c ∷ []) rest s.digits)
+  values_read : head_of text ≡ after_values text seconds n b c
+  values_read =
+      new_read s.short (numbers_text n (b ∷ c ∷ []) ++ rest) s.is ∙ ap (of_values text) (numbers_reads 2 n (b ∷ c ∷ []) rest s.digits)
 
-  values-left : drop seconds text ≡ rest
-  values-left = rw (← drop-drop (length (numbers_text n (b ∷ c ∷ []))) (length value_names) text, s.is, drop-append_seam)
+  values_left : drop seconds text ≡ rest
+  values_left = rw (← drop-drop (length (numbers_text n (b ∷ c ∷ []))) (length value_names) text, s.is, drop-append_seam)
 
-  pub fails-limit-names : count_stands n ≡ true → Differs limit_names rest → head_of text ≡ scan_fails 13 3
-  fails-limit-names e d = values-read ∙ rw (e, values-left, starts_not limit_names rest d)
+  pub fails_limit_names : count_stands n ≡ true → Differs limit_names rest → head_of text ≡ scan_fails 13 3
+  fails_limit_names e d = values_read ∙ rw (e, values_left, starts_not limit_names rest d)
 
 -- whose lines of a start after `thirds` bytes
 module _ {text : List ℕ} {n b c : ℕ} {rest : List ℕ} (s : StartsWithValues text value_names n (b ∷ c ∷ []) (limit_names ++ rest))
@@ -204,25 +204,25 @@ module _ {text : List ℕ} {n b c : ℕ} {rest : List ℕ} (s : StartsWithValues
   abbrev thirds : ℕ
   thirds = seconds s + length limit_names
 
-  names-read : head_of text ≡ of_limits text thirds n b c (limits_from n 1 0 (replicate 96 0) rest)
+  names_read : head_of text ≡ of_limits text thirds n b c (limits_from n 1 0 (replicate 96 0) rest)
   unfolding starts_with
-  names-read =
-      let left : drop thirds text ≡ rest = rw (← drop-drop (length limit_names) (seconds s) text, values-left s) in
-      values-read s ∙ rw (e, left, values-left s)
+  names_read =
+      let left : drop thirds text ≡ rest = rw (← drop-drop (length limit_names) (seconds s) text, values_left s) in
+      values_read s ∙ rw (e, left, values_left s)
 
 pub fails_limit : {text : List ℕ} {n b c : ℕ} (a rest : List ℕ)
     → StartsWithValues text value_names n (b ∷ c ∷ []) (limit_names ++ (limits_text 1 a ++ rest))
     → count_stands n ≡ true → Few a → length a < n → NoLimit (1 + length a) rest → head_of text ≡ scan_fails 14 (4 + length a)
 fails_limit {n = n} a rest s e h fewer none =
     let line : 1 + length a + 3 ≡ 4 + length a = omega arith in
-    names-read s e ∙ rw (limits_stop a n 1 0 0 (replicate 96 0) rest refl (omega (arith, count_parts n e)) h fewer none, line)
+    names_read s e ∙ rw (limits_stop a n 1 0 0 (replicate 96 0) rest refl (omega (arith, count_parts n e)) h fewer none, line)
 
 -- the limits have been read, in either shape: they are judged, and the names of the steps follow
 module _ {text : List ℕ} (short : length text ≤ text_limit) where
-  limits-judged : {k : Parameters} {first : List ℕ} {line : ℕ} → LimitLines k first line → (rest : List ℕ) → text ≡ first ++ rest
+  limits_judged : {k : Parameters} {first : List ℕ} {line : ℕ} → LimitLines k first line → (rest : List ℕ) → text ≡ first ++ rest
       → count_stands k.n ≡ true → head_of text ≡ judge_limits text (length first) line k
   unfolding values_text former_values_text
-  limits-judged (LimitLines.new n b c a many digits) rest is e =
+  limits_judged (LimitLines.new n b c a many digits) rest is e =
       let second : List ℕ = numbers_text n (b ∷ c ∷ []) in
       let s : StartsWithValues text value_names n (b ∷ c ∷ []) (limit_names ++ (limits_text 1 a ++ rest)) =
       record {
@@ -231,39 +231,39 @@ module _ {text : List ℕ} (short : length text ≤ text_limit) where
         digits = (digits.0, (digits.1.0, (digits.1.1.0, tt)));
       } in
       let p = count_parts n e in
-      let read = rw many at (limits-read a (omega arith) rest digits.1.1.1) in
+      let read = rw many at (limits_read a (omega arith) rest digits.1.1.1) in
       let size : thirds s e + length (limits_text 1 a) ≡ length (value_names ++ (second ++ (limit_names ++ limits_text 1 a))) =
       omega (arith, length-append second (limit_names ++ limits_text 1 a)) in
-      names-read s e ∙ rw (read, size)
-  limits-judged (LimitLines.former n a b c digits) rest is e =
+      names_read s e ∙ rw (read, size)
+  limits_judged (LimitLines.former n a b c digits) rest is e =
       let second : List ℕ = numbers_text n (a ∷ b ∷ c ∷ []) in
       let size : length former_names + length second ≡ length (former_names ++ second) = omega arith in
-      former-read short (second ++ rest) is ∙ (ap (of_former text) (numbers_reads 2 n (a ∷ b ∷ c ∷ []) rest digits) ∙ rw (e, size))
+      former_read short (second ++ rest) is ∙ (ap (of_former text) (numbers_reads 2 n (a ∷ b ∷ c ∷ []) rest digits) ∙ rw (e, size))
 
   module _ {k : Parameters} {first : List ℕ} {line : ℕ} (lines : LimitLines k first line) (rest : List ℕ) (is : text ≡ first ++ rest) where
-    pub fails-limits : count_stands k.n ≡ true → limits_stand k ≡ false → head_of text ≡ scan_fails 12 line
-    fails-limits c l = limits-judged lines rest is c ∙ rw l
+    pub fails_limits : count_stands k.n ≡ true → limits_stand k ≡ false → head_of text ≡ scan_fails 12 line
+    fails_limits c l = limits_judged lines rest is c ∙ rw l
 
     limits-stand : parameters_stand k ≡ true → head_of text ≡ after_limits text (length first) (line + 1) k
-    limits-stand e = let f = (and_true_iff (count_stands k.n) (limits_stand k)).0 e in limits-judged lines rest is f.0 ∙ rw f.1
+    limits-stand e = let f = (and_true_iff (count_stands k.n) (limits_stand k)).0 e in limits_judged lines rest is f.0 ∙ rw f.1
 
-    limits-left : drop (length first) text ≡ rest
-    limits-left = rw (is, drop-append_seam)
+    limits_left : drop (length first) text ≡ rest
+    limits_left = rw (is, drop-append_seam)
 
-    pub fails-steps : parameters_stand k ≡ true → Differs event_names rest → head_of text ≡ scan_fails 13 (line + 1)
-    fails-steps e d = limits-stand e ∙ rw (limits-left, starts_not event_names rest d)
+    pub fails_steps : parameters_stand k ≡ true → Differs event_names rest → head_of text ≡ scan_fails 13 (line + 1)
+    fails_steps e d = limits-stand e ∙ rw (limits_left, starts_not event_names rest d)
 
-    steps-named : parameters_stand k ≡ true → starts_with event_names rest ≡ true
+    steps_named : parameters_stand k ≡ true → starts_with event_names rest ≡ true
         → head_of text ≡ scan_of (line + 1 + 1) k (length first + length event_names)
-    steps-named e w = limits-stand e ∙ rw (limits-left, w)
+    steps_named e w = limits-stand e ∙ rw (limits_left, w)
 
 pub head_reads : {k : Parameters} {head : List ℕ} {line : ℕ} → FirstLines k head line → (s : List ℕ) → parameters_stand k ≡ true
     → length (head ++ s) ≤ text_limit → head_of (head ++ s) ≡ scan_of line k (length head)
 head_reads {k} {head} {line} shape s e short =
     let r = limited shape e in
-    let is : head ++ s ≡ r.first ++ (event_names ++ s) = ap (λ (l : List ℕ). l ++ s) r.head-is ∙ append_assoc r.first event_names s in
-    let size : length r.first + length event_names ≡ length head = sym (ap length r.head-is ∙ length-append r.first event_names) in
-    steps-named short r.lines (event_names ++ s) is e (starts_here event_names s) ∙ (λ i. scan_of (sym r.line-is i) k (size i))
+    let is : head ++ s ≡ r.first ++ (event_names ++ s) = ap (λ (l : List ℕ). l ++ s) r.head_is ∙ append_assoc r.first event_names s in
+    let size : length r.first + length event_names ≡ length head = sym (ap length r.head_is ∙ length-append r.first event_names) in
+    steps_named short r.lines (event_names ++ s) is e (starts_here event_names s) ∙ (λ i. scan_of (sym r.line-is i) k (size i))
 
 -- A text that fails before its limits
 
@@ -283,34 +283,34 @@ second_none more rest h d =
 
 pub fails_values : {text first : List ℕ} {more : ℕ} → Shape first more → (rest : List ℕ) → length text ≤ text_limit → text ≡ first ++ rest
     → NoValues more rest → head_of text ≡ scan_fails 14 2
-fails_values {text} Shape.new rest h e d = new-read h rest e ∙ ap (of_values text) (second_none 2 rest (omega arith) d)
-fails_values {text} Shape.former rest h e d = former-read h rest e ∙ ap (of_former text) (second_none 3 rest (omega arith) d)
+fails_values {text} Shape.new rest h e d = new_read h rest e ∙ ap (of_values text) (second_none 2 rest (omega arith) d)
+fails_values {text} Shape.former rest h e d = former_read h rest e ∙ ap (of_former text) (second_none 3 rest (omega arith) d)
 
 pub fails_count : {text first : List ℕ} {more n : ℕ} {others rest : List ℕ} → Shape first more → length others ≡ more
     → StartsWithValues text first n others rest → count_stands n ≡ false → head_of text ≡ scan_fails 11 2
 fails_count {text} {n = n} {others} {rest} Shape.new q s c =
-    new-read s.short (numbers_text n others ++ rest) s.is
+    new_read s.short (numbers_text n others ++ rest) s.is
     ∙ (ap (of_values text) (second_reads 2 n others rest q s.digits) ∙ rw (first_stays others (n ∷ 0 ∷ 0 ∷ 0 ∷ []) 0, c))
 fails_count {text} {n = n} {others} {rest} Shape.former q s c =
-    former-read s.short (numbers_text n others ++ rest) s.is
+    former_read s.short (numbers_text n others ++ rest) s.is
     ∙ (ap (of_former text) (second_reads 3 n others rest q s.digits) ∙ rw (first_stays others (n ∷ 0 ∷ 0 ∷ 0 ∷ []) 0, c))
 
 -- What a text says, by its head and its body
 
 module _ (text : List ℕ) (h : Scan) (e : head_of text ≡ h) where
-  pub head-was : h.code ≡ 0 → HeadTook text h
-  head-was = rw e at (head_tells text).read
+  pub head_was : h.code ≡ 0 → HeadTook text h
+  head_was = rw e at (head_tells text).read
 
-  pub trace-refused : h.code ≢ 0 → trace_of text ≡ refused h.code h.line
+  pub trace_refused : h.code ≢ 0 → trace_of text ≡ refused h.code h.line
   unfolding trace_of
-  trace-refused n = rw e (simp (ne_eqb _ _ n))
+  trace_refused n = rw e (simp (ne_eqb _ _ n))
 
-  pub trace-events : h.code ≡ 0 → (body_of h.line (drop h.size text)).fault ≡ 0
+  pub trace_events : h.code ≡ 0 → (body_of h.line (drop h.size text)).fault ≡ 0
       → trace_of text ≡ trace h.line h.parameters (body_of h.line (drop h.size text)).events
   unfolding trace_of
-  trace-events z f = rw e (simp (eq-eqb _ _ z, eq-eqb _ _ f))
+  trace_events z f = rw e (simp (eq-eqb _ _ z, eq-eqb _ _ f))
 
-  pub trace-fault : h.code ≡ 0 → (body_of h.line (drop h.size text)).fault ≢ 0
+  pub trace_fault : h.code ≡ 0 → (body_of h.line (drop h.size text)).fault ≢ 0
       → trace_of text ≡ refused 14 (body_of h.line (drop h.size text)).fault
   unfolding trace_of
-  trace-fault z f = rw e (simp (eq-eqb _ _ z, ne_eqb _ _ f))
+  trace_fault z f = rw e (simp (eq-eqb _ _ z, ne_eqb _ _ f))

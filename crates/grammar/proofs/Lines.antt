@@ -24,7 +24,7 @@ use Rattle.model.proofs.Tests.{tests}
 use Rattle.grammar.specs.Digits.{digits_of, Few}
 use Rattle.grammar.proofs.Tables.{every_at}
 use Rattle.grammar.proofs.Digits.{some_digit, bounds_are_digits}
-use Rattle.grammar.proofs.Fields.{Took, number-was, number-reads, word_was, word_reads}
+use Rattle.grammar.proofs.Fields.{Took, number_was, number_reads, word_was, word_reads}
 
 -- How many bytes the texts take
 
@@ -115,7 +115,7 @@ from_was : (line more i at : ℕ) (got s : List ℕ) → i + more < length got �
 unfolding numbers_from numbers_text
 from_was line zero i at got s h =
     by_opened (TellsFrom s zero i at got) (number_at number_bound newline s) (λ z. absurd (omega arith)) (λ v k e _.
-    let w = number-was number_bound newline s v k (omega arith) e in
+    let w = number_was number_bound newline s v k (omega arith) e in
     let here : get_or (set got i v) i 0 ≡ v = get_or-set_same got i v 0 (omega arith) in
     record {
       bytes = k;
@@ -126,7 +126,7 @@ from_was line zero i at got s h =
     })
 from_was line (suc more) i at got s h =
     by_opened (TellsFrom s (suc more) i at got) (number_at number_bound comma s) (λ z. absurd (omega arith)) (λ v k e z.
-    let w = number-was number_bound comma s v k (omega arith) e in
+    let w = number_was number_bound comma s v k (omega arith) e in
     let r = from_was line more (i + 1) (at + k) (set got i v) (drop k s) (omega (arith, length-set got i v)) z in
     let l : Line = numbers_from line more (i + 1) (at + k) (set got i v) (drop k s) in
     let here : get_or l.numbers i 0 ≡ v = r.kept i (omega arith) ∙ get_or-set_same got i v 0 (omega arith) in
@@ -162,12 +162,12 @@ numbers_fail line more s l e = rw e at (from_fails line more 0 0 (replicate 4 0)
 from_reads : (line v : ℕ) (ws : List ℕ) (i at : ℕ) (got s : List ℕ) → Few (v ∷ ws)
     → numbers_from line (length ws) i at got (numbers_text v ws ++ s) ≡ line_of line (sets got i (v ∷ ws)) (at + length (numbers_text v ws))
 unfolding numbers_from numbers_text
-from_reads line v [] i at got s h = rw (number-reads number_bound newline (omega arith) v s ((few v).1 h.0))
+from_reads line v [] i at got s h = rw (number_reads number_bound newline (omega arith) v s ((few v).1 h.0))
 from_reads line v (w ∷ ws) i at got s h =
     let size : at + length (number_text comma v) + length (numbers_text w ws) ≡ at + length (number_text comma v ++ numbers_text w ws) =
     omega (arith, length-append (number_text comma v) (numbers_text w ws)) in
     rw (append_assoc (number_text comma v) (numbers_text w ws) s)
-    (rw (number-reads number_bound comma (omega arith) v (numbers_text w ws ++ s) ((few v).1 h.0), drop-append_seam, ← size, add-one i)
+    (rw (number_reads number_bound comma (omega arith) v (numbers_text w ws ++ s) ((few v).1 h.0), drop-append_seam, ← size, add-one i)
     (from_reads line w ws (suc i) (at + length (number_text comma v)) (set got i v) s h.1))
 
 -- a line that is written is read: its numbers in the first places, and zeros after them
@@ -192,8 +192,8 @@ row_tells line s =
     by_opened (RowTells s) (number_at time_bound comma s) tt (λ t i e1.
     by_opened (RowTells s) (number_at number_bound comma (drop i s)) tt (λ p j e2.
     by_opened (RowTells s) (word_at (drop j (drop i s))) tt (λ a k e3.
-    let w1 = number-was time_bound comma s t i (omega arith) e1 in
-    let w2 = number-was number_bound comma (drop i s) p j (omega arith) e2 in
+    let w1 = number_was time_bound comma s t i (omega arith) e1 in
+    let w2 = number_was number_bound comma (drop i s) p j (omega arith) e2 in
     let w3 = word_was (drop j (drop i s)) a k e3 in
     record {
       took = rw (add_assoc i j k) (took_both w1.0 (took_both w2.0 w3.0));
@@ -215,8 +215,8 @@ event_reads line e s h =
     let a : e.action < length words = f.1 in
     simp (
       append_assoc,
-      number-reads time_bound comma (omega arith),
-      number-reads number_bound comma (omega arith),
+      number_reads time_bound comma (omega arith),
+      number_reads number_bound comma (omega arith),
       word_reads,
       drop-append_seam,
       length-append,

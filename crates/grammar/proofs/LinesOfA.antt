@@ -39,8 +39,8 @@ module _ (i x : ℕ) (s : List ℕ) (small : i < number_bound) (h : digits_of x 
   line_reads : numbers_at (i + 3) 1 (numbers_text i (x ∷ []) ++ s) ≡ line_of (i + 3) (i ∷ x ∷ 0 ∷ 0 ∷ []) (length (numbers_text i (x ∷ [])))
   line_reads = numbers_reads (i + 3) i (x ∷ []) s ((few i).0 small, (h, tt))
 
-  limit-reads : limit_line i (numbers_text i (x ∷ []) ++ s) ≡ line_of (i + 3) (i ∷ x ∷ 0 ∷ 0 ∷ []) (length (numbers_text i (x ∷ [])))
-  limit-reads = rw (line_reads, eq-eqb i i refl)
+  limit_reads : limit_line i (numbers_text i (x ∷ []) ++ s) ≡ line_of (i + 3) (i ∷ x ∷ 0 ∷ 0 ∷ []) (length (numbers_text i (x ∷ [])))
+  limit_reads = rw (line_reads, eq-eqb i i refl)
 
 pub limit_tells : (i : ℕ) (s : List ℕ) → i < number_bound → LimitTells s i (limit_line i s)
 limit_tells i s small =
@@ -165,7 +165,7 @@ limits_after (x ∷ values) more i j at got s p h d =
     omega (arith, length-append line (limits_text (i + 1) values)) in
     let here : i - 1 ≡ j = omega arith in
     rw (suc-add (length values) more, append_assoc line (limits_text (i + 1) values) s)
-    (rw (limit-reads i x (limits_text (i + 1) values ++ s) (omega arith) d.0, drop-append_seam, here, ← later, ← size, ← add-one j)
+    (rw (limit_reads i x (limits_text (i + 1) values ++ s) (omega arith) d.0, drop-append_seam, here, ← later, ← size, ← add-one j)
     (limits_after values more (i + 1) (j + 1) (at + length line) (set got j x) s (omega arith) (omega arith) d.1))
 
 -- a line that is none of these ends them
@@ -180,15 +180,15 @@ limits_stop values many i j at got rest p h d fewer none =
 
 -- How many bytes they take
 
-pub limits-long : (i : ℕ) (values : List ℕ) → 4 * length values ≤ length (limits_text i values)
+pub limits_long : (i : ℕ) (values : List ℕ) → 4 * length values ≤ length (limits_text i values)
 unfolding limits_text
-limits-long i [] = omega arith
-limits-long i (x ∷ values) =
+limits_long i [] = omega arith
+limits_long i (x ∷ values) =
     omega (
       arith,
       length-append (numbers_text i (x ∷ [])) (limits_text (i + 1) values),
       numbers_long i (x ∷ []),
-      limits-long (i + 1) values,
+      limits_long (i + 1) values,
     )
 
 -- The 96 values
@@ -200,20 +200,20 @@ drop_replicate (suc m) (suc n) x = rw (suc-sub-suc n m) (drop_replicate m n x)
 
 module _ (values : List ℕ) (h : length values ≤ 96) where
   -- values that are stored in a list of zeros
-  pub limits-filled : sets (replicate 96 0) 0 values ≡ limits_in values
+  pub limits_filled : sets (replicate 96 0) 0 values ≡ limits_in values
   unfolding limits_in
-  limits-filled =
+  limits_filled =
       rw (take_all 96 values h) (sets-eq values (replicate 96 0) 0 (omega arith) ∙ rw (zero-add (length values), drop_replicate (length values) 96 0))
 
-  pub limits-front : take (length values) (limits_in values) ≡ values
+  pub limits_front : take (length values) (limits_in values) ≡ values
   unfolding limits_in
-  limits-front = rw (take_all 96 values h) (take-append_seam values (replicate (96 - length values) 0))
+  limits_front = rw (take_all 96 values h) (take-append_seam values (replicate (96 - length values) 0))
 
   -- all the lines that are written are read, from that of process 1 on
-  pub limits-read : (s : List ℕ) → Few values
+  pub limits_read : (s : List ℕ) → Few values
       → limits_from (length values) 1 0 (replicate 96 0) (limits_text 1 values ++ s) ≡ limits_of (limits_in values) (length (limits_text 1 values))
   unfolding limits_from
-  limits-read s d = rw (← limits-filled) (rw (add-zero, zero-add) at (limits_after values 0 1 0 0 (replicate 96 0) s refl (omega arith) d))
+  limits_read s d = rw (← limits_filled) (rw (add-zero, zero-add) at (limits_after values 0 1 0 0 (replicate 96 0) s refl (omega arith) d))
 
 -- 96 values that are 0 from n on are those of their first n
 pub limits_back : (n : ℕ) (a : List ℕ) → length a ≡ 96 → n ≤ 96 → ((j : ℕ) → n ≤ j → get_or a j 0 ≡ 0) → limits_in (take n a) ≡ a

@@ -14,8 +14,8 @@ use Rattle.grammar.specs.RoundTrips.{first_of, events_read, rewritten, Starts, R
 use Rattle.grammar.specs.RoundTrips.{ReadFormer, Renewed, ReadAgain, FormerThenWrite}
 use Rattle.grammar.specs.Answers.{Readable}
 use Rattle.grammar.proofs.Exact.{forms_anywhere, formed_says}
-use Rattle.grammar.proofs.Fits.{says-line}
-use Rattle.grammar.proofs.Answers.{read_is, read_iff, write_is, write_iff, write-long, write-fitted, fitted_short}
+use Rattle.grammar.proofs.Fits.{says_line}
+use Rattle.grammar.proofs.Answers.{read_is, read_iff, write_is, write_iff, write_long, write_fitted, fitted_short}
 
 -- The lists
 
@@ -51,37 +51,37 @@ record IsFormer (k : Parameters) (head : List ℕ) : Type 0 where
   a : ℕ
   b : ℕ
   c : ℕ
-  head-is : head ≡ former_head_text n a b c
+  head_is : head ≡ former_head_text n a b c
   parameters : k ≡ former_parameters n a b c
 
 names_former : {k : Parameters} {head : List ℕ} {line : ℕ} → FirstLines k head line → (rest : List ℕ) → Starts former_names (head ++ rest) → IsFormer k head
 unfolding head_text
 names_former (FirstLines.new k) rest s =
     let z : ◌≡◌ {A = ℕ} 98 97 = ap (λ (l : List ℕ). get_or l 8 0) s.1 in absurd (omega arith)
-names_former (FirstLines.former n a b c) rest s = record { n = n; a = a; b = b; c = c; head-is = refl; parameters = refl }
+names_former (FirstLines.former n a b c) rest s = record { n = n; a = a; b = b; c = c; head_is = refl; parameters = refl }
 
 -- The round trips
 
 -- what is said in either shape is written in the new one, if its text is not too long
 module _ {text : List ℕ} {line : ℕ} {k : Parameters} {events : List Event} (s : Says text line k events) where
-  forms-again : formless_from (first_line k) events ≡ 0
-  forms-again = forms_anywhere line (first_line k) events (says-line s).0 s.forms
+  forms_again : formless_from (first_line k) events ≡ 0
+  forms_again = forms_anywhere line (first_line k) events (says_line s).0 s.forms
 
-  formed-again : length (trace_text k events) ≤ text_limit → Formed k events
-  formed-again h = record { stand = s.stand; forms = forms-again; short = h }
+  formed_again : length (trace_text k events) ≤ text_limit → Formed k events
+  formed_again h = record { stand = s.stand; forms = forms_again; short = h }
 
-  text-former : Starts former_names text → IsFormer k s.head
-  text-former p = names_former s.shape (events_text events) (rw s.text-is at p)
+  text_former : Starts former_names text → IsFormer k s.head
+  text_former p = names_former s.shape (events_text events) (rw s.text_is at p)
 
-  text-new : Starts value_names text → text ≡ trace_text k events
-  text-new p = s.text-is ∙ ap (λ (l : List ℕ). l ++ events_text events) (names_new s.shape (events_text events) (rw s.text-is at p))
+  text_new : Starts value_names text → text ≡ trace_text k events
+  text_new p = s.text_is ∙ ap (λ (l : List ℕ). l ++ events_text events) (names_new s.shape (events_text events) (rw s.text_is at p))
 
 back : (text : List ℕ) (l : Lists) (out : List ℕ) {line : ℕ} {k : Parameters} {events : List Event} → Readable text l line k events
     → Starts value_names text → length text ≤ length out → rewritten (read_of text l) out ≡ written text out
 back text l out {line} {k} {events} r p h =
-    let e = text-new r.says p in
+    let e = text_new r.says p in
     rw (read_is text l line k events r, events_back events l)
-    (write_is k events out (formed-again r.says (rw e at r.says.short)) (rw e at h) ∙ rw e)
+    (write_is k events out (formed_again r.says (rw e at r.says.short)) (rw e at h) ∙ rw e)
 
 pub read_then_write : ReadThenWrite
 read_then_write text l out p e h = back text l out ((read_iff text l).0 e).3 p h
@@ -92,29 +92,29 @@ module _ (text : List ℕ) (l : Lists) {line : ℕ} {k : Parameters} {events : L
   abbrev given : Read
   given = read_gave (reading_of 0 (length events) k) (stored events l)
 
-  read-former : IsFormer k s.head → (n : ℕ) × (a : ℕ) × (b : ℕ) × (c : ℕ) × ReadFormer text given n a b c
-  read-former f = (
+  read_former : IsFormer k s.head → (n : ℕ) × (a : ℕ) × (b : ℕ) × (c : ℕ) × ReadFormer text given n a b c
+  read_former f = (
     f.n,
     f.a,
     f.b,
     f.c,
     record {
-      text-is = rw (events_back events l) (s.text-is ∙ ap (λ (h : List ℕ). h ++ events_text events) f.head-is);
+      text_is = rw (events_back events l) (s.text_is ∙ ap (λ (h : List ℕ). h ++ events_text events) f.head_is);
       parameters = f.parameters;
     },
   )
 
   renewed : (out : List ℕ) → Renewed given out
   renewed out = record {
-    long = rw (events_back events l) (write-long k events out s.stand (forms-again s));
+    long = rw (events_back events l) (write_long k events out s.stand (forms_again s));
     no_room = rw (events_back events l)
-        (λ h g. write-fitted k events out s.stand (forms-again s) h ∙ fitted_short (trace_text k events) out g);
-    fits = rw (events_back events l) (λ h g. write_is k events out (formed-again s h) g);
+        (λ h g. write_fitted k events out s.stand (forms_again s) h ∙ fitted_short (trace_text k events) out g);
+    fits = rw (events_back events l) (λ h g. write_is k events out (formed_again s h) g);
   }
 
   read_again : ReadAgain given
   read_again = rw (events_back events l) (λ h m g.
-      let q = read_is (trace_text k events) m (first_line k) k events (record { says = formed_says (formed-again s h); fits = g }) in
+      let q = read_is (trace_text k events) m (first_line k) k events (record { says = formed_says (formed_again s h); fits = g }) in
       (q, ap events_read q ∙ events_back events m))
 
 pub former_then_write : FormerThenWrite
@@ -122,7 +122,7 @@ former_then_write text l out p e =
     let f = (read_iff text l).0 e in
     let r = f.3 in
     let s = r.says in
-    rw (read_is text l f.0 f.1 f.2 r) (read-former text l s (text-former s p), renewed text l s out, read_again text l s)
+    rw (read_is text l f.0 f.1 f.2 r) (read_former text l s (text_former s p), renewed text l s out, read_again text l s)
 
 pub write_then_read : WriteThenRead
 write_then_read k l out m e h =

@@ -12,12 +12,12 @@ use Rattle.model.specs.States.{parameters_of, limits_in, count_stands, limits_st
 use Rattle.model.specs.Texts.{value_names, values_text, limit_names, limits_text, event_names, head_text, first_line}
 use Rattle.model.specs.Texts.{former_names, former_parameters, former_values_text, former_head_text}
 use Rattle.model.proofs.Tests.{and_true_iff, tests}
-use Rattle.model.proofs.OwnLimits.{LimitsParts, limits_parts, limit_within, limit-zero}
+use Rattle.model.proofs.OwnLimits.{LimitsParts, limits_parts, limit_within, limit_zero}
 use Rattle.grammar.specs.Digits.{digits_of, Few}
 use Rattle.grammar.specs.Exact.{FirstLines}
 use Rattle.grammar.specs.Faults.{LimitLines}
 use Rattle.grammar.proofs.Lines.{numbers_long, few}
-use Rattle.grammar.proofs.LinesOfA.{limits-long, limits-front, limits_back}
+use Rattle.grammar.proofs.LinesOfA.{limits_long, limits_front, limits_back}
 
 -- Parameters that stand
 
@@ -34,37 +34,37 @@ few_all [] h = tt
 few_all (x ∷ l) h = (h 0 (omega arith), few_all l (λ j g. h (suc j) (omega arith)))
 
 module _ (k : Parameters) (e : parameters_stand k ≡ true) where
-  pub stand-count : CountParts k.n
-  stand-count = count_parts k.n ((and_true_iff (count_stands k.n) (limits_stand k)).0 e).0
+  pub stand_count : CountParts k.n
+  stand_count = count_parts k.n ((and_true_iff (count_stands k.n) (limits_stand k)).0 e).0
 
   limits-stand : limits_stand k ≡ true
   limits-stand = ((and_true_iff (count_stands k.n) (limits_stand k)).0 e).1
 
-  pub stand-limits : LimitsParts k
-  stand-limits = limits_parts k limits-stand
+  pub stand_limits : LimitsParts k
+  stand_limits = limits_parts k limits-stand
 
-  stand-below : (j : ℕ) → j < k.n → get_or k.a j 0 < k.b
-  stand-below j h = let c = stand-count in (limit_within k limits-stand j h (omega arith)).1
+  stand_below : (j : ℕ) → j < k.n → get_or k.a j 0 < k.b
+  stand_below j h = let c = stand_count in (limit_within k limits-stand j h (omega arith)).1
 
   -- their values are those of the first n
-  pub stand-back : limits_in (take k.n k.a) ≡ k.a
-  stand-back = limits_back k.n k.a stand-limits.size stand-count.most (limit-zero k limits-stand)
+  pub stand_back : limits_in (take k.n k.a) ≡ k.a
+  stand_back = limits_back k.n k.a stand_limits.size stand_count.most (limit_zero k limits-stand)
 
-  pub stand-many : length (take k.n k.a) ≡ k.n
-  stand-many = let c = stand-count in let l = stand-limits in length-take-le k.n k.a (omega arith)
+  pub stand_many : length (take k.n k.a) ≡ k.n
+  stand_many = let c = stand_count in let l = stand_limits in length-take-le k.n k.a (omega arith)
 
   pub stand_few : Few (k.n ∷ k.b ∷ k.c ∷ take k.n k.a)
   stand_few =
-      let c = stand-count in
-      let l = stand-limits in
-      let many = stand-many in (
+      let c = stand_count in
+      let l = stand_limits in
+      let many = stand_many in (
         (few k.n).0 (omega arith),
         (
           (few k.b).0 (omega arith),
           (
             (few k.c).0 (omega arith),
             few_all (take k.n k.a) (λ j h.
-                rw (get_or-take k.n k.a j 0 (omega arith)) ((few (get_or k.a j 0)).0 (omega (arith, stand-below j (omega arith))))),
+                rw (get_or-take k.n k.a j 0 (omega arith)) ((few (get_or k.a j 0)).0 (omega (arith, stand_below j (omega arith))))),
           ),
         ),
       )
@@ -73,12 +73,12 @@ module _ (k : Parameters) (e : parameters_stand k ≡ true) where
 former_few : (n a b c : ℕ) → parameters_stand (former_parameters n a b c) ≡ true → Few (n ∷ a ∷ b ∷ c ∷ [])
 former_few n a b c e =
     let k : Parameters = former_parameters n a b c in
-    let t = stand-count k e in
-    let l = stand-limits k e in
+    let t = stand_count k e in
+    let l = stand_limits k e in
     let size = length-replicate n a in
-    let front : take n (limits_in (replicate n a)) ≡ replicate n a = rw size at (limits-front (replicate n a) (omega arith)) in
+    let front : take n (limits_in (replicate n a)) ≡ replicate n a = rw size at (limits_front (replicate n a) (omega arith)) in
     let same : get_or k.a 0 0 ≡ a = sym (get_or-take n k.a 0 0 t.some) ∙ (ap (λ (m : List ℕ). get_or m 0 0) front ∙ get_or-replicate n 0 a 0 t.some) in
-    let below : a < b = omega (arith, stand-below k e 0 t.some) in
+    let below : a < b = omega (arith, stand_below k e 0 t.some) in
     ((few n).0 (omega arith), ((few a).0 (omega arith), ((few b).0 (omega arith), ((few c).0 (omega arith), tt))))
 
 -- Lines of limits, and first lines
@@ -89,8 +89,8 @@ pub first_lines : {k : Parameters} {first : List ℕ} {line : ℕ} → LimitLine
 unfolding head_text first_line former_head_text
 first_lines (LimitLines.new n b c a many digits) e =
     let k : Parameters = parameters_of n b c (limits_in a) in
-    let t = stand-count k e in
-    let front : take n (limits_in a) ≡ a = rw many at (limits-front a (omega arith)) in
+    let t = stand_count k e in
+    let front : take n (limits_in a) ≡ a = rw many at (limits_front a (omega arith)) in
     let is : head_text k ≡ value_names ++ (values_text n b c ++ (limit_names ++ limits_text 1 a)) ++ event_names =
     rw (front, append_assoc (values_text n b c) (limit_names ++ limits_text 1 a) event_names) in
     subst₂ (FirstLines k) is (omega arith) (FirstLines.new k)
@@ -101,7 +101,7 @@ pub record Limited (k : Parameters) (head : List ℕ) (line : ℕ) : Type 0 wher
   pub first : List ℕ
   pub last : ℕ
   pub lines : LimitLines k first last
-  pub head-is : head ≡ first ++ event_names
+  pub head_is : head ≡ first ++ event_names
   pub line-is : line ≡ last + 1 + 1
 
 pub limited : {k : Parameters} {head : List ℕ} {line : ℕ} → FirstLines k head line → parameters_stand k ≡ true → Limited k head line
@@ -113,16 +113,16 @@ limited (FirstLines.new k) e =
       first = first;
       last = k.n + 3;
       lines =
-          subst (λ (l : List ℕ). LimitLines (parameters_of k.n k.b k.c l) first (k.n + 3)) (stand-back k e)
-          (LimitLines.new k.n k.b k.c a (stand-many k e) (stand_few k e));
-      head-is = rw (append_assoc (values_text k.n k.b k.c) (limit_names ++ limits_text 1 a) event_names);
+          subst (λ (l : List ℕ). LimitLines (parameters_of k.n k.b k.c l) first (k.n + 3)) (stand_back k e)
+          (LimitLines.new k.n k.b k.c a (stand_many k e) (stand_few k e));
+      head_is = rw (append_assoc (values_text k.n k.b k.c) (limit_names ++ limits_text 1 a) event_names);
       line-is = omega arith;
     }
 limited (FirstLines.former n a b c) e = record {
   first = former_names ++ former_values_text n a b c;
   last = 2;
   lines = LimitLines.former n a b c (former_few n a b c e);
-  head-is = refl;
+  head_is = refl;
   line-is = refl;
 }
 
@@ -144,5 +144,5 @@ first_long (FirstLines.former n a b c) = omega (arith, length-append (former_val
 -- the line of the first step has a number, and each line before it has a byte
 pub first-line : {k : Parameters} {head : List ℕ} {line : ℕ} → FirstLines k head line → parameters_stand k ≡ true → (0 < line) × (line ≤ length head)
 unfolding head_text first_line
-first-line (FirstLines.new k) e = (omega arith, omega (arith, head_sized k, limits-long 1 (take k.n k.a), stand-many k e))
+first-line (FirstLines.new k) e = (omega arith, omega (arith, head_sized k, limits_long 1 (take k.n k.a), stand_many k e))
 first-line (FirstLines.former n a b c) e = (omega arith, omega (arith, first_long (FirstLines.former n a b c)))

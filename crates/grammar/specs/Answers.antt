@@ -38,11 +38,11 @@ ReadIff = (text : List ℕ) (l : Lists)
 
 -- [6.110] a refusal with this code that is reported at one line tells its caller another: none for 11 and 12
 pub data TellsLine : ℕ → ℕ → ℕ → Type 0 where
-  of-count : TellsLine 11 2 0
+  of_count : TellsLine 11 2 0
   of-limits : {line : ℕ} → TellsLine 12 line 0
-  of-names : {line : ℕ} → TellsLine 13 line line
-  of-line : {line : ℕ} → TellsLine 14 line line
-  of-text : TellsLine 15 0 0
+  of_names : {line : ℕ} → TellsLine 13 line line
+  of_line : {line : ℕ} → TellsLine 14 line line
+  of_text : TellsLine 15 0 0
 
 -- [6.90] [6.195] why a text is not read into these lists: the code, and the line that the caller is told
 pub data Unreadable (text : List ℕ) (l : Lists) : ℕ → ℕ → Type 0 where
@@ -54,7 +54,7 @@ pub data Unreadable (text : List ℕ) (l : Lists) : ℕ → ℕ → Type 0 where
 pub record RefusedRead (l : Lists) (code time : ℕ) (r : Read) : Type 0 where
   pub answer : r.reading.answer ≡ answer_of code 0 time
   pub parameters : r.reading.parameters ≡ no_parameters
-  pub lists-stay : r.kept ≡ l
+  pub lists_stay : r.kept ≡ l
 
 -- [6.90] [6.110] [6.133] [6.140] [6.195] a reading is refused exactly so
 abbrev pub ReadRefusedExactly : Type 0
@@ -65,13 +65,13 @@ ReadRefusedExactly = (text : List ℕ) (l : Lists) (code time : ℕ) → code �
 -- [4.70] [6.153] [6.156] [7.50] [11.50] a text was put into lent bytes: 0, 0 and how many bytes it has; they start with it, and the others stay
 pub record Wrote (text out : List ℕ) (w : Written) : Type 0 where
   pub answer : w.answer ≡ answer_of 0 0 (length text)
-  pub text-is : take (length text) w.out ≡ text
-  pub rest-stays : drop (length text) w.out ≡ drop (length text) out
+  pub text_is : take (length text) w.out ≡ text
+  pub rest_stays : drop (length text) w.out ≡ drop (length text) out
 
 -- [4.110] [11.55] [11.60] nothing was put: a code, 0 and a line, and the lent bytes as they were
 pub record RefusedWrite (out : List ℕ) (code line : ℕ) (w : Written) : Type 0 where
   pub answer : w.answer ≡ answer_of code 0 line
-  pub bytes-stay : w.out ≡ out
+  pub bytes_stay : w.out ≡ out
 
 -- [4.70] [6.153] [6.156] of a trace that has a form, and lent bytes with room for its text
 abbrev pub WriteTells : Type 0

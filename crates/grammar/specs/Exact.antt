@@ -25,7 +25,7 @@ pub data FirstLines : Parameters → List ℕ → ℕ → Type 0 where
 pub record Says (text : List ℕ) (line : ℕ) (k : Parameters) (events : List Event) : Type 0 where
   pub head : List ℕ
   pub shape : FirstLines k head line
-  pub text-is : text ≡ head ++ events_text events
+  pub text_is : text ≡ head ++ events_text events
   pub stand : parameters_stand k ≡ true
   -- [6.160] as above
   pub forms : formless_from line events ≡ 0

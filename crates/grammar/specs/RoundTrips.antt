@@ -41,7 +41,7 @@ text_again r = trace_text r.reading.parameters (events_read r)
 
 -- [6.45] [6.202] a reading found these numbers and steps in a text of the former shape, and has n equal values of a
 pub record ReadFormer (text : List ℕ) (r : Read) (n a b c : ℕ) : Type 0 where
-  pub text-is : text ≡ former_head_text n a b c ++ events_text (events_read r)
+  pub text_is : text ≡ former_head_text n a b c ++ events_text (events_read r)
   pub parameters : r.reading.parameters ≡ former_parameters n a b c
 
 -- [6.202] what becomes of what a reading gave back, as it is written into this output

@@ -15,7 +15,7 @@ use Rattle.model.specs.Folds.{results_by, itself, log_by}
 use Rattle.model.specs.Summaries.{new_statistics, beside, code_of}
 use Rattle.model.specs.Tallies.{Attempt, attempted}
 use Rattle.model.proofs.Lists.{row_at, rows_snoc}
-use Rattle.model.proofs.Folds.{Going, count-going, long-going, moves-on, end-reached, all-written}
+use Rattle.model.proofs.Folds.{Going, count_going, long_going, moves_on, end_reached, all_written}
 use Rattle.theory.proofs.Soundness.{fresh_is_plain, fresh_is}
 use Rattle.tallies.specs.Tallies.{record_next, records_of, Tallied, start_of}
 use Rattle.tallies.proofs.Tallies.{every_tally}
@@ -49,21 +49,21 @@ abbrev pub Recording : Recorded → List Tuple → List Tuple → ℕ → ℕ �
 Recording r acts answers n i t m = Going record_next itself events_in_rows answered r acts answers n i t m
 
 module _ {r : Recorded} {acts answers : List Tuple} {n i : ℕ} {t : Recorded} {m : List Tuple} (g : Recording r acts answers n i t m) where
-  pub records-on : i < n → {u : Recorded} {k : List Tuple} → recorded_run_gave u k ≡ record_at t acts m i
+  pub records_on : i < n → {u : Recorded} {k : List Tuple} → recorded_run_gave u k ≡ record_at t acts m i
       → Recording r acts answers n (i + 1) u k
-  records-on h e =
+  records_on h e =
       let inside : i < length answers = omega (arith, g.all, length_events acts answers) in
-      moves-on g h (event_in_row (get_or acts i [])) (event_in_row []) (event-at acts answers i inside)
+      moves_on g h (event_in_row (get_or acts i [])) (event_in_row []) (event-at acts answers i inside)
       (ap (λ (v : RecordedRun). v.recorded) e)
-      (ap (λ (v : RecordedRun). v.answers) e ∙ rw g.written (rows_snoc answer_row g.results answers i (count-going g) inside _))
+      (ap (λ (v : RecordedRun). v.answers) e ∙ rw g.written (rows_snoc answer_row g.results answers i (count_going g) inside _))
 
   -- the answers have become neither longer nor shorter
-  pub answers-long : length m ≡ length answers
-  answers-long = rw g.written (long-going g answer_row answers (omega (arith, g.all, length_events acts answers)))
+  pub answers_long : length m ≡ length answers
+  answers_long = rw g.written (long_going g answer_row answers (omega (arith, g.all, length_events acts answers)))
 
 pub ends : (r : Recorded) {acts answers : List Tuple} {n i : ℕ} {t : Recorded} {m : List Tuple} → Recording r acts answers n i t m → n ≤ i
     → recorded_run_gave (started r t) m ≡ recorded_run_from r (events_in_rows acts answers) answers
-ends r g h = λ j. recorded_run_gave (started r (end-reached g h j)) (all-written g h j)
+ends r g h = λ j. recorded_run_gave (started r (end_reached g h j)) (all_written g h j)
 
 -- The log
 

@@ -14,7 +14,7 @@ use Rattle.model.specs.declared.Recorded.{Recorded}
 use Rattle.model.specs.Answers.{fresh_of}
 use Rattle.model.specs.Calls.{Call, call_of, table_of, handed_on, results_of}
 use Rattle.model.proofs.Lists.{row_at, rows_next, rows_snoc}
-use Rattle.model.proofs.Folds.{Going, count-going, long-going, moves-on, end-reached, all-written}
+use Rattle.model.proofs.Folds.{Going, count_going, long_going, moves_on, end_reached, all_written}
 use Rattle.theory.proofs.Soundness.{fresh_is}
 use Rattle.lists.proofs.Demand3.{every_list}
 use Rattle.history.specs.Lists.{Tuple, summary_of, call_in_row, Rows, rows, calls_in, calls_of}
@@ -25,10 +25,10 @@ use Rattle.history.specs.Lists.{call_at, result_at, stored_at, Turn, turn_gave, 
 
 -- place i is in each of the lists
 pub record Inside (i : ℕ) (calls : List Tuple) (l : Rows) : Type 0 where
-  pub in-calls : i < length calls
-  pub in-counts : i < length l.counts
-  pub in-waited : i < length l.waited
-  pub in-answers : i < length l.answers
+  pub in_calls : i < length calls
+  pub in_counts : i < length l.counts
+  pub in_waited : i < length l.waited
+  pub in_answers : i < length l.answers
 
 length_calls_in : (rs cs ts : List Tuple) → length (calls_in rs cs ts) ≡ min (length rs) (min (length cs) (length ts))
 unfolding calls_in
@@ -52,8 +52,8 @@ call_in_at (a ∷ rs) (b ∷ cs) (c ∷ ts) (suc i) d p q r = call_in_at rs cs t
 
 call-at : (calls : List Tuple) (l : Rows) (i : ℕ) (d : Call) → Inside i calls l → get_or (calls_of calls l) i d ≡ call_at calls l i
 call-at calls l i d h =
-    get_or-take (length l.answers) (calls_in calls l.counts l.waited) i d h.in-answers
-    ∙ call_in_at calls l.counts l.waited i d h.in-calls h.in-counts h.in-waited
+    get_or-take (length l.answers) (calls_in calls l.counts l.waited) i d h.in_answers
+    ∙ call_in_at calls l.counts l.waited i d h.in_calls h.in_counts h.in_waited
 
 -- One turn
 
@@ -61,28 +61,28 @@ pub result-at : (s : State) (calls : List Tuple) (l : Rows) (i : ℕ) (x y z : T
     → lent ≡ summary_of (get_or l.counts i y) (get_or l.waited i z) → r ≡ call_of s (call_in_row (get_or calls i x) lent)
     → r ≡ result_at s calls l i
 result-at s calls l i x y z h e made = made ∙ rw e
-    (λ j. call_of s (call_in_row (row_at calls i x [] h.in-calls j)
-    (summary_of (row_at l.counts i y [] h.in-counts j) (row_at l.waited i z [] h.in-waited j))))
+    (λ j. call_of s (call_in_row (row_at calls i x [] h.in_calls j)
+    (summary_of (row_at l.counts i y [] h.in_counts j) (row_at l.waited i z [] h.in_waited j))))
 
 -- the results of the calls before row i have been written
 module _ (rs : List Recorded) (calls : List Tuple) (l : Rows) (i : ℕ) (made : length rs ≡ i) (inside : Inside i calls l) where
   -- the next call is lent the summary that stood in its row at first
   call_next : call_at calls (overwritten rs l) i ≡ call_at calls l i
   call_next = λ j. call_in_row (get_or calls i []) (summary_of
-      (rows_next counts_row rs l.counts i made inside.in-counts [] j)
-      (rows_next waited_row rs l.waited i made inside.in-waited [] j))
+      (rows_next counts_row rs l.counts i made inside.in_counts [] j)
+      (rows_next waited_row rs l.waited i made inside.in_waited [] j))
 
-  rows-stored : (r : Recorded) → stored_at (overwritten rs l) i r ≡ overwritten (rs ++ (r ∷ [])) l
-  rows-stored r = λ j. rows
-      (rows_snoc counts_row rs l.counts i made inside.in-counts r j)
-      (rows_snoc waited_row rs l.waited i made inside.in-waited r j)
-      (rows_snoc answer_row rs l.answers i made inside.in-answers r j)
+  rows_stored : (r : Recorded) → stored_at (overwritten rs l) i r ≡ overwritten (rs ++ (r ∷ [])) l
+  rows_stored r = λ j. rows
+      (rows_snoc counts_row rs l.counts i made inside.in_counts r j)
+      (rows_snoc waited_row rs l.waited i made inside.in_waited r j)
+      (rows_snoc answer_row rs l.answers i made inside.in_answers r j)
 
   after_turn : (t : State) → let r = result_at t calls l i in
       turn_of t calls (overwritten rs l) i ≡ turn_gave r.outcome.state (overwritten (rs ++ (r ∷ [])) l)
   after_turn t =
       ap (λ (d : Call). turn_gave (table_of t d) (stored_at (overwritten rs l) i (call_of t d))) call_next
-      ∙ ap (turn_gave (result_at t calls l i).outcome.state) (rows-stored (result_at t calls l i))
+      ∙ ap (turn_gave (result_at t calls l i).outcome.state) (rows_stored (result_at t calls l i))
 
 -- The loop of `run`: of n calls i have been made, the table is t, and the rows have become m
 
@@ -90,29 +90,29 @@ abbrev pub Turning : State → List Tuple → Rows → ℕ → ℕ → State →
 Turning s calls l n i t m = Going call_of handed_on calls_of overwritten s calls l n i t m
 
 module _ {s : State} {calls : List Tuple} {l : Rows} {n i : ℕ} {t : State} {m : Rows} (g : Turning s calls l n i t m) where
-  pub is-inside : i < n → Inside i calls l
-  is-inside h = omega (arith, g.all, length_calls calls l)
+  pub is_inside : i < n → Inside i calls l
+  is_inside h = omega (arith, g.all, length_calls calls l)
 
-  pub turns-on : i < n → {u : State} {k : Rows} → turn_gave u k ≡ turn_of t calls m i → Turning s calls l n (i + 1) u k
-  turns-on h e =
+  pub turns_on : i < n → {u : State} {k : Rows} → turn_gave u k ≡ turn_of t calls m i → Turning s calls l n (i + 1) u k
+  turns_on h e =
       let d : Call = call_at calls l i in
-      let gave = e ∙ ap (λ (v : Rows). turn_of t calls v i) g.written ∙ after_turn g.results calls l i (count-going g) (is-inside h) t in
-      moves-on g h d d (call-at calls l i d (is-inside h)) (ap (λ (v : Turn). v.state) gave) (ap (λ (v : Turn). v.kept) gave)
+      let gave = e ∙ ap (λ (v : Rows). turn_of t calls v i) g.written ∙ after_turn g.results calls l i (count_going g) (is_inside h) t in
+      moves_on g h d d (call-at calls l i d (is_inside h)) (ap (λ (v : Turn). v.state) gave) (ap (λ (v : Turn). v.kept) gave)
 
   -- no list has become longer or shorter
-  pub counts-long : length m.counts ≡ length l.counts
-  counts-long = rw g.written (long-going g counts_row l.counts (omega (arith, g.all, length_calls calls l)))
+  pub counts_long : length m.counts ≡ length l.counts
+  counts_long = rw g.written (long_going g counts_row l.counts (omega (arith, g.all, length_calls calls l)))
 
-  pub waited-long : length m.waited ≡ length l.waited
-  waited-long = rw g.written (long-going g waited_row l.waited (omega (arith, g.all, length_calls calls l)))
+  pub waited_long : length m.waited ≡ length l.waited
+  waited_long = rw g.written (long_going g waited_row l.waited (omega (arith, g.all, length_calls calls l)))
 
-  pub answers-long : length m.answers ≡ length l.answers
-  answers-long = rw g.written (long-going g answer_row l.answers (omega (arith, g.all, length_calls calls l)))
+  pub answers_long : length m.answers ≡ length l.answers
+  answers_long = rw g.written (long_going g answer_row l.answers (omega (arith, g.all, length_calls calls l)))
 
 -- o is the outcome of the fresh table
 pub ends : (o : Outcome) {calls : List Tuple} {l : Rows} {n i : ℕ} {t : State} {m : Rows} → Turning o.state calls l n i t m → n ≤ i
     → run_gave (ending o t) m ≡ ran_from o (calls_of calls l) l
-ends o g h = λ j. run_gave (ending o (end-reached g h j)) (all-written g h j)
+ends o g h = λ j. run_gave (ending o (end_reached g h j)) (all_written g h j)
 
 -- Demand 3, which holds of every list, of what the loop leaves
 

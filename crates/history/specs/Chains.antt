@@ -77,9 +77,9 @@ pub record Records (s : State) (x : Statistics) (a p t : ℕ) (r : Recorded) : T
 
 -- [8.20] [8.30] [8.135] a result of one call, by any of the three functions
 pub data Made (s : State) (d : Call) (r : Recorded) : Type 0 where
-  by-step : d.recorded ≡ false → Steps s d.action d.process d.time r.outcome → r.statistics ≡ d.lent → Made s d r
+  by_step : d.recorded ≡ false → Steps s d.action d.process d.time r.outcome → r.statistics ≡ d.lent → Made s d r
   by_value : d.recorded ≡ true → RecordsByValue s d.lent d.action d.process d.time r → Made s d r
-  by-record : d.recorded ≡ true → Records s d.lent d.action d.process d.time r → Made s d r
+  by_record : d.recorded ≡ true → Records s d.lent d.action d.process d.time r → Made s d r
 
 -- [8.40] [8.135] each result on the table of the one before it
 abbrev pub Chain : State → List Call → List Recorded → Type 0

@@ -1,5 +1,7 @@
 // Whole lists of calls, each of which gets the state that the call before it gave back. The calls are rows of numbers, in slices of
 // arrays, so that a caller can lend any list; the shortest slice sets their number.
+#![tactic(auto)]
+
 mod lend;
 pub mod rows;
 

@@ -10,28 +10,28 @@ use borrow.Author.Tests.{eq-eqb}
 use Rattle.model.specs.Tallies.{Attempt}
 use Rattle.intervals.specs.Intervals.{End, ongoing, until, Interval, interval, end_of, intervals_of}
 use Rattle.intervals.specs.Runs.{AcceptedCrit, AcceptedExit, Ends, OneForEach, InTurn, OpenFor}
-use Rattle.intervals.proofs.Marks.{entry-true, exit-true, entry-false, exit-false, leaves-not-enters}
+use Rattle.intervals.proofs.Marks.{entry_true, exit_true, entry_false, exit_false, leaves_not_enters}
 use Rattle.intervals.proofs.Alternation.{Turn, Alternate}
 
 -- What one attempt more makes of the definitions
 
 module _ {e : Attempt} (es : List Attempt) where
-  pub entered-intervals : AcceptedCrit e
+  pub entered_intervals : AcceptedCrit e
       → intervals_of (e ∷ es) ≡ interval e.process e.time (end_of e.process es) ∷ intervals_of es
   unfolding intervals_of
-  entered-intervals h = rw (entry-true h)
+  entered_intervals h = rw (entry_true h)
 
-  pub same-intervals : (AcceptedCrit e → ⊥) → intervals_of (e ∷ es) ≡ intervals_of es
+  pub same_intervals : (AcceptedCrit e → ⊥) → intervals_of (e ∷ es) ≡ intervals_of es
   unfolding intervals_of
-  same-intervals n = rw (entry-false n)
+  same_intervals n = rw (entry_false n)
 
-  pub ended-there : {p : ℕ} → AcceptedExit e → e.process ≡ p → end_of p (e ∷ es) ≡ until e.time
+  pub ended_there : {p : ℕ} → AcceptedExit e → e.process ≡ p → end_of p (e ∷ es) ≡ until e.time
   unfolding end_of
-  ended-there {p} h own = simp (exit-true h, own, eq-eqb p p refl)
+  ended_there {p} h own = simp (exit_true h, own, eq-eqb p p refl)
 
   pub same_end : (p : ℕ) → (AcceptedExit e → ⊥) → end_of p (e ∷ es) ≡ end_of p es
   unfolding end_of
-  same_end p n = rw (exit-false n)
+  same_end p n = rw (exit_false n)
 
 -- Where an interval ends
 
@@ -46,7 +46,7 @@ unfolding end_of
 ends_own Alternate.ended some h = Ends.stays tt
 ends_own (Alternate.turned (Turn.enters _ none _ _ _ _) _) some h = absurd (omega arith)
 ends_own (Alternate.turned {e = e} {es = es} (Turn.leaves l own _ _ at on) _) some h =
-    rw (ended-there es l own) (Ends.exited [] e es refl tt l own (omega (arith, at, on)))
+    rw (ended_there es l own) (Ends.exited [] e es refl tt l own (omega (arith, at, on)))
 ends_own {p} {from = from} (Alternate.turned {es = es} (Turn.passes n m same on) a) some h =
     rw (same_end es p m) (ends_later n m (rw same at (ends_own {from = from} a (omega (arith, same)) (omega arith))))
 
@@ -56,13 +56,13 @@ pub one_for_each : {p t r : ℕ} {es : List Attempt} → Alternate p t es r → 
 unfolding intervals_of
 one_for_each Alternate.ended = OneForEach.none
 one_for_each (Alternate.turned {e = e} {es = es} (Turn.enters h _ own some at on) a) =
-    rw (entered-intervals es h)
+    rw (entered_intervals es h)
     (OneForEach.covered
     (record { enters = h; process = refl; from = refl; to = rw own at (ends_own {from = e.time} a some (omega (arith, at))) })
     (one_for_each a))
 one_for_each (Alternate.turned {es = es} (Turn.leaves l _ _ _ _ _) a) =
-    rw (same-intervals es (leaves-not-enters l)) (OneForEach.skipped (leaves-not-enters l) (one_for_each a))
-one_for_each (Alternate.turned {es = es} (Turn.passes n _ _ _) a) = rw (same-intervals es n) (OneForEach.skipped n (one_for_each a))
+    rw (same_intervals es (leaves_not_enters l)) (OneForEach.skipped (leaves_not_enters l) (one_for_each a))
+one_for_each (Alternate.turned {es = es} (Turn.passes n _ _ _) a) = rw (same_intervals es n) (OneForEach.skipped n (one_for_each a))
 
 -- One after the other
 
@@ -88,21 +88,21 @@ follow : {p t r : ℕ} {es : List Attempt} → Alternate p t es r → Follow p t
 unfolding end_of intervals_of
 follow Alternate.ended = record { free = λ _. (tt, InTurn.none); taken = λ _ from _. InTurn.last _ }
 follow (Alternate.turned {e = e} {es = es} (Turn.enters h none own some at on) a) = record {
-  free = λ _. rw (entered-intervals es h) (omega (arith, at, on), rw own at ((follow a).taken some e.time (omega (arith, at))));
+  free = λ _. rw (entered_intervals es h) (omega (arith, at, on), rw own at ((follow a).taken some e.time (omega (arith, at))));
   taken = λ some'. absurd (omega arith);
 }
 follow (Alternate.turned {e = e} {es = es} (Turn.leaves l own some none at on) a) = record {
   free = λ z. absurd (omega arith);
   taken = λ _ from h.
       let rest = (follow a).free none in
-      rw (ended-there es l own, same-intervals es (leaves-not-enters l))
+      rw (ended_there es l own, same_intervals es (leaves_not_enters l))
       (turn_next _ (intervals_of es) e.time refl (omega (arith, at, on)) (rw at at rest.0) rest.1);
 }
 follow {p} {t} (Alternate.turned {es = es} (Turn.passes n m same on) a) = record {
   free = λ z.
       let rest = (follow a).free (same ∙ z) in
-      rw (same-intervals es n) (first_sooner (intervals_of es) on rest.0, rest.1);
-  taken = λ some from h. rw (same_end es p m, same-intervals es n) (rw same at ((follow a).taken (omega (arith, same)) from (omega arith)));
+      rw (same_intervals es n) (first_sooner (intervals_of es) on rest.0, rest.1);
+  taken = λ some from h. rw (same_end es p m, same_intervals es n) (rw same at ((follow a).taken (omega (arith, same)) from (omega arith)));
 }
 
 pub in_turn : {t r : ℕ} {es : List Attempt} → Alternate 0 t es r → InTurn (intervals_of es)
@@ -139,19 +139,19 @@ opens Alternate.ended = record {
   taken = λ some from x. (λ h. let own = own_open h in (omega (arith, own), own), λ h. OpenFor.here h.1 refl);
 }
 opens (Alternate.turned {e = e} {es = es} (Turn.enters h none own some at on) a) = record {
-  free = λ _ x. rw (entered-intervals es h) (rw own at ((opens a).taken some e.time x));
+  free = λ _ x. rw (entered_intervals es h) (rw own at ((opens a).taken some e.time x));
   taken = λ some'. absurd (omega arith);
 }
 opens (Alternate.turned {e = e} {es = es} (Turn.leaves l own some none at on) a) = record {
   free = λ z. absurd (omega arith);
   taken = λ _ from x.
       let rest = (opens a).free none x in
-      rw (ended-there es l own, same-intervals es (leaves-not-enters l))
+      rw (ended_there es l own, same_intervals es (leaves_not_enters l))
       (λ h. rest.0 (past_open {m = e.time} refl h), λ h. OpenFor.later (rest.1 h));
 }
 opens {p} (Alternate.turned {es = es} (Turn.passes n m same on) a) = record {
-  free = λ z x. rw (same-intervals es n) ((opens a).free (same ∙ z) x);
-  taken = λ some from x. rw (same_end es p m, same-intervals es n) (rw same at ((opens a).taken (omega (arith, same)) from x));
+  free = λ z x. rw (same_intervals es n) ((opens a).free (same ∙ z) x);
+  taken = λ some from x. rw (same_end es p m, same_intervals es n) (rw same at ((opens a).taken (omega (arith, same)) from x));
 }
 
 pub open_at_end : {t r : ℕ} {es : List Attempt} → Alternate 0 t es r → (x : ℕ) → OpenFor x (intervals_of es) ↔ ((1 ≤ x) × (r ≡ x))

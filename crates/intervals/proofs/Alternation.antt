@@ -17,11 +17,11 @@ use Rattle.model.specs.Texts.{Event}
 use Rattle.model.specs.Executions.{step_by, state_after, state_from, attempts_of, attempts_from}
 use Rattle.model.proofs.Tests.{if_eq}
 use Rattle.theory.proofs.Acceptance.{refused_stays}
-use Rattle.lists.proofs.Reached.{step-tells}
-use Rattle.lists.proofs.Guarded.{Guarded, step-guarded}
+use Rattle.lists.proofs.Reached.{step_tells}
+use Rattle.lists.proofs.Guarded.{Guarded, step_guarded}
 use Rattle.lists.proofs.Demand3.{one_critical}
-use Rattle.tallies.proofs.ActKinds.{turn_some, turn-kind}
-use Rattle.tallies.proofs.Critical.{critical-before, critical-after}
+use Rattle.tallies.proofs.ActKinds.{turn_some, turn_kind}
+use Rattle.tallies.proofs.Critical.{critical_before, critical-after}
 use Rattle.intervals.specs.Runs.{AcceptedCrit, AcceptedExit}
 
 -- One attempt
@@ -58,18 +58,18 @@ module _ {k : Parameters} {s : State} (g : Guarded k s) (e : Event) where
 
   module _ (a : Accepted (step_by s e)) where
     accepted_guarded : Guarded k next
-    accepted_guarded = step-guarded g (step-tells g.reached a)
+    accepted_guarded = step_guarded g (step_tells g.reached a)
 
     accepted : Turns
     accepted =
-        let step = step-tells g.reached a in
-        let kind = turn-kind step.changed step.allowed.turn in
+        let step = step_tells g.reached a in
+        let kind = turn_kind step.changed step.allowed.turn in
         let some = turn_some step.allowed.turn in
-        let before = critical-before s next e.process step.changed.others-stay kind refl refl some
+        let before = critical_before s next e.process step.changed.others_stay kind refl refl some
         (one_critical g) (one_critical accepted_guarded) in
-        let after = critical-after s next e.process step.changed.others-stay kind refl refl some
+        let after = critical-after s next e.process step.changed.others_stay kind refl refl some
         (one_critical g) (one_critical accepted_guarded) in
-        let clock = step.changed.clock-is in
+        let clock = step.changed.clock_is in
         let on : s.clock ≤ next.clock = omega (arith, clock, step.allowed.forward) in
         if_eq e.action crit_act
         (λ c.
@@ -85,8 +85,8 @@ module _ {k : Parameters} {s : State} (g : Guarded k s) (e : Event) where
   turn : Turns
   turn = if_eq code 0 accepted refused
 
-  turn-guarded : Guarded k next
-  turn-guarded = if_eq code 0 accepted_guarded (λ n. rw (refused_stays s e.action e.process e.time n) g)
+  turn_guarded : Guarded k next
+  turn_guarded = if_eq code 0 accepted_guarded (λ n. rw (refused_stays s e.action e.process e.time n) g)
 
 -- A run
 
@@ -94,9 +94,9 @@ pub run_alternates : {k : Parameters} {s : State} → Guarded k s → (events : 
     → Alternate (critical_of s) s.clock (attempts_from s events) (critical_of (state_from s events))
 unfolding end_by results_by attempts_of
 run_alternates g [] = ended
-run_alternates g (e ∷ es) = turned (turn g e) (run_alternates (turn-guarded g e) es)
+run_alternates g (e ∷ es) = turned (turn g e) (run_alternates (turn_guarded g e) es)
 
 pub run_guarded : {k : Parameters} {s : State} → Guarded k s → (events : List Event) → Guarded k (state_from s events)
 unfolding end_by
 run_guarded g [] = g
-run_guarded g (e ∷ es) = run_guarded (turn-guarded g e) es
+run_guarded g (e ∷ es) = run_guarded (turn_guarded g e) es

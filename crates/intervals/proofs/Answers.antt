@@ -17,7 +17,7 @@ use Rattle.model.specs.Writings.{Written, written, fitted}
 use Rattle.model.specs.Executions.{answers_from}
 use Rattle.model.specs.Reports.{report_text}
 use Rattle.model.proofs.Tests.{by_cond}
-use Rattle.model.proofs.Folds.{length-results}
+use Rattle.model.proofs.Folds.{length_results}
 use Rattle.grammar.specs.Exact.{Says}
 use Rattle.grammar.specs.Answers.{RefusedWrite}
 use Rattle.grammar.proofs.Faults.{fault_some}
@@ -43,16 +43,16 @@ module _ (text out : List ℕ) where
   abbrev Accepted : Written → Type 0
   Accepted w = w.answer.code ≡ 0 → (line : ℕ) × (k : Parameters) × (events : List Event) × Writable text out line k events
 
-  fitted-accepted : (line : ℕ) (k : Parameters) (events : List Event) → Says text line k events
+  fitted_accepted : (line : ℕ) (k : Parameters) (events : List Event) → Says text line k events
       → Accepted (fitted (intervals_text (trace_intervals k events)) out)
   unfolding fitted
-  fitted-accepted line k events says =
+  fitted_accepted line k events says =
       by_cond Accepted (ltb (length out) (length (intervals_text (trace_intervals k events)))) (λ _ e. absurd (omega arith))
       (λ t _. (line, k, events, record { says = says; fits = ltb-false _ _ t }))
 
   accepted : (t : Trace) → TraceTells text t → Accepted (intervals_into out t)
   accepted (refused code line) told = λ e. absurd (omega (arith, fault_some told))
-  accepted (trace line k events) told = fitted-accepted line k events told
+  accepted (trace line k events) told = fitted_accepted line k events told
 
 pub intervals_iff : IntervalsIff
 unfolding write_intervals_of
@@ -71,22 +71,22 @@ module _ (text out : List ℕ) (code line : ℕ) (some : code ≢ 0) where
   answered : {c l : ℕ} → Unwritable text out c l → answer_of c 0 l ≡ answer_of code 0 line → Unwritable text out code line
   answered u same = subst₂ (Unwritable text out) (ap (λ (r : Answer). r.code) same) (ap (λ (r : Answer). r.time) same) u
 
-  fitted-why : (l : ℕ) (k : Parameters) (events : List Event) → Says text l k events → Why (fitted (intervals_text (trace_intervals k events)) out)
+  fitted_why : (l : ℕ) (k : Parameters) (events : List Event) → Says text l k events → Why (fitted (intervals_text (trace_intervals k events)) out)
   unfolding fitted
-  fitted-why l k events says =
+  fitted_why l k events says =
       by_cond Why (ltb (length out) (length (intervals_text (trace_intervals k events))))
       (λ t u. answered (Unwritable.no_room l k events says (ltb-true _ _ t)) u.answer)
       (λ t u. absurd (some (sym (ap (λ (r : Answer). r.code) u.answer))))
 
   why : (t : Trace) → TraceTells text t → Why (intervals_into out t)
   why (refused c l) told = λ u. answered (Unwritable.faulty told) u.answer
-  why (trace l k events) told = fitted-why l k events told
+  why (trace l k events) told = fitted_why l k events told
 
 so : {text out : List ℕ} {code line : ℕ} → Unwritable text out code line → RefusedWrite out code line (write_intervals_of text out)
 unfolding write_intervals_of fitted
-so {text} (Unwritable.faulty {code} {line} f) = rw ((refused_exactly text code line).1 f) (record { answer = refl; bytes-stay = refl })
+so {text} (Unwritable.faulty {code} {line} f) = rw ((refused_exactly text code line).1 f) (record { answer = refl; bytes_stay = refl })
 so {text} (Unwritable.no_room l k events says h) =
-    rw ((read_exactly text l k events).1 says, lt-ltb _ _ h) (record { answer = refl; bytes-stay = refl })
+    rw ((read_exactly text l k events).1 says, lt-ltb _ _ h) (record { answer = refl; bytes_stay = refl })
 
 pub intervals_refused_exactly : IntervalsRefusedExactly
 unfolding write_intervals_of
@@ -107,7 +107,7 @@ pub same_answers : SameAnswers
 unfolding report_text write_intervals_of
 same_answers text out line k events says =
     let t = (read_exactly text line k events).1 says in
-    (answers_from (fresh_of k).state events, simp (length-map, length-results), rw t, rw t)
+    (answers_from (fresh_of k).state events, simp (length-map, length_results), rw t, rw t)
 
 pub same_fault : SameFault
 unfolding report_text write_intervals_of

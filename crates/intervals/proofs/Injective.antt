@@ -9,7 +9,7 @@ use lib.ListN.{length, drop}
 use lib.Seq.{drop-append_seam}
 use Rattle.model.specs.Texts.{comma, newline, number_text}
 use Rattle.model.specs.Readings.{number_from}
-use Rattle.grammar.proofs.Fields.{number-reads, number-first, number-none}
+use Rattle.grammar.proofs.Fields.{number_reads, number_first, number_none}
 use Rattle.intervals.specs.Intervals.{End, ongoing, until, Interval, interval_names, end_text, interval_text, interval_lines, intervals_text}
 use Rattle.intervals.specs.Answers.{ReadsNumber, ReadsEnd, LineReads, TextTellsAll}
 
@@ -18,7 +18,7 @@ use Rattle.intervals.specs.Answers.{ReadsNumber, ReadsEnd, LineReads, TextTellsA
 number_starts : (end v : ℕ) (t : List ℕ) → end < 48 → ReadsNumber end v (number_text end v ++ t) t
 number_starts end v t small = record {
   size = length (number_text end v);
-  reads = λ bound h. number-reads bound end small v t h;
+  reads = λ bound h. number_reads bound end small v t h;
   then = drop-append_seam (number_text end v) t;
 }
 
@@ -45,29 +45,29 @@ line_reads i rest =
 end_first : (x y : End) (s t : List ℕ) → end_text x ++ s ≡ end_text y ++ t → (x ≡ y) × (s ≡ t)
 unfolding end_text number_from
 end_first ongoing ongoing s t e = (refl, ap (drop 2) e)
-end_first ongoing (until m) s t e = absurd (number-none newline (omega arith) m t _ (λ _. refl) (sym e))
-end_first (until m) ongoing s t e = absurd (number-none newline (omega arith) m s _ (λ _. refl) e)
-end_first (until m) (until n) s t e = let f = number-first newline (omega arith) m n s t e in (ap until f.0, f.1)
+end_first ongoing (until m) s t e = absurd (number_none newline (omega arith) m t _ (λ _. refl) (sym e))
+end_first (until m) ongoing s t e = absurd (number_none newline (omega arith) m s _ (λ _. refl) e)
+end_first (until m) (until n) s t e = let f = number_first newline (omega arith) m n s t e in (ap until f.0, f.1)
 
 -- a line is told, and so is what follows it
 line_first : (i j : Interval) (s t : List ℕ) → interval_text i ++ s ≡ interval_text j ++ t → (i ≡ j) × (s ≡ t)
 unfolding interval_text
 line_first i j s t e =
-    let p = number-first comma (omega arith) i.process j.process _ _ (simp append_assoc at e) in
-    let f = number-first comma (omega arith) i.from j.from _ _ p.1 in
+    let p = number_first comma (omega arith) i.process j.process _ _ (simp append_assoc at e) in
+    let f = number_first comma (omega arith) i.from j.from _ _ p.1 in
     let l = end_first i.to j.to s t f.1 in
     (λ k. record { process = p.0 k; from = f.0 k; to = l.0 k }, l.1)
 
 -- no line is empty, as its first field is a number
-line-some : (i : Interval) (s : List ℕ) → interval_text i ++ s ≢ []
+line_some : (i : Interval) (s : List ℕ) → interval_text i ++ s ≢ []
 unfolding interval_text number_from
-line-some i s e = number-none comma (omega arith) i.process _ [] (λ _. refl) (simp append_assoc at e)
+line_some i s e = number_none comma (omega arith) i.process _ [] (λ _. refl) (simp append_assoc at e)
 
 lines_tell : (is js : List Interval) → interval_lines is ≡ interval_lines js → is ≡ js
 unfolding interval_lines
 lines_tell [] [] e = refl
-lines_tell [] (j ∷ js) e = absurd (line-some j (interval_lines js) (sym e))
-lines_tell (i ∷ is) [] e = absurd (line-some i (interval_lines is) e)
+lines_tell [] (j ∷ js) e = absurd (line_some j (interval_lines js) (sym e))
+lines_tell (i ∷ is) [] e = absurd (line_some i (interval_lines is) e)
 lines_tell (i ∷ is) (j ∷ js) e = let l = line_first i j (interval_lines is) (interval_lines js) e in ap₂ ◌∷◌ l.0 (lines_tell is js l.1)
 
 pub text_tells_all : TextTellsAll

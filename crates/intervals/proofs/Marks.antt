@@ -9,24 +9,24 @@ use Rattle.model.proofs.Tests.{by_test, tests}
 use Rattle.intervals.specs.Runs.{AcceptedCrit, AcceptedExit}
 
 module _ {e : Attempt} where
-  pub entry-true : AcceptedCrit e → is_entry e ≡ true
-  entry-true h = rw (eq-eqb _ 0 h.accepted, eq-eqb _ crit_act h.crit)
+  pub entry_true : AcceptedCrit e → is_entry e ≡ true
+  entry_true h = rw (eq-eqb _ 0 h.accepted, eq-eqb _ crit_act h.crit)
 
-  pub exit-true : AcceptedExit e → is_exit e ≡ true
-  exit-true h = rw (eq-eqb _ 0 h.accepted, eq-eqb _ exit_act h.exit)
+  pub exit_true : AcceptedExit e → is_exit e ≡ true
+  exit_true h = rw (eq-eqb _ 0 h.accepted, eq-eqb _ exit_act h.exit)
 
-  entry-tells : is_entry e ≡ true → AcceptedCrit e
-  entry-tells t = let h = simp tests at t in record { accepted = h.0; crit = h.1 }
+  entry_tells : is_entry e ≡ true → AcceptedCrit e
+  entry_tells t = let h = simp tests at t in record { accepted = h.0; crit = h.1 }
 
-  exit-tells : is_exit e ≡ true → AcceptedExit e
-  exit-tells t = let h = simp tests at t in record { accepted = h.0; exit = h.1 }
+  exit_tells : is_exit e ≡ true → AcceptedExit e
+  exit_tells t = let h = simp tests at t in record { accepted = h.0; exit = h.1 }
 
-  pub entry-false : (AcceptedCrit e → ⊥) → is_entry e ≡ false
-  entry-false n = by_test (is_entry e) (λ t. absurd (n (entry-tells t))) (λ f. f)
+  pub entry_false : (AcceptedCrit e → ⊥) → is_entry e ≡ false
+  entry_false n = by_test (is_entry e) (λ t. absurd (n (entry_tells t))) (λ f. f)
 
-  pub exit-false : (AcceptedExit e → ⊥) → is_exit e ≡ false
-  exit-false n = by_test (is_exit e) (λ t. absurd (n (exit-tells t))) (λ f. f)
+  pub exit_false : (AcceptedExit e → ⊥) → is_exit e ≡ false
+  exit_false n = by_test (is_exit e) (λ t. absurd (n (exit_tells t))) (λ f. f)
 
   -- no act is both
-  pub leaves-not-enters : AcceptedExit e → AcceptedCrit e → ⊥
-  leaves-not-enters l h = omega (arith, l.exit, h.crit)
+  pub leaves_not_enters : AcceptedExit e → AcceptedCrit e → ⊥
+  leaves_not_enters l h = omega (arith, l.exit, h.crit)

@@ -16,10 +16,10 @@ use Rattle.grammar.proofs.Lines.{number_length}
 use Rattle.intervals.specs.Intervals.{end_of, intervals_of, interval_names, end_text, interval_text, interval_lines, intervals_text}
 use Rattle.intervals.specs.Runs.{AcceptedCrit, AcceptedExit}
 use Rattle.intervals.specs.Parts.{part_text, parts_text, open_with, open_after, last_text, rest_text, pass_text}
-use Rattle.intervals.proofs.Marks.{entry-true, exit-true, entry-false, exit-false, leaves-not-enters}
+use Rattle.intervals.proofs.Marks.{entry_true, exit_true, entry_false, exit_false, leaves_not_enters}
 use Rattle.intervals.proofs.Alternation.{Turn, Alternate}
-use Rattle.intervals.proofs.Alternating.{entered-intervals, same-intervals, ended-there, same_end}
-use Rattle.intervals.proofs.Runs.{takes-turns}
+use Rattle.intervals.proofs.Alternating.{entered_intervals, same_intervals, ended_there, same_end}
+use Rattle.intervals.proofs.Runs.{takes_turns}
 
 -- Attempts one after the other
 
@@ -39,20 +39,20 @@ regroup : (a b c d : List ℕ) → (a ++ b) ++ (c ++ d) ≡ (a ++ (b ++ c)) ++ d
 regroup a b c d = sym (append_assoc (a ++ b) c d) ∙ ap (λ (x : List ℕ). x ++ d) (append_assoc a b c)
 
 module _ {e : Attempt} (es : List Attempt) (opened : Bool) where
-  entered-rest : AcceptedCrit e → rest_text opened (e ∷ es) ≡ (number_text comma e.process ++ number_text comma e.time) ++ rest_text true es
+  entered_rest : AcceptedCrit e → rest_text opened (e ∷ es) ≡ (number_text comma e.process ++ number_text comma e.time) ++ rest_text true es
   unfolding part_text parts_text open_with open_after
-  entered-rest h =
-      rw (entry-true h) (append_assoc (number_text comma e.process ++ number_text comma e.time) (parts_text es) (last_text (open_after true es)))
+  entered_rest h =
+      rw (entry_true h) (append_assoc (number_text comma e.process ++ number_text comma e.time) (parts_text es) (last_text (open_after true es)))
 
   left_rest : AcceptedExit e → rest_text opened (e ∷ es) ≡ number_text newline e.time ++ rest_text false es
   unfolding part_text parts_text open_with open_after
   left_rest h =
-      rw (entry-false (leaves-not-enters h), exit-true h)
+      rw (entry_false (leaves_not_enters h), exit_true h)
       (append_assoc (number_text newline e.time) (parts_text es) (last_text (open_after false es)))
 
   same_rest : (AcceptedCrit e → ⊥) → (AcceptedExit e → ⊥) → rest_text opened (e ∷ es) ≡ rest_text opened es
   unfolding part_text parts_text open_with open_after
-  same_rest n m = rw (entry-false n, exit-false m)
+  same_rest n m = rw (entry_false n, exit_false m)
 
 -- All of them
 
@@ -66,23 +66,23 @@ unfolding end_of intervals_of interval_lines interval_text end_text parts_text o
 puts Alternate.ended = record { free = λ _. refl; taken = λ _. refl }
 puts (Alternate.turned {e = e} {es = es} (Turn.enters h none own some at on) a) = record {
   free = λ _.
-      entered-rest es false h
-      ∙ rw (entered-intervals es h, rw own at ((puts a).taken some))
+      entered_rest es false h
+      ∙ rw (entered_intervals es h, rw own at ((puts a).taken some))
       (regroup (number_text comma e.process) (number_text comma e.time) (end_text (end_of e.process es)) (interval_lines (intervals_of es)));
   taken = λ some'. absurd (omega arith);
 }
 puts (Alternate.turned {e = e} {es = es} (Turn.leaves l own some none at on) a) = record {
   free = λ z. absurd (omega arith);
-  taken = λ _. left_rest es true l ∙ rw (ended-there es l own, same-intervals es (leaves-not-enters l), (puts a).free none);
+  taken = λ _. left_rest es true l ∙ rw (ended_there es l own, same_intervals es (leaves_not_enters l), (puts a).free none);
 }
 puts {p} (Alternate.turned {es = es} (Turn.passes n m same on) a) = record {
-  free = λ z. same_rest es false n m ∙ rw (same-intervals es n) ((puts a).free (same ∙ z));
-  taken = λ some. same_rest es true n m ∙ rw (same_end es p m, same-intervals es n) (rw same at ((puts a).taken (omega (arith, same))));
+  free = λ z. same_rest es false n m ∙ rw (same_intervals es n) ((puts a).free (same ∙ z));
+  taken = λ some. same_rest es true n m ∙ rw (same_end es p m, same_intervals es n) (rw same at ((puts a).taken (omega (arith, same))));
 }
 
 pub pass-text : {s : State} → IsFresh s → (events : List Event) → pass_text s events ≡ intervals_text (intervals_of (attempts_from s events))
 unfolding intervals_text pass_text
-pass-text fresh events = ap (λ (text : List ℕ). interval_names ++ text) ((puts (takes-turns fresh events)).free refl)
+pass-text fresh events = ap (λ (text : List ℕ). interval_names ++ text) ((puts (takes_turns fresh events)).free refl)
 
 -- Room
 

@@ -15,7 +15,7 @@ use Rattle.theory.proofs.Soundness.{stand_fresh}
 use Rattle.grammar.specs.Exact.{Says}
 use Rattle.grammar.specs.RoundTrips.{first_of}
 use Rattle.grammar.proofs.Exact.{read_exactly}
-use Rattle.grammar.proofs.Fits.{says-long, events_fit}
+use Rattle.grammar.proofs.Fits.{says_long, events_fit}
 use Rattle.execution.proofs.Starts.{Ready}
 use Rattle.intervals.specs.Intervals.{trace_intervals, intervals_text, write_intervals_of}
 use Rattle.intervals.specs.Parts.{pass_text}
@@ -24,14 +24,14 @@ use Rattle.intervals.proofs.Runs.{every_run}
 use Rattle.intervals.proofs.Passes.{pass-text, pass_short}
 
 module _ {text : List ℕ} {line : ℕ} {k : Parameters} {events : List Event} (says : Says text line k events) where
-  starts-fresh : IsFresh (fresh_of k).state
-  starts-fresh = stand_fresh k says.stand
+  starts_fresh : IsFresh (fresh_of k).state
+  starts_fresh = stand_fresh k says.stand
 
   trace-text : pass_text (fresh_of k).state events ≡ intervals_text (trace_intervals k events)
-  trace-text = pass-text starts-fresh events
+  trace-text = pass-text starts_fresh events
 
-  trace-short : length (pass_text (fresh_of k).state events) ≤ length text
-  trace-short = omega (arith, pass_short (fresh_of k).state events, says-long says)
+  trace_short : length (pass_text (fresh_of k).state events) ≤ length text
+  trace_short = omega (arith, pass_short (fresh_of k).state events, says_long says)
 
 -- What is found of a text that is started, with code 0
 
@@ -42,20 +42,20 @@ module _ {text : List ℕ} {x : Started} (r : Ready text x) where
   abbrev says : Says text x.scan.line x.scan.parameters events
   says = (read_exactly text x.scan.line x.scan.parameters events).0 r.is
 
-  pub ready-short : length (pass_text x.state events) ≤ length text
-  ready-short = rw r.state (trace-short says)
+  pub ready_short : length (pass_text x.state events) ≤ length text
+  ready_short = rw r.state (trace_short says)
 
-  pub ready-written : (out : List ℕ) → fitted (pass_text x.state events) out ≡ write_intervals_of text out
+  pub ready_written : (out : List ℕ) → fitted (pass_text x.state events) out ≡ write_intervals_of text out
   unfolding write_intervals_of
-  ready-written out = rw (r.is, r.state, trace-text says)
+  ready_written out = rw (r.is, r.state, trace-text says)
 
 -- Every trace
 
 pub intervals_short : IntervalsShort
-intervals_short text line k events says = subst (λ (t : List ℕ). length t ≤ length text) (trace-text says) (trace-short says)
+intervals_short text line k events says = subst (λ (t : List ℕ). length t ≤ length text) (trace-text says) (trace_short says)
 
 pub every_trace : EveryTrace
-every_trace text line k events says = every_run (fresh_of k).state (starts-fresh says) events
+every_trace text line k events says = every_run (fresh_of k).state (starts_fresh says) events
 
 pub intervals_counted : IntervalsCounted
 intervals_counted text line k events says =

@@ -72,7 +72,7 @@ pub record RunIntervals (s : State) (events : List Event) (is : List Interval) :
   -- [11.85] [11.90]
   pub in_turn : InTurn is
   -- [11.90]
-  pub open-for : (p : ℕ) → OpenFor p is ↔ IsCritical (state_from s events) p
+  pub open_for : (p : ℕ) → OpenFor p is ↔ IsCritical (state_from s events) p
   -- [11.75] as the summary counts entries, if it does not fill up
   pub counted : length events ≤ most_acts → length is ≡ (record_all (start_of s) events).statistics.counts.entries
 

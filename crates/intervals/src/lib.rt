@@ -1,5 +1,7 @@
 // The intervals in which processes were critical, out of a recording: it is run, and there is a line for each accepted crit. As at most
 // one process is critical at a time, a crit begins a line and the next exit ends it, so that one pass over the steps writes the text.
+#![tactic(auto)]
+
 mod parts;
 
 ghost use Rattle.std.specs.Prelude.{◌≡◌, ◌≤◌, length};

@@ -22,18 +22,18 @@ module _ (l : List ℕ) (long : length l ≡ summary_length) where
   abbrev x : Statistics
   x = statistics_in l
 
-  are-numbers : statistics_numbers x ≡ l
-  are-numbers = summary_numbers_told l (omega arith)
+  are_numbers : statistics_numbers x ≡ l
+  are_numbers = summary_numbers_told l (omega arith)
 
-  pub refused-numbers : Room x.counts → refused_in l ≡ statistics_numbers (refused_counted x)
+  pub refused_numbers : Room x.counts → refused_in l ≡ statistics_numbers (refused_counted x)
   unfolding refused_in statistics_in
-  refused-numbers room =
+  refused_numbers room =
       ap (λ (k : Counts). set l refused_place k.refused) (refused-after x.counts room)
-      ∙ sym (refused_stored x ∙ ap (λ (k : List ℕ). set k refused_place (one_refused x.counts).refused) are-numbers)
+      ∙ sym (refused_stored x ∙ ap (λ (k : List ℕ). set k refused_place (one_refused x.counts).refused) are_numbers)
 
-  pub refused-length : length (refused_in l) ≡ summary_length
+  pub refused_length : length (refused_in l) ≡ summary_length
   unfolding refused_in
-  refused-length = simp length-set long
+  refused_length = simp length-set long
 
   -- an accepted act of process p with the unused time d
   module _ (act p d : ℕ) (few : p ≤ 96) (fits : waited_by x p + d < 2 ^ 64) where
@@ -41,25 +41,25 @@ module _ (l : List ℕ) (long : length l ≡ summary_length) where
     unfolding statistics_in
     own_is = ap (λ (i : ℕ). get_or l (waited_place i) 0) (slot_in p few) ∙ sym (get_or-drop counts_length l (p - 1) 0)
 
-    pub wait-is : wait_in l p d ≡ waited_by x p + d
-    wait-is = ap (longer_by d) own_is ∙ mod-eq_of_lt fits
+    pub wait_is : wait_in l p d ≡ waited_by x p + d
+    wait_is = ap (longer_by d) own_is ∙ mod-eq_of_lt fits
 
     module _ (room : Room x.counts) where
       abbrev counts : Counts
       counts = counts_after x.counts act (waited_by x p + d)
 
-      counts-are : counts_counted l act p d ≡ statistics_numbers (statistics_of counts x.waited)
+      counts_are : counts_counted l act p d ≡ statistics_numbers (statistics_of counts x.waited)
       unfolding statistics_in
-      counts-are =
-          let counted = ap (accepted_after x.counts act) wait-is ∙ accepted-after x.counts act (waited_by x p + d) room in
-          (λ i. counts_put (sym are-numbers i) (counted i)) ∙ sym (counts_stored x counts)
+      counts_are =
+          let counted = ap (accepted_after x.counts act) wait_is ∙ accepted-after x.counts act (waited_by x p + d) room in
+          (λ i. counts_put (sym are_numbers i) (counted i)) ∙ sym (counts_stored x counts)
 
-      pub accepted-numbers : (qs : List Process)
+      pub accepted_numbers : (qs : List Process)
           → accepted_in l qs act p d ≡ statistics_numbers (statistics_of counts (cleared_by act p (waited_on d qs x.waited)))
       unfolding accepted_in
-      accepted-numbers qs =
+      accepted_numbers qs =
           let y = statistics_of counts (waited_on d qs x.waited) in
-          ap (λ (k : List ℕ). cleared_in (waited_put k qs d) act p) counts-are
+          ap (λ (k : List ℕ). cleared_in (waited_put k qs d) act p) counts_are
           ∙ ap (λ (k : List ℕ). cleared_in k act p) (sym (waits_stored (statistics_of counts x.waited) qs d))
           ∙ by_test (clears act)
           (λ e. rw e (ap (λ (i : ℕ). set (statistics_numbers y) (waited_place i) 0) (slot_in p few) ∙ sym (wait_stored y (p - 1) 0)))

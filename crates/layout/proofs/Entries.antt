@@ -13,7 +13,7 @@ use Rattle.layout.specs.Places.{numbers_at, entries_in, tells_location, entry_in
 use Rattle.values.specs.Bits.{are_zero}
 use Rattle.model.proofs.Lists.{drop_at, drop_end}
 use Rattle.model.proofs.Tests.{tests, if_eq, by_cond, and_true_iff}
-use Rattle.rules.proofs.Entries.{idle-sound}
+use Rattle.rules.proofs.Entries.{idle_sound}
 use Rattle.layout.proofs.Numbers.{length_told, told_at}
 
 -- whether the entries from i on tell sound ones
@@ -27,8 +27,8 @@ regroup true false u v = sym (and-false u)
 regroup false t u v = refl
 
 module _ (l : List ℕ) (long : length l ≡ table_length) where
-  pair-at : (i : ℕ) → i < 96 → entries_from l i ≡ (entry_in l i).stage ∷ (entry_in l i).since ∷ entries_from l (i + 1)
-  pair-at i more =
+  pair_at : (i : ℕ) → i < 96 → entries_from l i ≡ (entry_in l i).stage ∷ (entry_in l i).since ∷ entries_from l (i + 1)
+  pair_at i more =
       let e : since_place i + 1 ≡ stage_place (i + 1) = omega arith in
       drop_at l (stage_place i) 0 (omega arith)
       ∙ ap (λ (t : List ℕ). (entry_in l i).stage ∷ t) (drop_at l (since_place i) 0 (omega arith) ∙ ap (λ (k : ℕ). (entry_in l i).since ∷ drop k l) e)
@@ -51,15 +51,15 @@ module _ (l : List ℕ) (long : length l ≡ table_length) where
 
   -- What is left of the soundness after some of them
 
-  pub next-told : (i : ℕ) → i < 96 → are_entries (entries_from l i) ≡ tells_location (entry_in l i) && are_entries (entries_from l (i + 1))
+  pub next_told : (i : ℕ) → i < 96 → are_entries (entries_from l i) ≡ tells_location (entry_in l i) && are_entries (entries_from l (i + 1))
   unfolding are_entries
-  next-told i more = rw (pair-at i more)
+  next_told i more = rw (pair_at i more)
 
-  next-sound : (i : ℕ) → i < 96
+  next_sound : (i : ℕ) → i < 96
       → left_sound l i ≡ (tells_location (entry_in l i) && entry_sound (state_in l) (i + 1) (entry (location_in l i))) && left_sound l (i + 1)
   unfolding are_entries entries_sound processes_in
-  next-sound i more =
-      rw (pair-at i more)
+  next_sound i more =
+      rw (pair_at i more)
       (regroup (tells_location (entry_in l i)) (are_entries (entries_from l (i + 1)))
       (entry_sound (state_in l) (i + 1) (entry (location_in l i))) (entries_sound (state_in l) (i + 1 + 1) (processes_in (entries_from l (i + 1)))))
 
@@ -69,7 +69,7 @@ module _ (l : List ℕ) (long : length l ≡ table_length) where
   left-sound (suc i) h e =
       let f : suc i ≡ i + 1 = omega arith in
       let own = tells_location (entry_in l i) && entry_sound (state_in l) (i + 1) (entry (location_in l i)) in
-      rw f ((and_true_iff own (left_sound l (i + 1))).0 (sym (next-sound i (omega arith)) ∙ left-sound i (omega arith) e)).1
+      rw f ((and_true_iff own (left_sound l (i + 1))).0 (sym (next_sound i (omega arith)) ∙ left-sound i (omega arith) e)).1
 
 -- Above n
 
@@ -87,27 +87,27 @@ not_remainder stage since n =
 
 module _ (s : State) where
   -- there an entry is sound just where it is in the remainder
-  above-is-zero : (k stage since : ℕ) → s.parameters.n < k
+  above_is_zero : (k stage since : ℕ) → s.parameters.n < k
       → (tells_entry stage since && entry_sound s k (entry (location_at stage since))) ≡ (eqb stage 0 && eqb since 0)
-  above-is-zero k stage since h =
+  above_is_zero k stage since h =
       if_eq stage 0
-      (λ e. rw e (if_eq since 0 (λ f. rw f (idle-sound s k)) (λ f. simp (ne_eqb since 0 f, ne_eqb 0 since (λ g. f (sym g))))))
-      (λ e. ap (λ (u : Bool). tells_entry stage since && u) (above-sound ∙ not_remainder stage since e) ∙ and-false (tells_entry stage since)
+      (λ e. rw e (if_eq since 0 (λ f. rw f (idle_sound s k)) (λ f. simp (ne_eqb since 0 f, ne_eqb 0 since (λ g. f (sym g))))))
+      (λ e. ap (λ (u : Bool). tells_entry stage since && u) (above_sound ∙ not_remainder stage since e) ∙ and-false (tells_entry stage since)
       ∙ sym (rw (ne_eqb stage 0 e)))
     where
-      above-sound : entry_sound s k (entry (location_at stage since)) ≡ eqb (stage_of (location_at stage since)) remainder
-      above-sound = rw (lt-leb k s.parameters.n h)
+      above_sound : entry_sound s k (entry (location_at stage since)) ≡ eqb (stage_of (location_at stage since)) remainder
+      above_sound = rw (lt-leb k s.parameters.n h)
 
-  pub above-are-zero : (m k : ℕ) (l : List ℕ) → length l ≡ stride * m → s.parameters.n < k
+  pub above_are_zero : (m k : ℕ) (l : List ℕ) → length l ≡ stride * m → s.parameters.n < k
       → (are_entries l && entries_sound s k (processes_in l)) ≡ are_zero l
   unfolding are_entries entries_sound processes_in are_zero
-  above-are-zero zero k [] e h = refl
-  above-are-zero zero k (x ∷ l) e h = absurd (omega arith)
-  above-are-zero (suc m) k [] e h = absurd (omega arith)
-  above-are-zero (suc m) k (x ∷ []) e h = absurd (omega arith)
-  above-are-zero (suc m) k (x ∷ (y ∷ l)) e h =
+  above_are_zero zero k [] e h = refl
+  above_are_zero zero k (x ∷ l) e h = absurd (omega arith)
+  above_are_zero (suc m) k [] e h = absurd (omega arith)
+  above_are_zero (suc m) k (x ∷ []) e h = absurd (omega arith)
+  above_are_zero (suc m) k (x ∷ (y ∷ l)) e h =
       regroup (tells_entry x y) (are_entries l) (entry_sound s k (entry (location_at x y))) (entries_sound s (k + 1) (processes_in l))
-      ∙ (λ i. above-is-zero k x y h i && above-are-zero m (k + 1) l (omega arith) (omega arith) i)
+      ∙ (λ i. above_is_zero k x y h i && above_are_zero m (k + 1) l (omega arith) (omega arith) i)
       ∙ and_assoc (eqb x 0) (eqb y 0) (are_zero l)
 
 -- A list of entries, as a pass goes over it
@@ -129,7 +129,7 @@ pub first_next : (l : List ℕ) → length l ≡ table_length → (j i : ℕ) �
 unfolding entries_in
 first_next l long j i more =
     let two : stride * suc j ≡ suc (suc (stride * j)) = omega arith in
-    rw (pair-at l long i more, two)
+    rw (pair_at l long i more, two)
 
 -- Zeros
 

@@ -3,4 +3,4 @@ use Rattle.std.proofs.Common.{refl}
 use Rattle.layout.specs.Layouts.{LayoutIsNumbered}
 
 pub layout_is_numbered : LayoutIsNumbered
-layout_is_numbered = record { last = refl; table_is = refl; header_is = refl; entry-is = refl; summary-is = refl; counts-is = refl }
+layout_is_numbered = record { last = refl; table_is = refl; header_is = refl; entry_is = refl; summary_is = refl; counts_is = refl }

@@ -13,7 +13,7 @@ use Rattle.rules.specs.declared.survey.Survey.{Survey}
 use Rattle.layout.specs.Steps.{answer_in, action_put, acted_in, survey_in}
 use Rattle.layout.proofs.Lists.{front_over}
 use Rattle.layout.proofs.Surveys.{tell_sound, Found, faulty, whole, survey_found}
-use Rattle.layout.proofs.Acts.{lent-gave, outcome_numbers, step-acted}
+use Rattle.layout.proofs.Acts.{lent-gave, outcome_numbers, step_acted}
 
 -- Whether a lent table is sound
 
@@ -61,29 +61,29 @@ module _ (table : List ℕ) (fits : table_length ≤ length table) (act p m : �
 
   -- the first numbers give what the step in place gives of them
   module _ {j : Answer} {new : List ℕ} (e : lent_gave j new ≡ acted_in first (survey_in first p) act p m) where
-    pub new-long : length new ≡ table_length
-    new-long = ap (λ (g : Lent). length g.table) e ∙ acted_length first (survey_in first p) act p m ∙ first_long
+    pub new_long : length new ≡ table_length
+    new_long = ap (λ (g : Lent). length g.table) e ∙ acted_length first (survey_in first p) act p m ∙ first_long
 
-    unsound-front : is_sound_table table ≡ false → lent_gave j (new ++ drop table_length table) ≡ lent_step table act p m
-    unsound-front u =
+    unsound_front : is_sound_table table ≡ false → lent_gave j (new ++ drop table_length table) ≡ lent_step table act p m
+    unsound_front u =
         let g : lent_gave j new ≡ lent_gave (answer_of 1 0 0) first =
-        e ∙ step-acted first first_long act p m ∙ rw (sym (first_sound table fits) ∙ u) in
+        e ∙ step_acted first first_long act p m ∙ rw (sym (first_sound table fits) ∙ u) in
         ap (λ (g : Lent). lent_gave g.answer (g.table ++ drop table_length table)) g
         ∙ lent-gave refl (take-append-drop table_length table) ∙ step_unsound table act p m u refl
 
     module _ (sound : is_sound_table table ≡ true) where
-      is-step : lent_gave j new ≡ outcome_numbers o
-      is-step = e ∙ step-acted first first_long act p m ∙ rw (sym (first_sound table fits) ∙ sound)
+      is_step : lent_gave j new ≡ outcome_numbers o
+      is_step = e ∙ step_acted first first_long act p m ∙ rw (sym (first_sound table fits) ∙ sound)
 
-      pub new-numbers : new ≡ state_numbers o.state
-      new-numbers = ap (λ (g : Lent). g.table) is-step
+      pub new_numbers : new ≡ state_numbers o.state
+      new_numbers = ap (λ (g : Lent). g.table) is_step
 
-      pub answer-front : j ≡ o.answer
-      answer-front = ap (λ (g : Lent). g.answer) is-step
+      pub answer_front : j ≡ o.answer
+      answer_front = ap (λ (g : Lent). g.answer) is_step
 
-      pub table-front : new ++ drop table_length table ≡ over (state_numbers o.state) table
-      table-front = front_over table_length table new-numbers new-long
+      pub table_front : new ++ drop table_length table ≡ over (state_numbers o.state) table
+      table_front = front_over table_length table new_numbers new_long
 
-    pub step-front : lent_gave j (new ++ drop table_length table) ≡ lent_step table act p m
+    pub step_front : lent_gave j (new ++ drop table_length table) ≡ lent_step table act p m
     unfolding lent_step
-    step-front = by_test (is_sound_table table) (λ s. lent-gave (answer-front s) (table-front s) ∙ rw s) unsound-front
+    step_front = by_test (is_sound_table table) (λ s. lent-gave (answer_front s) (table_front s) ∙ rw s) unsound_front

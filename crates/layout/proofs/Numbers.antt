@@ -45,12 +45,12 @@ stage_told (suc (suc (suc (suc (suc (suc (suc (suc k)))))))) t h = absurd (omega
 -- a stage and an arrival that tell an entry are its numbers
 pub record Told (stage since : ℕ) : Type 0 where
   pub stage_is : stage_of (location_at stage since) ≡ stage
-  pub since-is : since_of (location_at stage since) ≡ since
+  pub since_is : since_of (location_at stage since) ≡ since
 
 pub entry_told : (stage since : ℕ) → tells_entry stage since ≡ true → Told stage since
 entry_told stage since e =
     let h = simp tests at e in
-    record { stage_is = stage_told stage since h.0; since-is = h.1 }
+    record { stage_is = stage_told stage since h.0; since_is = h.1 }
 
 -- Entries
 
@@ -71,7 +71,7 @@ entries-told (stage ∷ []) e = absurd (false≢true e)
 entries-told (stage ∷ since ∷ rest) e =
     let h = (and_true_iff (tells_entry stage since) (are_entries rest)).0 e in
     let t = entry_told stage since h.0 in
-    λ i. t.stage_is i ∷ t.since-is i ∷ entries-told rest h.1 i
+    λ i. t.stage_is i ∷ t.since_is i ∷ entries-told rest h.1 i
 
 pub length_processes : (qs : List Process) → length (process_numbers qs) ≡ stride * length qs
 unfolding process_numbers
@@ -102,21 +102,21 @@ told_at (suc i) (x ∷ y ∷ l) d h =
 -- What stands before the entries, in a table and in a deadline table alike
 
 module _ (k : Parameters) (size : length k.a ≡ 96) (clock word : ℕ) where
-  pub header-long : length (header_numbers k clock word) ≡ header_length
-  header-long = omega arith
+  pub header_long : length (header_numbers k clock word) ≡ header_length
+  header_long = omega arith
 
   -- behind it stand the entries
-  pub behind-header : (rest : List ℕ) → drop header_length (header_numbers k clock word ++ rest) ≡ rest
-  behind-header rest = seam-at k.a rest 96 size
+  pub behind_header : (rest : List ℕ) → drop header_length (header_numbers k clock word ++ rest) ≡ rest
+  behind_header rest = seam-at k.a rest 96 size
 
   pub parameters-told : (rest : List ℕ) → table_parameters (header_numbers k clock word ++ rest) ≡ k
   parameters-told rest = ap (parameters_of k.n k.b k.c) (take_at k.a rest 96 size)
 
   -- what is stored behind it is stored among the entries
-  pub stored-behind : (rest : List ℕ) (place i x : ℕ) → place ≡ header_length + i
+  pub stored_behind : (rest : List ℕ) (place i x : ℕ) → place ≡ header_length + i
       → set (header_numbers k clock word ++ rest) place x ≡ header_numbers k clock word ++ set rest i x
-  stored-behind rest place i x e =
-      let at : place ≡ length (header_numbers k clock word) + i = omega (arith, header-long) in
+  stored_behind rest place i x e =
+      let at : place ≡ length (header_numbers k clock word) + i = omega (arith, header_long) in
       ap (λ (j : ℕ). set (header_numbers k clock word ++ rest) j x) at ∙ set_behind (header_numbers k clock word) rest i x
 
 -- a list is its first five numbers and what is left
@@ -151,10 +151,10 @@ length_state s =
 module _ (s : State) (size : length s.parameters.a ≡ 96) where
   behind : drop header_length (state_numbers s) ≡ process_numbers s.processes
   unfolding state_numbers
-  behind = behind-header s.parameters size s.clock s.word (process_numbers s.processes)
+  behind = behind_header s.parameters size s.clock s.word (process_numbers s.processes)
 
-  pub state-has-entries : are_entries (drop header_length (state_numbers s)) ≡ true
-  state-has-entries = rw behind (processes_are_entries s.processes)
+  pub state_has_entries : are_entries (drop header_length (state_numbers s)) ≡ true
+  state_has_entries = rw behind (processes_are_entries s.processes)
 
   pub state-told : state_in (state_numbers s) ≡ s
   unfolding state_in state_numbers

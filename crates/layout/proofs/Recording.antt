@@ -15,27 +15,27 @@ use Rattle.theory.specs.Acceptance.{Allowed}
 use Rattle.theory.specs.Summaries.{HasRoom}
 use Rattle.theory.proofs.Acceptance.{accepted_iff_allowed}
 use Rattle.theory.proofs.StaysSound.{sound_kept}
-use Rattle.theory.proofs.Waits.{unused-fits, length_waited_after}
+use Rattle.theory.proofs.Waits.{unused_fits, length_waited_after}
 use Rattle.theory.proofs.Steps.{unsound_iff_one}
 use Rattle.rules.specs.Judging.{others_from}
 use Rattle.statistics.specs.Countings.{Room}
 use Rattle.statistics.specs.Waitings.{unused_beside}
 use Rattle.statistics.proofs.Waits.{unused-beside}
-use Rattle.statistics.proofs.Counted.{counted-after}
-use Rattle.statistics.proofs.Laws.{fault_of, no-fault-room, counts-room, accepted_named, recorded-fault, gives-accepted, gives-refused}
+use Rattle.statistics.proofs.Counted.{counted_after}
+use Rattle.statistics.proofs.Laws.{fault_of, no_fault_room, counts_room, accepted_named, recorded_fault, gives_accepted, gives_refused}
 use Rattle.layout.specs.Encodings.{table_length, state_numbers, state_in, table_in, is_sound_table, clock_in, counts_length}
 use Rattle.layout.specs.Encodings.{summary_length, statistics_numbers, statistics_in, summary_in}
 use Rattle.layout.specs.Interface.{lent_gave, LentBoth, record_gave, recorded_lent, lent_record, LentEntry, entry_gave, lent_entry}
 use Rattle.layout.proofs.Numbers.{state-told}
 use Rattle.layout.specs.Numbers.{IsWhole}
-use Rattle.layout.proofs.Encodings.{table_comes_back, table_is_whole, step_whole, numbers_come_back, sound-is-table, table-is-sound}
-use Rattle.layout.proofs.Encodings.{summary-length, summary-is-whole, summary_numbers_come_back}
+use Rattle.layout.proofs.Encodings.{table_comes_back, table_is_whole, step_whole, numbers_come_back, sound_is_table, table_is_sound}
+use Rattle.layout.proofs.Encodings.{summary-length, summary_is_whole, summary_numbers_come_back}
 use Rattle.layout.specs.Steps.{acted_in, survey_in}
 use Rattle.layout.specs.Countings.{fault_in, wait_in, accepted_in, refused_in}
 use Rattle.layout.proofs.Surveys.{Found, faulty, whole, survey_found}
 use Rattle.layout.proofs.Lists.{front_over}
-use Rattle.layout.proofs.Lending.{first_sound, new-numbers, answer-front, table-front}
-use Rattle.layout.proofs.Counting.{refused-numbers, refused-length, wait-is, accepted-numbers}
+use Rattle.layout.proofs.Lending.{first_sound, new_numbers, answer_front, table_front}
+use Rattle.layout.proofs.Counting.{refused_numbers, refused_length, wait_is, accepted_numbers}
 
 record-gave : {r s : Answer} {t u x y : List ℕ} → r ≡ s → t ≡ u → x ≡ y → record_gave r t x ≡ record_gave s u y
 record-gave r t x = λ i. record_gave (r i) (t i) (x i)
@@ -49,15 +49,15 @@ module _ (table : List ℕ) (fits : table_length ≤ length table) (p : ℕ) whe
   found : Found first p (survey_in first p)
   found = survey_found first (length-take-le table_length table fits) p
 
-  pub fault-unsound : (survey_in first p).faulty ≢ 0 → is_sound_table table ≡ false
-  fault-unsound n = go found
+  pub fault_unsound : (survey_in first p).faulty ≢ 0 → is_sound_table table ≡ false
+  fault_unsound n = go found
     where
       go : Found first p (survey_in first p) → is_sound_table table ≡ false
       go (faulty e _) = first_sound table fits ∙ e
       go (whole _ w) = absurd (n w.faultless)
 
-  pub no-fault-sound : (survey_in first p).faulty ≡ 0 → is_sound_table table ≡ true
-  no-fault-sound z = go found
+  pub no_fault_sound : (survey_in first p).faulty ≡ 0 → is_sound_table table ≡ true
+  no_fault_sound z = go found
     where
       go : Found first p (survey_in first p) → is_sound_table table ≡ true
       go (faulty _ n) = absurd (n z)
@@ -77,16 +77,16 @@ others_found table fits p sound = go (found table fits p)
 -- The refusals of table and summary
 
 module _ (table summary : List ℕ) (act p m : ℕ) where
-  pub record-unsound : is_sound_table table ≡ false → {r : Answer} → r ≡ answer_of 1 0 0
+  pub record_unsound : is_sound_table table ≡ false → {r : Answer} → r ≡ answer_of 1 0 0
       → record_gave r table summary ≡ lent_record table summary act p m
   unfolding lent_record
-  record-unsound e f = rw (f, e)
+  record_unsound e f = rw (f, e)
 
   module _ (sound : is_sound_table table ≡ true) where
-    pub record-short : length summary < summary_length → {r : Answer} → r ≡ answer_of 2 0 0
+    pub record_short : length summary < summary_length → {r : Answer} → r ≡ answer_of 2 0 0
         → record_gave r table summary ≡ lent_record table summary act p m
     unfolding lent_record
-    record-short h f = rw (f, sound, lt-ltb (length summary) summary_length h)
+    record_short h f = rw (f, sound, lt-ltb (length summary) summary_length h)
 
     module _ (fits : summary_length ≤ length summary) where
       abbrev s : State
@@ -98,8 +98,8 @@ module _ (table summary : List ℕ) (act p m : ℕ) where
       abbrev o : Outcome
       o = step_of s act p m
 
-      abbrev counts-first : List ℕ
-      counts-first = take summary_length summary
+      abbrev counts_first : List ℕ
+      counts_first = take summary_length summary
 
       -- what is given back where the recorded step gives r
       gives : {r : Recorded} {j : Answer} {t u : List ℕ} → r ≡ recorded_of s x act p m → j ≡ r.outcome.answer
@@ -110,37 +110,37 @@ module _ (table summary : List ℕ) (act p m : ℕ) where
           record-gave f g h ∙ ap (λ (r : Recorded). recorded_lent r table summary) e ∙ sym (rw (sound, le-ltb (length summary) summary_length fits))
 
       -- the fault of the first numbers is that of the summary
-      fault-is : fault_in counts-first (clock_in (take table_length table)) ≡ fault_of s.clock x
+      fault_is : fault_in counts_first (clock_in (take table_length table)) ≡ fault_of s.clock x
       unfolding statistics_in state_in
-      fault-is = refl
+      fault_is = refl
 
-      module _ {fault : ℕ} (is : fault ≡ fault_in counts-first (clock_in (take table_length table))) where
-        pub record-refused : fault ≢ 0 → {r : Answer} → r ≡ answer_of fault 0 0
+      module _ {fault : ℕ} (is : fault ≡ fault_in counts_first (clock_in (take table_length table))) where
+        pub record_refused : fault ≢ 0 → {r : Answer} → r ≡ answer_of fault 0 0
             → record_gave r table summary ≡ lent_record table summary act p m
-        record-refused n f =
-            let same : fault ≡ fault_of s.clock x = is ∙ fault-is in
+        record_refused n f =
+            let same : fault ≡ fault_of s.clock x = is ∙ fault_is in
             gives {r = beside x (answers fault 0 0 s)}
-            ((λ i. beside x (answers (same i) 0 0 s)) ∙ sym (recorded-fault s x act p m (λ z. n (same ∙ z)) ∙ rw (table-is-sound table sound)))
-            f (sym (numbers_come_back table (sound-is-table table sound))) (sym (summary_numbers_come_back summary fits))
+            ((λ i. beside x (answers (same i) 0 0 s)) ∙ sym (recorded_fault s x act p m (λ z. n (same ∙ z)) ∙ rw (table_is_sound table sound)))
+            f (sym (numbers_come_back table (sound_is_table table sound))) (sym (summary_numbers_come_back summary fits))
 
         module _ (none : fault ≡ 0) where
           has_room : HasRoom s.clock x
-          has_room = no-fault-room s.clock x (sym fault-is ∙ sym is ∙ none)
+          has_room = no_fault_room s.clock x (sym fault_is ∙ sym is ∙ none)
 
           -- each count of the first numbers has room for one more
-          room : Room (statistics_in counts-first).counts
-          room = counts-room s.clock x has_room
+          room : Room (statistics_in counts_first).counts
+          room = counts_room s.clock x has_room
 
           -- the step in place gave j and the numbers `new`
           module _ (long : table_length ≤ length table) {j : Answer} {new : List ℕ}
               (e : lent_gave j new ≡ acted_in (take table_length table) (survey_in (take table_length table) p) act p m) where
-            answer-is : j ≡ o.answer
-            answer-is = answer-front table long act p m e sound
+            answer_is : j ≡ o.answer
+            answer_is = answer_front table long act p m e sound
 
             code_is : j.code ≡ o.answer.code
-            code_is = ap (λ (r : Answer). r.code) answer-is
+            code_is = ap (λ (r : Answer). r.code) answer_is
 
-            first_long : length counts-first ≡ summary_length
+            first_long : length counts_first ≡ summary_length
             first_long = length-take-le summary_length summary fits
 
             -- An accepted act: u has the counts and waits so far, with the unused time d by what was found of the table
@@ -150,10 +150,10 @@ module _ (table summary : List ℕ) (act p m : ℕ) where
               accepted = sym code_is ∙ z
 
               allowed : Allowed s act p m
-              allowed = (accepted_iff_allowed s (table-is-sound table sound) act p m).0 accepted
+              allowed = (accepted_iff_allowed s (table_is_sound table sound) act p m).0 accepted
 
               before : IsWhole s
-              before = table_is_whole table (sound-is-table table sound)
+              before = table_is_whole table (sound_is_table table sound)
 
               size : length s.processes ≡ 96
               size = before.entries
@@ -162,14 +162,14 @@ module _ (table summary : List ℕ) (act p m : ℕ) where
               after = step_whole s act p m accepted before
 
               state-after : state_in new ≡ o.state
-              state-after = ap state_in (new-numbers table long act p m e sound) ∙ state-told o.state after.limits
+              state-after = ap state_in (new_numbers table long act p m e sound) ∙ state-told o.state after.limits
 
-              pub sound-after : is_sound_table new ≡ true
+              pub sound_after : is_sound_table new ≡ true
               unfolding is_sound_table
-              sound-after =
+              sound_after =
                   let back = table_comes_back o.state after [] in
-                  let numbers = new-numbers table long act p m e sound ∙ sym (append-nil (state_numbers o.state)) in
-                  rw (numbers, back.0, back.1) (sound_kept s size act p m (table-is-sound table sound) accepted)
+                  let numbers = new_numbers table long act p m e sound ∙ sym (append-nil (state_numbers o.state)) in
+                  rw (numbers, back.0, back.1) (sound_kept s size act p m (table_is_sound table sound) accepted)
 
               module _ {d : ℕ} (d-is : d ≡ unused_beside (survey_in (take table_length table) p).critical act (clock_in (take table_length table)) m) where
                 unused : d ≡ unused_time s m
@@ -177,67 +177,67 @@ module _ (table summary : List ℕ) (act p m : ℕ) where
                 unused =
                     d-is ∙ ap (λ (others : ℕ). unused_beside others act s.clock m) (others_found table long p sound) ∙ unused-beside s allowed
 
-                pub waits-fit : (i : ℕ) → get_or (drop counts_length counts-first) i 0 + d < 2 ^ 64
+                pub waits_fit : (i : ℕ) → get_or (drop counts_length counts_first) i 0 + d < 2 ^ 64
                 unfolding statistics_in
-                waits-fit i =
-                    omega (arith, unused, has_room.sound.waited i, unused-fits s m allowed.forward, allowed.within)
+                waits_fit i =
+                    omega (arith, unused, has_room.sound.waited i, unused_fits s m allowed.forward, allowed.within)
 
-                own-fits : waited_by x p + d < 2 ^ 64
+                own_fits : waited_by x p + d < 2 ^ 64
                 unfolding statistics_in
-                own-fits = waits-fit (p - 1)
+                own_fits = waits_fit (p - 1)
 
                 counted_is : statistics_of (counts_after x.counts act (waited_by x p + d)) (cleared_by act p (waited_on d (state_in new).processes x.waited))
                     ≡ accepted_counted s x act p m
                 counted_is =
-                    counted-after s size x has_room act p m accepted unused (ap (λ (t : State). waited_on d t.processes x.waited) state-after)
+                    counted_after s size x has_room act p m accepted unused (ap (λ (t : State). waited_on d t.processes x.waited) state-after)
 
-                counted-long : length (statistics_numbers (accepted_counted s x act p m)) ≡ summary_length
+                counted_long : length (statistics_numbers (accepted_counted s x act p m)) ≡ summary_length
                 unfolding accepted_counted
-                counted-long = summary-length (accepted_counted s x act p m) (length_waited_after s x.waited act p m ∙ summary-is-whole summary fits)
+                counted_long = summary-length (accepted_counted s x act p m) (length_waited_after s x.waited act p m ∙ summary_is_whole summary fits)
 
-                pub wait-told : {wait : ℕ} → wait ≡ wait_in counts-first p d → wait ≡ wait_of s x p m
-                wait-told f =
-                    f ∙ wait-is counts-first first_long act p d (accepted_named s act p m accepted) own-fits ∙ ap (λ (k : ℕ). waited_by x p + k) unused
+                pub wait_told : {wait : ℕ} → wait ≡ wait_in counts_first p d → wait ≡ wait_of s x p m
+                wait_told f =
+                    f ∙ wait_is counts_first first_long act p d (accepted_named s act p m accepted) own_fits ∙ ap (λ (k : ℕ). waited_by x p + k) unused
 
-                pub record-accepted : {u : List ℕ} → u ≡ accepted_in counts-first (state_in new).processes act p d
+                pub record_accepted : {u : List ℕ} → u ≡ accepted_in counts_first (state_in new).processes act p d
                     → record_gave j (new ++ drop table_length table) (u ++ drop summary_length summary) ≡ lent_record table summary act p m
-                record-accepted f =
+                record_accepted f =
                     let y = accepted_counted s x act p m in
-                    let numbers = accepted-numbers counts-first first_long act p d (accepted_named s act p m accepted) own-fits room (state_in new).processes
+                    let numbers = accepted_numbers counts_first first_long act p d (accepted_named s act p m accepted) own_fits room (state_in new).processes
                     ∙ ap statistics_numbers counted_is in
-                    gives {r = beside y o} (gives-accepted s x act p m has_room refl accepted refl) answer-is (table-front table long act p m e sound)
-                    (front_over summary_length summary (f ∙ numbers) (ap length (f ∙ numbers) ∙ counted-long))
+                    gives {r = beside y o} (gives_accepted s x act p m has_room refl accepted refl) answer_is (table_front table long act p m e sound)
+                    (front_over summary_length summary (f ∙ numbers) (ap length (f ∙ numbers) ∙ counted_long))
 
-            pub record-counted : j.code ≢ 0 → {u : List ℕ} → u ≡ refused_in counts-first
+            pub record_counted : j.code ≢ 0 → {u : List ℕ} → u ≡ refused_in counts_first
                 → record_gave j (new ++ drop table_length table) (u ++ drop summary_length summary) ≡ lent_record table summary act p m
-            record-counted n f =
+            record_counted n f =
                 let y = refused_counted x in
                 gives {r = beside y o}
-                (gives-refused s x act p m has_room refl (λ z. n (code_is ∙ z)) not-one refl) answer-is (table-front table long act p m e sound)
-                (front_over summary_length summary (f ∙ refused-numbers counts-first first_long room) (ap length f ∙ refused-length counts-first first_long))
+                (gives_refused s x act p m has_room refl (λ z. n (code_is ∙ z)) not_one refl) answer_is (table_front table long act p m e sound)
+                (front_over summary_length summary (f ∙ refused_numbers counts_first first_long room) (ap length f ∙ refused_length counts_first first_long))
               where
-                not-one : o.answer.code ≢ 1
-                not-one z = clash (table-is-sound table sound) ((unsound_iff_one s act p m).0 z)
+                not_one : o.answer.code ≢ 1
+                not_one z = clash (table_is_sound table sound) ((unsound_iff_one s act p m).0 z)
 
 -- With the wait
 
 module _ (table summary : List ℕ) (act p m : ℕ) {g : LentBoth} (e : g ≡ lent_record table summary act p m) where
-  pub entry-refused : g.answer.code ≢ 0 → {wait : ℕ} → wait ≡ 0 → entry_gave g wait ≡ lent_entry table summary act p m
+  pub entry_refused : g.answer.code ≢ 0 → {wait : ℕ} → wait ≡ 0 → entry_gave g wait ≡ lent_entry table summary act p m
   unfolding lent_entry
-  entry-refused n w = rw (← e, ne_eqb _ _ n, w)
+  entry_refused n w = rw (← e, ne_eqb _ _ n, w)
 
-  pub entry-accepted : g.answer.code ≡ 0 → {wait : ℕ} → wait ≡ wait_of (table_in table) (summary_in summary) p m
+  pub entry_accepted : g.answer.code ≡ 0 → {wait : ℕ} → wait ≡ wait_of (table_in table) (summary_in summary) p m
       → entry_gave g wait ≡ lent_entry table summary act p m
   unfolding lent_entry
-  entry-accepted z w = rw (← e, eq-eqb _ _ z, w)
+  entry_accepted z w = rw (← e, eq-eqb _ _ z, w)
 
 -- What such a call gave: the recorded step, and with an accepted act the wait
 
 module _ (table summary : List ℕ) (act p m : ℕ) {g : LentBoth} {wait : ℕ} (e : entry_gave g wait ≡ lent_entry table summary act p m) where
-  pub entry-record : g ≡ lent_record table summary act p m
+  pub entry_record : g ≡ lent_record table summary act p m
   unfolding lent_entry
-  entry-record = ap (λ (k : LentEntry). k.recorded) e
+  entry_record = ap (λ (k : LentEntry). k.recorded) e
 
-  pub entry-wait : g.answer.code ≡ 0 → wait ≡ wait_of (table_in table) (summary_in summary) p m
+  pub entry_wait : g.answer.code ≡ 0 → wait ≡ wait_of (table_in table) (summary_in summary) p m
   unfolding lent_entry
-  entry-wait z = ap (λ (k : LentEntry). k.wait) e ∙ rw (← entry-record, eq-eqb _ _ z)
+  entry_wait z = ap (λ (k : LentEntry). k.wait) e ∙ rw (← entry_record, eq-eqb _ _ z)

@@ -12,7 +12,7 @@ use Rattle.layout.specs.Encodings.{process_numbers, header_numbers, state_number
 use Rattle.model.proofs.Lists.{drop_at, drop_end, copied_whole}
 use Rattle.layout.specs.Places.{placed_at}
 use Rattle.layout.proofs.Lists.{fill_pair}
-use Rattle.layout.proofs.Numbers.{header-long}
+use Rattle.layout.proofs.Numbers.{header_long}
 
 -- the numbers before the entries are written, and i entries: the numbers of those that are left complete them
 pub record EntriesWritten (s : State) (l : List ℕ) (i : ℕ) : Type 0 where
@@ -33,39 +33,39 @@ module _ (l : List ℕ) (k : Parameters) (clock word : ℕ) where
   part = take 96 (drop limits_place five)
 
   module _ (size : length k.a ≡ 96) (fits : header_length ≤ length l) where
-    five-is : five ≡ k.n ∷ k.b ∷ k.c ∷ clock ∷ word ∷ drop limits_place l
-    five-is = sets-eq (k.n ∷ k.b ∷ k.c ∷ clock ∷ word ∷ []) l 0 (omega arith)
+    five_is : five ≡ k.n ∷ k.b ∷ k.c ∷ clock ∷ word ∷ drop limits_place l
+    five_is = sets-eq (k.n ∷ k.b ∷ k.c ∷ clock ∷ word ∷ []) l 0 (omega arith)
 
-    part-long : length part ≡ length k.a
-    part-long =
-        ap (λ (r : List ℕ). length (take 96 (drop limits_place r))) five-is
+    part_long : length part ≡ length k.a
+    part_long =
+        ap (λ (r : List ℕ). length (take 96 (drop limits_place r))) five_is
         ∙ length-take-le 96 (drop limits_place l) (omega (arith, length-drop limits_place l)) ∙ sym size
 
-    pub header-stored : {new : List ℕ} → new ≡ over (take (length part) k.a) part
+    pub header_stored : {new : List ℕ} → new ≡ over (take (length part) k.a) part
         → take limits_place five ++ (new ++ drop 96 (drop limits_place five)) ≡ header_put l k clock word
-    header-stored {new} e =
-        let own : new ≡ k.a = e ∙ copied_whole k.a part part-long in
+    header_stored {new} e =
+        let own : new ≡ k.a = e ∙ copied_whole k.a part part_long in
         let behind : drop 96 (drop limits_place l) ≡ drop (length (header_numbers k clock word)) l =
-        drop-drop 96 limits_place l ∙ ap (λ (j : ℕ). drop j l) (sym (header-long k size clock word)) in
-        (λ i. take limits_place (five-is i) ++ (own i ++ drop 96 (drop limits_place (five-is i))))
+        drop-drop 96 limits_place l ∙ ap (λ (j : ℕ). drop j l) (sym (header_long k size clock word)) in
+        (λ i. take limits_place (five_is i) ++ (own i ++ drop 96 (drop limits_place (five_is i))))
         ∙ ap (λ (r : List ℕ). header_numbers k clock word ++ r) behind
         ∙ sym (rw (le-ltb (length l) header_length fits))
 
-  pub header-left : length l < header_length → l ≡ header_put l k clock word
-  header-left short = sym (rw (lt-ltb (length l) header_length short))
+  pub header_left : length l < header_length → l ≡ header_put l k clock word
+  header_left short = sym (rw (lt-ltb (length l) header_length short))
 
 -- what stands before the entries is put, in a table and in a deadline table alike
 module _ (l : List ℕ) (k : Parameters) (size : length k.a ≡ 96) (clock word : ℕ) (fits : header_length ≤ length l) where
   put_is : header_put l k clock word ≡ header_numbers k clock word ++ drop header_length l
-  put_is = rw (le-ltb (length l) header_length fits) (ap (λ (j : ℕ). header_numbers k clock word ++ drop j l) (header-long k size clock word))
+  put_is = rw (le-ltb (length l) header_length fits) (ap (λ (j : ℕ). header_numbers k clock word ++ drop j l) (header_long k size clock word))
 
   pub header-put : take header_length (header_put l k clock word) ≡ header_numbers k clock word
-  header-put = ap (take header_length) put_is ∙ take_at (header_numbers k clock word) (drop header_length l) header_length (header-long k size clock word)
+  header-put = ap (take header_length) put_is ∙ take_at (header_numbers k clock word) (drop header_length l) header_length (header_long k size clock word)
 
   pub put_long : length (header_put l k clock word) ≡ length l
   put_long =
       ap length put_is ∙ length-append (header_numbers k clock word) (drop header_length l)
-      ∙ omega (arith, header-long k size clock word, length-drop header_length l)
+      ∙ omega (arith, header_long k size clock word, length-drop header_length l)
 
 pub header_written : (s : State) (l : List ℕ) → length s.processes ≡ 96 → length l ≡ table_length
     → take header_length l ≡ header_numbers s.parameters s.clock s.word → EntriesWritten s l 0
@@ -83,14 +83,14 @@ module _ (s : State) (l : List ℕ) (i : ℕ) (done : EntriesWritten s l i) wher
     q = get_or s.processes i d
 
     -- entry i is the next one of what is left
-    next-numbers : process_numbers (drop i s.processes)
+    next_numbers : process_numbers (drop i s.processes)
         ≡ stage_of q.location ∷ since_of q.location ∷ process_numbers (drop (i + 1) s.processes)
     unfolding process_numbers
-    next-numbers = rw (drop_at s.processes i d (omega (arith, done.size)))
+    next_numbers = rw (drop_at s.processes i d (omega (arith, done.size)))
 
     -- its numbers are stored
-    pub entry-written : EntriesWritten s (placed_at l i q.location) (i + 1)
-    entry-written =
+    pub entry_written : EntriesWritten s (placed_at l i q.location) (i + 1)
+    entry_written =
         let e : header_length + stride * (i + 1) ≡ header_length + stride * i + 1 + 1 = omega arith in
         record {
           most = omega arith;
@@ -99,12 +99,12 @@ module _ (s : State) (l : List ℕ) (i : ℕ) (done : EntriesWritten s l i) wher
           written =
               rw e (fill_pair l (header_length + stride * i) (stage_of q.location) (since_of q.location)
               (process_numbers (drop (i + 1) s.processes)) (omega (arith, done.long)))
-              ∙ rw next-numbers at done.written;
+              ∙ rw next_numbers at done.written;
         }
 
   -- nothing is left after 96 entries
-  pub all-written : 96 ≤ i → l ≡ state_numbers s
+  pub all_written : 96 ≤ i → l ≡ state_numbers s
   unfolding process_numbers
-  all-written all =
+  all_written all =
       sym (take_all (header_length + stride * i) l (omega (arith, done.long))) ∙ sym (append-nil (take (header_length + stride * i) l))
       ∙ rw (drop_end s.processes i (omega (arith, done.size)) (omega (arith, done.size, done.most))) at done.written

@@ -9,7 +9,7 @@ use Rattle.rules.specs.Search.{TellsFirst}
 use Rattle.rules.proofs.Search.{whole_tells}
 use Rattle.layout.specs.Encodings.{table_length, state_in}
 use Rattle.layout.specs.Search.{TableSearchTellsFirst, TableSearchFindsFault}
-use Rattle.layout.proofs.Encodings.{table_fits, sound-is-table}
+use Rattle.layout.proofs.Encodings.{table_fits, sound_is_table}
 use Rattle.layout.proofs.Surveys.{tell_sound, Found, faulty, whole, survey_found}
 use Rattle.layout.proofs.Lending.{first_sound, found_sound}
 
@@ -20,7 +20,7 @@ found_tells l acting {f} (whole u w) e = whole_tells (state_in l) acting f w
 
 pub table_search_tells_first : TableSearchTellsFirst
 table_search_tells_first l acting e =
-    let fits = table_fits l (sound-is-table l e) in
+    let fits = table_fits l (sound_is_table l e) in
     found_tells (take table_length l) acting (survey_found (take table_length l) (length-take-le table_length l fits) acting) (sym (first_sound l fits) ∙ e)
 
 pub table_search_finds_fault : TableSearchFindsFault

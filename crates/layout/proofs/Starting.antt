@@ -26,25 +26,25 @@ pub fresh_whole : (k : Parameters) → Accepted (fresh_of k) → IsWhole (fresh_
 fresh_whole k h =
     let plain = fresh_is_plain k in
     record {
-      limits = ap (λ (q : Parameters). length q.a) (plain.fresh h).parameters-are ∙ (plain.accepted.0 h).limits.size;
+      limits = ap (λ (q : Parameters). length q.a) (plain.fresh h).parameters_are ∙ (plain.accepted.0 h).limits.size;
       entries = (plain.fresh h).size;
     }
 
 module _ (k : Parameters) (table : List ℕ) {o : Outcome} (e : o ≡ fresh_of k) where
-  pub fresh-refused : o.answer.code ≢ 0 → lent_gave o.answer table ≡ lent_fresh k table
+  pub fresh_refused : o.answer.code ≢ 0 → lent_gave o.answer table ≡ lent_fresh k table
   unfolding lent_fresh
-  fresh-refused h = rw e (simp (ne_eqb (fresh_of k).answer.code 0 (rw e at h)))
+  fresh_refused h = rw e (simp (ne_eqb (fresh_of k).answer.code 0 (rw e at h)))
 
   module _ (h : Accepted o) where
-    pub fresh-short : length table < table_length → {r : Answer} → r ≡ answer_of 16 0 0
+    pub fresh_short : length table < table_length → {r : Answer} → r ≡ answer_of 16 0 0
         → lent_gave r table ≡ lent_fresh k table
     unfolding lent_fresh
-    fresh-short short f = rw f (simp (eq-eqb (fresh_of k).answer.code 0 (rw e at h), lt-ltb _ _ short))
+    fresh_short short f = rw f (simp (eq-eqb (fresh_of k).answer.code 0 (rw e at h), lt-ltb _ _ short))
 
-    pub fresh-saved : table_length ≤ length table → {new : List ℕ} → new ≡ state_numbers o.state
+    pub fresh_saved : table_length ≤ length table → {new : List ℕ} → new ≡ state_numbers o.state
         → lent_gave o.answer (new ++ drop table_length table) ≡ lent_fresh k table
     unfolding lent_fresh
-    fresh-saved fits f =
+    fresh_saved fits f =
         let whole = table-length o.state (rw e (fresh_whole k (rw e at h))) in
         lent-gave refl (front_over table_length table f (ap length f ∙ whole))
         ∙ rw e (simp (eq-eqb (fresh_of k).answer.code 0 (rw e at h), le-ltb _ _ fits))

@@ -16,7 +16,7 @@ use Rattle.layout.specs.Encodings.{refused_place, waited_place, statistics_numbe
 use Rattle.layout.specs.Places.{clocked, placed_at, counts_put}
 use Rattle.layout.specs.Countings.{waited_put}
 use Rattle.layout.proofs.Lists.{set_behind}
-use Rattle.layout.proofs.Numbers.{stored-behind}
+use Rattle.layout.proofs.Numbers.{stored_behind}
 
 -- A table
 
@@ -37,19 +37,19 @@ module _ (k : Parameters) (size : length k.a ≡ 96) (clock word : ℕ) where
   header = header_numbers k clock word
 
   -- an entry stored behind what stands before the entries is stored among them
-  placed-behind : (qs : List Process) (i : ℕ) (to : Location)
+  placed_behind : (qs : List Process) (i : ℕ) (to : Location)
       → placed_at (header ++ process_numbers qs) i to ≡ header ++ process_numbers (set qs i (entry to))
-  placed-behind qs i to =
+  placed_behind qs i to =
       let ns = process_numbers qs in
-      ap (λ (l : List ℕ). set l (since_place i) (since_of to)) (stored-behind k size clock word ns (stage_place i) (stride * i) (stage_of to) refl)
-      ∙ stored-behind k size clock word (set ns (stride * i) (stage_of to)) (since_place i) (stride * i + 1) (since_of to) (omega arith)
+      ap (λ (l : List ℕ). set l (since_place i) (since_of to)) (stored_behind k size clock word ns (stage_place i) (stride * i) (stage_of to) refl)
+      ∙ stored_behind k size clock word (set ns (stride * i) (stage_of to)) (since_place i) (stride * i + 1) (since_of to) (omega arith)
       ∙ ap (λ (l : List ℕ). header ++ l) (sym (entries_set qs i (entry to)))
 
 -- with process p in another location, which stands in the row t
 pub moved_stored : (s : State) → length s.parameters.a ≡ 96 → (p m : ℕ) (t : Transition)
     → state_numbers (moved s p m t) ≡ placed_at (clocked (state_numbers s) m t.word) (p - 1) t.to
 unfolding state_numbers
-moved_stored s size p m t = sym (placed-behind s.parameters size m t.word s.processes (p - 1) t.to)
+moved_stored s size p m t = sym (placed_behind s.parameters size m t.word s.processes (p - 1) t.to)
 
 -- after a wait
 pub waited_stored : (s : State) (m : ℕ) → state_numbers (waited s m) ≡ clocked (state_numbers s) m s.word

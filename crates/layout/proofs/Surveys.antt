@@ -13,7 +13,7 @@ use Rattle.layout.specs.Encodings.{header_length, stride, table_length, stage_pl
 use Rattle.layout.specs.Encodings.{processes_in, state_in, are_entries}
 use Rattle.layout.specs.Places.{numbers_at, entries_in, tells_location, entry_in, location_in, entries_from, first_entries}
 use Rattle.values.specs.Bits.{are_zero}
-use Rattle.layout.proofs.Entries.{left_sound, entry_in, entries_size, next-told, left-sound, above-are-zero, entries_next, entries_end, first_next}
+use Rattle.layout.proofs.Entries.{left_sound, entry_in, entries_size, next_told, left-sound, above_are_zero, entries_next, entries_end, first_next}
 use Rattle.layout.proofs.Entries.{zero_at, zeros_tell}
 use Rattle.layout.proofs.Numbers.{limits_size}
 use Rattle.model.proofs.Lists.{part_is}
@@ -22,7 +22,7 @@ use Rattle.rules.specs.declared.survey.Scene.{Scene}
 use Rattle.rules.specs.declared.survey.Survey.{Survey}
 use Rattle.rules.specs.Survey.{numbers_stand, nothing, unsound, noted, numbers_noted}
 use Rattle.layout.proofs.Looks.{numbers-noted, numbers_faulty}
-use Rattle.rules.proofs.Pass.{standing, sound_parts, Passed, nothing_passed, turn-fault, turn-passed, passed_whole, Whole}
+use Rattle.rules.proofs.Pass.{standing, sound_parts, Passed, nothing_passed, turn_fault, turn_passed, passed_whole, Whole}
 use Rattle.layout.specs.Steps.{entries_noted, scene_in, pass_in, survey_in}
 
 -- Whether the numbers of a table tell a sound one
@@ -49,7 +49,7 @@ pub above_fault : (l : List ℕ) → length l ≡ table_length → (n : ℕ) →
     → are_zero (entries_from l n) ≡ false → tell_sound l ≡ false
 above_fault l long n is few e =
     by_test (tell_sound l)
-    (λ t. clash (left-sound l long n few (all_left l t)) (above-are-zero (state_in l) (96 - n) (n + 1) (entries_from l n) left_long (omega arith) ∙ e))
+    (λ t. clash (left-sound l long n few (all_left l t)) (above_are_zero (state_in l) (96 - n) (n + 1) (entries_from l n) left_long (omega arith) ∙ e))
     (λ t. t)
   where
     left_long : length (entries_from l n) ≡ stride * (96 - n)
@@ -67,8 +67,8 @@ module _ (l : List ℕ) (long : length l ≡ table_length) (acting : ℕ) where
   abbrev n : ℕ
   n = count_in l
 
-  unsound-found : tell_sound l ≡ false → Found l acting unsound
-  unsound-found e = faulty e (λ z. omega arith)
+  unsound_found : tell_sound l ≡ false → Found l acting unsound
+  unsound_found e = faulty e (λ z. omega arith)
 
   -- i entries are passed, and each of them was told
   record Along (i : ℕ) (f : Survey) : Type 0 where
@@ -81,9 +81,9 @@ module _ (l : List ℕ) (long : length l ≡ table_length) (acting : ℕ) where
     abbrev tell : Bool
     tell = tells_location (entry_in l i)
 
-    not-told : tell ≡ false → tell_sound l ≡ false
-    not-told e =
-        let none : are_entries (entries_from l i) ≡ false = next-told l long i more ∙ ap (λ (u : Bool). u && are_entries (entries_from l (i + 1))) e in
+    not_told : tell ≡ false → tell_sound l ≡ false
+    not_told e =
+        let none : are_entries (entries_from l i) ≡ false = next_told l long i more ∙ ap (λ (u : Bool). u && are_entries (entries_from l (i + 1))) e in
         ap (λ (u : Bool). u && sound_of s) (sym along.told ∙ none)
 
     -- it is what the state has there
@@ -91,21 +91,21 @@ module _ (l : List ℕ) (long : length l ≡ table_length) (acting : ℕ) where
       abbrev next : Survey
       next = numbers_noted (scene_in l acting) (i + 1) (entry_in l i).stage (entry_in l i).since (limit_at (limits_told l) (i + 1)) f
 
-      is-noted : next ≡ noted (scene_in l acting) (i + 1) (get_or s.processes i idle).location (limit_at (limits_told l) (i + 1)) f
-      is-noted =
+      is_noted : next ≡ noted (scene_in l acting) (i + 1) (get_or s.processes i idle).location (limit_at (limits_told l) (i + 1)) f
+      is_noted =
           numbers-noted (scene_in l acting) (i + 1) (entry_in l i).stage (entry_in l i).since (limit_at (limits_told l) (i + 1)) f (omega arith) e
           ∙ ap (λ (q : Process). noted (scene_in l acting) (i + 1) q.location (limit_at (limits_told l) (i + 1)) f) (sym (entry_in l long i more idle))
 
-      next-along : next.faulty ≡ 0 → Along (i + 1) next
+      next_along : next.faulty ≡ 0 → Along (i + 1) next
       unfolding state_in
-      next-along z = record {
-        passed = turn-passed s acting i (i + 1) f along.passed more refl idle next is-noted z;
-        told = sym (next-told l long i more ∙ rw e) ∙ along.told;
+      next_along z = record {
+        passed = turn_passed s acting i (i + 1) f along.passed more refl idle next is_noted z;
+        told = sym (next_told l long i more ∙ rw e) ∙ along.told;
       }
 
-      next-fault : next.faulty ≢ 0 → tell_sound l ≡ false
+      next_fault : next.faulty ≢ 0 → tell_sound l ≡ false
       unfolding state_in
-      next-fault z = rw (turn-fault s acting i (i + 1) f along.passed more refl idle next is-noted z) (and-false (are_entries (entries_from l 0)))
+      next_fault z = rw (turn_fault s acting i (i + 1) f along.passed more refl idle next is_noted z) (and-false (are_entries (entries_from l 0)))
 
   -- The entries up to n
 
@@ -114,50 +114,50 @@ module _ (l : List ℕ) (long : length l ≡ table_length) (acting : ℕ) where
     fault : tell_sound l ≡ false → Ends unsound
     along : {f : Survey} → Along n f → Ends f
 
-  pass-ends : (j i : ℕ) (f : Survey) → i + j ≡ n → n ≤ 96 → Along i f
+  pass_ends : (j i : ℕ) (f : Survey) → i + j ≡ n → n ≤ 96 → Along i f
       → Ends (entries_noted (limits_told l) (scene_in l acting) (i + 1) (entries_in (first_entries j (entries_from l i))) f)
   unfolding entries_noted entries_in
-  pass-ends zero i f e few a = along (subst (λ (k : ℕ). Along k f) (omega arith) a)
-  pass-ends (suc j) i f e few a =
+  pass_ends zero i f e few a = along (subst (λ (k : ℕ). Along k f) (omega arith) a)
+  pass_ends (suc j) i f e few a =
       let more : i < 96 = omega arith in
       rw (first_next l long j i more)
       (by_test {A = Ends _} (tells_location (entry_in l i))
       (λ t. by_cond Ends (eqb (next i f a more (omega arith) t).faulty 0)
-      (λ z. pass-ends j (i + 1) (next i f a more (omega arith) t) (omega arith) few (next-along i f a more (omega arith) t (eqb-true _ _ z)))
-      (λ z. fault (next-fault i f a more (omega arith) t (eqb-false _ _ z))))
+      (λ z. pass_ends j (i + 1) (next i f a more (omega arith) t) (omega arith) few (next_along i f a more (omega arith) t (eqb-true _ _ z)))
+      (λ z. fault (next_fault i f a more (omega arith) t (eqb-false _ _ z))))
       (λ t. rw (numbers_faulty (scene_in l acting) (i + 1) (entry_in l i).stage (entry_in l i).since (limit_at (limits_told l) (i + 1)) f t)
-      (fault (not-told i f a more t))))
+      (fault (not_told i f a more t))))
 
   -- The entries above n
 
   module _ (zeros : are_zero (entries_from l n) ≡ true) where
     -- behind those up to n each number is 0
-    number-zero : (k : ℕ) → stage_place n ≤ k → get_or l k 0 ≡ 0
-    number-zero k h =
+    number_zero : (k : ℕ) → stage_place n ≤ k → get_or l k 0 ≡ 0
+    number_zero k h =
         let e : stage_place n + (k - stage_place n) ≡ k = omega arith in
         sym (ap (λ (j : ℕ). get_or l j 0) e) ∙ sym (get_or-drop (stage_place n) l (k - stage_place n) 0) ∙ zero_at (entries_from l n) (k - stage_place n) zeros
 
-    idle-above : (i : ℕ) → n ≤ i → location_in l i ≡ Remainder
-    idle-above i h = ap (λ (k : ℕ). location_at k (entry_in l i).since) (number-zero (stage_place i) (omega arith))
+    idle_above : (i : ℕ) → n ≤ i → location_in l i ≡ Remainder
+    idle_above i h = ap (λ (k : ℕ). location_at k (entry_in l i).since) (number_zero (stage_place i) (omega arith))
 
-    idle-noted : (i : ℕ) → n ≤ i → i < 96 → (f : Survey)
+    idle_noted : (i : ℕ) → n ≤ i → i < 96 → (f : Survey)
         → f ≡ noted (scene_in l acting) (i + 1) (get_or s.processes i idle).location (limit_at (limits_told l) (i + 1)) f
     unfolding noted
-    idle-noted i h more f =
+    idle_noted i h more f =
         ap (λ (to : Location). noted (scene_in l acting) (i + 1) to (limit_at (limits_told l) (i + 1)) f)
-        (sym (ap (λ (q : Process). q.location) (entry_in l long i more idle) ∙ idle-above i h))
+        (sym (ap (λ (q : Process). q.location) (entry_in l long i more idle) ∙ idle_above i h))
 
-    above-passed : (j i : ℕ) (f : Survey) → i + j ≡ 96 → n ≤ i → Passed s acting i f → Passed s acting 96 f
+    above_passed : (j i : ℕ) (f : Survey) → i + j ≡ 96 → n ≤ i → Passed s acting i f → Passed s acting 96 f
     unfolding state_in
-    above-passed zero i f e h p = subst (λ (k : ℕ). Passed s acting k f) (omega arith) p
-    above-passed (suc j) i f e h p =
+    above_passed zero i f e h p = subst (λ (k : ℕ). Passed s acting k f) (omega arith) p
+    above_passed (suc j) i f e h p =
         let more : i < 96 = omega arith in
-        above-passed j (i + 1) f (omega arith) (omega arith)
-        (turn-passed s acting i (i + 1) f p more refl idle f (idle-noted i h more f) p.faultless)
+        above_passed j (i + 1) f (omega arith) (omega arith)
+        (turn_passed s acting i (i + 1) f p more refl idle f (idle_noted i h more f) p.faultless)
 
     all_found : n ≤ 96 → {f : Survey} → Along n f → Found l acting f
     all_found few {f} a =
-        let w = passed_whole s acting 96 f (above-passed (96 - n) n f (omega arith) (omega arith) a.passed) (omega arith) in
+        let w = passed_whole s acting 96 f (above_passed (96 - n) n f (omega arith) (omega arith) a.passed) (omega arith) in
         let told : are_entries (entries_from l 0) ≡ true =
         sym a.told ∙ zeros_tell (96 - n) (entries_from l n) (length-drop (stage_place n) l ∙ omega arith) zeros in
         whole ((and_true_iff (are_entries (entries_from l 0)) (sound_of s)).1 (told, w.sound)) w
@@ -166,28 +166,28 @@ module _ (l : List ℕ) (long : length l ≡ table_length) (acting : ℕ) where
   ends_found : n ≤ 96 → {f : Survey} → Ends f
       → Found l acting (cond (not (eqb f.faulty 0)) unsound (cond (not (are_zero (entries_from l n))) unsound f))
   unfolding state_in
-  ends_found few (fault e) = unsound-found e
+  ends_found few (fault e) = unsound_found e
   ends_found few (along {f} a) =
       rw (eq-eqb f.faulty 0 a.passed.faultless)
-      (by_cond (Found l acting) (not (are_zero (entries_from l n))) (λ z. unsound-found (above_fault l long n refl few (not-true _ z)))
+      (by_cond (Found l acting) (not (are_zero (entries_from l n))) (λ z. unsound_found (above_fault l long n refl few (not-true _ z)))
       (λ z. all_found (not-false _ z) few a))
 
 -- Of the loop: the next entry of a list, and its end
 
 module _ (a : List ℕ) (x : Scene) where
   -- it is that of process k, whose a has the place j
-  pub noted-next : (k j : ℕ) → k ≡ j + 1 → (ns : List ℕ) (i : ℕ) (f g : Survey) → i + 1 < length ns
+  pub noted_next : (k j : ℕ) → k ≡ j + 1 → (ns : List ℕ) (i : ℕ) (f g : Survey) → i + 1 < length ns
       → g ≡ numbers_noted x k (numbers_at ns i).stage (numbers_at ns i).since (get_or a j 0) f
       → entries_noted a x k (entries_in (drop i ns)) f
       ≡ cond (eqb g.faulty 0) (entries_noted a x (k + 1) (entries_in (drop (i + stride) ns)) g) unsound
   unfolding entries_noted limit_at
-  noted-next k j own ns i f g h e =
+  noted_next k j own ns i f g h e =
       let at : k - 1 ≡ j = omega arith in
       rw (e, entries_next ns i h, at)
 
-  pub noted-end : (k : ℕ) (ns : List ℕ) (i : ℕ) (f : Survey) → length ns ≡ i → entries_noted a x k (entries_in (drop i ns)) f ≡ f
+  pub noted_end : (k : ℕ) (ns : List ℕ) (i : ℕ) (f : Survey) → length ns ≡ i → entries_noted a x k (entries_in (drop i ns)) f ≡ f
   unfolding entries_noted
-  noted-end k ns i f e = rw (entries_end ns i e)
+  noted_end k ns i f e = rw (entries_end ns i e)
 
 -- All of it
 
@@ -198,11 +198,11 @@ stand_few k clock word e = omega (arith, simp tests at e)
 pub survey_found : (l : List ℕ) → length l ≡ table_length → (acting : ℕ) → Found l acting (survey_in l acting)
 unfolding survey_in state_in
 survey_found l long acting =
-    by_cond (Found l acting) (not (standing (state_in l))) (λ e. unsound-found l long acting (numbers_fault l (not-true _ e)))
+    by_cond (Found l acting) (not (standing (state_in l))) (λ e. unsound_found l long acting (numbers_fault l (not-true _ e)))
     (λ e. let stand : standing (state_in l) ≡ true = not-false _ e in
     let few = stand_few (state_in l).parameters (state_in l).clock (state_in l).word stand in
     ends_found l long acting few
-    (pass-ends l long acting (state_in l).parameters.n 0 nothing (omega arith) few
+    (pass_ends l long acting (state_in l).parameters.n 0 nothing (omega arith) few
     (record { passed = nothing_passed (state_in l) acting stand (entries_size l long); told = refl })))
 
 -- Of the function: what it gives back, from what the functions that it calls ensure
@@ -217,33 +217,33 @@ parts_long l long few n end n-is end_is = (
 
 module _ (l : List ℕ) (acting : ℕ) where
   -- the part that is lent is the entries up to n
-  pub pass-is : {x : Scene} {end : ℕ} {f : Survey} → x ≡ scene_in l acting → end ≡ stage_place (count_in l)
+  pub pass_is : {x : Scene} {end : ℕ} {f : Survey} → x ≡ scene_in l acting → end ≡ stage_place (count_in l)
       → f ≡ entries_noted (limits_told l) x 1 (entries_in (take (end - header_length) (drop header_length l))) nothing → f ≡ pass_in l acting
-  pass-is {end = end} x-is end_is f-is =
+  pass_is {end = end} x-is end_is f-is =
       let e : end - header_length ≡ stride * count_in l = omega arith in
       rw (x-is, e) at f-is
 
   -- and the other part those above
-  pub above-is : {end : ℕ} {t : Bool} → length l ≡ table_length → end ≡ stage_place (count_in l)
+  pub above_is : {end : ℕ} {t : Bool} → length l ≡ table_length → end ≡ stage_place (count_in l)
       → t ≡ are_zero (take (table_length - end) (drop end l)) → t ≡ are_zero (entries_from l (count_in l))
-  above-is {end = end} long end_is t-is =
+  above_is {end = end} long end_is t-is =
       let whole : take (table_length - end) (drop end l) ≡ drop end l =
       ap (λ (k : ℕ). take (k - end) (drop end l)) (sym long) ∙ part_is l end in
       t-is ∙ ap are_zero (whole ∙ ap (λ (k : ℕ). drop k l) end_is)
 
-  pub standing-not : numbers_stand (table_parameters l) (clock_in l) (word_in l) ≡ false → unsound ≡ survey_in l acting
+  pub standing_not : numbers_stand (table_parameters l) (clock_in l) (word_in l) ≡ false → unsound ≡ survey_in l acting
   unfolding survey_in
-  standing-not e = rw e
+  standing_not e = rw e
 
   module _ (stand : numbers_stand (table_parameters l) (clock_in l) (word_in l) ≡ true) {f : Survey} (is : f ≡ pass_in l acting) where
-    pub pass-faulty : f.faulty ≢ 0 → unsound ≡ survey_in l acting
+    pub pass_faulty : f.faulty ≢ 0 → unsound ≡ survey_in l acting
     unfolding survey_in
-    pass-faulty n = rw (stand, ← is, ne_eqb f.faulty 0 n)
+    pass_faulty n = rw (stand, ← is, ne_eqb f.faulty 0 n)
 
     module _ (z : f.faulty ≡ 0) where
-      pub above-not : are_zero (entries_from l (count_in l)) ≡ false → unsound ≡ survey_in l acting
+      pub above_not : are_zero (entries_from l (count_in l)) ≡ false → unsound ≡ survey_in l acting
       unfolding survey_in
-      above-not e = rw (stand, ← is, eq-eqb f.faulty 0 z, e)
+      above_not e = rw (stand, ← is, eq-eqb f.faulty 0 z, e)
 
       pub all_sound : are_zero (entries_from l (count_in l)) ≡ true → f ≡ survey_in l acting
       unfolding survey_in

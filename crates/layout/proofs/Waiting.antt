@@ -13,7 +13,7 @@ use Rattle.layout.specs.Encodings.{header_length, stride, table_length, count_in
 use Rattle.layout.specs.Encodings.{is_table, is_sound_table}
 use Rattle.layout.specs.Countings.{stage_in}
 use Rattle.layout.proofs.Numbers.{entries-told}
-use Rattle.layout.proofs.Encodings.{sound-is-table, table-is-sound}
+use Rattle.layout.proofs.Encodings.{sound_is_table, table_is_sound}
 use Rattle.model.proofs.Tests.{and_true_iff}
 
 -- past the end of either list it is the remainder
@@ -29,8 +29,8 @@ module _ (l : List ℕ) (told : are_entries l ≡ true) (i : ℕ) where
   pub stage-in : stage_in l i ≡ stage_at (processes_in l) i
   stage-in = ap (λ (k : List ℕ). stage_in k i) (sym (entries-told l told)) ∙ stage_numbers (processes_in l) i
 
-  pub stage-in-few : stage_in l i < 8
-  stage-in-few = omega (arith, stage-in, stage_few (get_or (processes_in l) i idle).location)
+  pub stage_in_few : stage_in l i < 8
+  stage_in_few = omega (arith, stage-in, stage_few (get_or (processes_in l) i idle).location)
 
 -- A sound table that is no longer than its numbers
 
@@ -40,30 +40,30 @@ module _ (table : List ℕ) (long : length table ≡ table_length) (sound : is_s
 
   told : are_entries (drop header_length table) ≡ true
   unfolding is_table
-  told = ((and_true_iff (leb table_length (length table)) (are_entries (drop header_length table))).0 (rw whole at (sound-is-table table sound))).1
+  told = ((and_true_iff (leb table_length (length table)) (are_entries (drop header_length table))).0 (rw whole at (sound_is_table table sound))).1
 
-  sound-state : Sound (state_in table)
-  sound-state = (sound_iff_plain (state_in table)).0 (rw whole at (table-is-sound table sound))
+  sound_state : Sound (state_in table)
+  sound_state = (sound_iff_plain (state_in table)).0 (rw whole at (table_is_sound table sound))
 
   -- the part that is lent of it is its entries
-  entries-part : take (table_length - header_length) (drop header_length table) ≡ drop header_length table
-  entries-part = take_all (table_length - header_length) (drop header_length table) (omega (arith, length-drop header_length table))
+  entries_part : take (table_length - header_length) (drop header_length table) ≡ drop header_length table
+  entries_part = take_all (table_length - header_length) (drop header_length table) (omega (arith, length-drop header_length table))
 
-  pub part-long : length (take (table_length - header_length) (drop header_length table)) ≡ stride * 96
-  part-long = rw entries-part (length-drop header_length table ∙ omega arith)
+  pub part_long : length (take (table_length - header_length) (drop header_length table)) ≡ stride * 96
+  part_long = rw entries_part (length-drop header_length table ∙ omega arith)
 
-  pub part-told : are_entries (take (table_length - header_length) (drop header_length table)) ≡ true
-  part-told = rw entries-part told
+  pub part_told : are_entries (take (table_length - header_length) (drop header_length table)) ≡ true
+  part_told = rw entries_part told
 
-  pub part-processes : processes_in (take (table_length - header_length) (drop header_length table)) ≡ (state_in table).processes
+  pub part_processes : processes_in (take (table_length - header_length) (drop header_length table)) ≡ (state_in table).processes
   unfolding state_in
-  part-processes = ap processes_in entries-part
+  part_processes = ap processes_in entries_part
 
-  pub few-processes : count_in table ≤ 96
+  pub few_processes : count_in table ≤ 96
   unfolding state_in
-  few-processes = sound-state.parameters.count.most
+  few_processes = sound_state.parameters.count.most
 
-  pub past-part : (i : ℕ) → count_in table ≤ i
+  pub past_part : (i : ℕ) → count_in table ≤ i
       → stage_at (processes_in (take (table_length - header_length) (drop header_length table))) i ≡ remainder
   unfolding state_in
-  past-part i h = rw part-processes (past_rests (state_in table) sound-state i h)
+  past_part i h = rw part_processes (past_rests (state_in table) sound_state i h)

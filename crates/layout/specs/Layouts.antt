@@ -44,6 +44,6 @@ pub record LayoutIsNumbered : Type 0 where
   pub last : length layouts ≡ layout_number
   pub table_is : layout.table ≡ table_length
   pub header_is : layout.header ≡ header_length
-  pub entry-is : layout.entry ≡ stride
-  pub summary-is : layout.summary ≡ summary_length
-  pub counts-is : layout.counts ≡ counts_length
+  pub entry_is : layout.entry ≡ stride
+  pub summary_is : layout.summary ≡ summary_length
+  pub counts_is : layout.counts ≡ counts_length

@@ -1,5 +1,7 @@
 // Tables and summaries as lent numbers: what stands where, the functions that read and write it, and the calls on it. A step and a recorded
 // step are judged where the numbers lie: no state is made of them. No other code knows a place of theirs.
+#![tactic(auto)]
+
 mod counts;
 mod steps;
 mod summaries;
@@ -94,7 +96,7 @@ pub fn record(
 }
 
 // [5.90] [10.200] What a recorded step answers, and beside an accepted action the wait that it ends, if it is a crit.
-#[derive(Drop)]
+#[derive(Clone, Copy)]
 pub struct Entered {
     pub answer: Answer,
     pub wait: u64,

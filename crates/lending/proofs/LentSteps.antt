@@ -20,8 +20,8 @@ use Rattle.model.specs.Summaries.{new_statistics, statistics_sound, beside, reco
 use Rattle.model.specs.Calls.{call_of}
 use Rattle.layout.specs.Encodings.{table_length, state_numbers, table_in, is_sound_table, summary_length, statistics_numbers, summary_in}
 use Rattle.model.proofs.Tests.{by_test, by_cond}
-use Rattle.theory.proofs.RecordedSteps.{summary-refused}
-use Rattle.layout.proofs.Encodings.{numbers_come_back, sound-is-table, table-is-sound, summary_numbers_come_back}
+use Rattle.theory.proofs.RecordedSteps.{summary_refused}
+use Rattle.layout.proofs.Encodings.{numbers_come_back, sound_is_table, table_is_sound, summary_numbers_come_back}
 use Rattle.layout.specs.Interface.{Lent, lent_gave, outcome_lent, lent_fresh, lent_step}
 use Rattle.layout.specs.Interface.{LentSummary, summary_gave, lent_summary, LentBoth, record_gave, recorded_lent, lent_record}
 use Rattle.lending.specs.Guarantees.{LentCall, lent_call, no_summary, call_lent, summary_after}
@@ -33,9 +33,9 @@ module _ (k : Parameters) (table : List ℕ) where
     refused : {r : Answer} → r.code ≢ 0 → FreshGiven (lent_gave r table)
     made : Accepted (fresh_of k) → table_length ≤ length table → FreshGiven (outcome_lent (fresh_of k) table)
 
-  pub fresh-given : FreshGiven (lent_fresh k table)
+  pub fresh_given : FreshGiven (lent_fresh k table)
   unfolding lent_fresh
-  fresh-given =
+  fresh_given =
       by_cond FreshGiven (not (eqb (fresh_of k).answer.code 0)) (λ e. refused (eqb-false _ _ (not-true _ e)))
       (λ g. by_cond FreshGiven (ltb (length table) table_length) (λ _. refused (omega arith))
       (λ e. made (eqb-true _ _ (not-false _ g)) (ltb-false _ _ e)))
@@ -47,9 +47,9 @@ module _ (summary : List ℕ) where
     refused : NewGiven (summary_gave (answer_of 16 0 0) summary)
     made : summary_length ≤ length summary → NewGiven (summary_gave (answer_of 0 0 0) (over (statistics_numbers new_statistics) summary))
 
-  pub new-given : NewGiven (lent_summary summary)
+  pub new_given : NewGiven (lent_summary summary)
   unfolding lent_summary
-  new-given = by_cond NewGiven (ltb (length summary) summary_length) (λ _. refused) (λ e. made (ltb-false _ _ e))
+  new_given = by_cond NewGiven (ltb (length summary) summary_length) (λ _. refused) (λ e. made (ltb-false _ _ e))
 
 -- A recorded step
 
@@ -61,9 +61,9 @@ module _ (table summary : List ℕ) (act p m : ℕ) where
     taken : is_sound_table table ≡ true → summary_length ≤ length summary
         → RecordGiven (recorded_lent (recorded_of (table_in table) (summary_in summary) act p m) table summary)
 
-  pub record-given : RecordGiven (lent_record table summary act p m)
+  pub record_given : RecordGiven (lent_record table summary act p m)
   unfolding lent_record
-  record-given =
+  record_given =
       by_cond RecordGiven (not (is_sound_table table)) (λ e. no_table (not-true _ e))
       (λ g. by_cond RecordGiven (ltb (length summary) summary_length) (λ e. no-summary (not-false _ g) (ltb-true _ _ e))
       (λ e. taken (not-false _ g) (ltb-false _ _ e)))
@@ -124,16 +124,16 @@ module _ (table : List ℕ) (d : LentCall) where
       (λ e. taken_as table d.summary r (not-false _ e)
       (λ i. record_gave o.answer (over (state_numbers o.state) table) (summary_kept d i)))
 
-  record-gives : {g : LentBoth} → RecordGiven table d.summary d.action d.process d.time g
+  record_gives : {g : LentBoth} → RecordGiven table d.summary d.action d.process d.time g
       → Gives (recorded_of s (call_lent d).lent d.action d.process d.time) g
   unfolding statistics_sound
-  record-gives (RecordGiven.no_table e) = CallGiven.no_table e
-  record-gives (RecordGiven.no-summary e h) =
-      rw (lt-ltb _ _ h, summary-refused s no_summary d.action d.process d.time (table-is-sound table e) refl)
-      (taken_as table d.summary _ e (rw (lt-ltb _ _ h, numbers_come_back table (sound-is-table table e))))
-  record-gives (RecordGiven.taken e h) = rw (le-ltb _ _ h) (taken_as table d.summary _ e (rw (le-ltb _ _ h)))
+  record_gives (RecordGiven.no_table e) = CallGiven.no_table e
+  record_gives (RecordGiven.no-summary e h) =
+      rw (lt-ltb _ _ h, summary_refused s no_summary d.action d.process d.time (table_is_sound table e) refl)
+      (taken_as table d.summary _ e (rw (lt-ltb _ _ h, numbers_come_back table (sound_is_table table e))))
+  record_gives (RecordGiven.taken e h) = rw (le-ltb _ _ h) (taken_as table d.summary _ e (rw (le-ltb _ _ h)))
 
   pub given : Given (lent_call table d)
   unfolding lent_call call_of
   given =
-      either_given d.recorded (record-gives (record-given table d.summary d.action d.process d.time)) step_gives
+      either_given d.recorded (record_gives (record_given table d.summary d.action d.process d.time)) step_gives

@@ -24,11 +24,11 @@ use Rattle.lists.proofs.Calls.{Called, called}
 use Rattle.theory.proofs.Soundness.{fresh_is_plain}
 use Rattle.theory.proofs.RecordedSteps.{judged, refused-counted}
 use Rattle.theory.proofs.Summaries.{recorded_is_plain}
-use Rattle.layout.proofs.Encodings.{sound-is-table, numbers_come_back, summary_numbers_come_back}
+use Rattle.layout.proofs.Encodings.{sound_is_table, numbers_come_back, summary_numbers_come_back}
 use Rattle.layout.specs.Interface.{Lent, lent_fresh, LentSummary, lent_summary, LentBoth}
 use Rattle.lending.specs.Guarantees.{RefusedFreshStays, RefusedStepStays, RefusedSummaryStays, RefusedRecordStays}
 use Rattle.lending.specs.Guarantees.{SummaryStays, RefusedIsCounted, LentSuccesses, LentCall, lent_call, call_lent}
-use Rattle.lending.proofs.LentSteps.{FreshGiven, fresh-given, NewGiven, new-given, RecordGiven, record-given}
+use Rattle.lending.proofs.LentSteps.{FreshGiven, fresh_given, NewGiven, new_given, RecordGiven, record_given}
 use Rattle.lending.proofs.LentSteps.{step_call, record_call, CallGiven, Given, given}
 
 -- A fresh table and a new summary
@@ -50,10 +50,10 @@ new_answers NewGiven.refused e = absurd (omega arith)
 new_answers (NewGiven.made _) e = refl
 
 pub refused_fresh_stays : RefusedFreshStays
-refused_fresh_stays k table = fresh_stays (fresh-given k table)
+refused_fresh_stays k table = fresh_stays (fresh_given k table)
 
 pub refused_summary_stays : RefusedSummaryStays
-refused_summary_stays summary = new_stays (new-given summary)
+refused_summary_stays summary = new_stays (new_given summary)
 
 -- where they succeed
 
@@ -78,10 +78,10 @@ new_succeeds summary fits = rw (le-ltb (length summary) summary_length fits)
 
 pub lent_successes : LentSuccesses
 lent_successes = record {
-  fresh-iff = λ k table. (fresh_was (fresh-given k table), λ h. fresh_succeeds k table h.0 h.1);
-  new-summary-iff = λ summary. (new_was (new-given summary), new_succeeds summary);
-  fresh = λ k table. fresh_answers (fresh-given k table);
-  new-summary = λ summary. new_answers (new-given summary);
+  fresh_iff = λ k table. (fresh_was (fresh_given k table), λ h. fresh_succeeds k table h.0 h.1);
+  new_summary_iff = λ summary. (new_was (new_given summary), new_succeeds summary);
+  fresh = λ k table. fresh_answers (fresh_given k table);
+  new-summary = λ summary. new_answers (new_given summary);
 }
 
 -- The table of a step and of a recorded step
@@ -94,7 +94,7 @@ module _ (table : List ℕ) (d : LentCall) where
   given_stays : {g : LentBoth} → Given table d g → g.answer.code ≢ 0 → g.table ≡ table
   given_stays (CallGiven.no_table _) n = refl
   given_stays (CallGiven.taken e) n =
-      rw (same_table (called (table_in table) (call_lent d)) n) (numbers_come_back table (sound-is-table table e))
+      rw (same_table (called (table_in table) (call_lent d)) n) (numbers_come_back table (sound_is_table table e))
 
   call_stays : (lent_call table d).answer.code ≢ 0 → (lent_call table d).table ≡ table
   call_stays = given_stays (given table d)
@@ -120,25 +120,25 @@ one_more l fits =
     ∙ (λ i. set (summary_numbers_come_back l fits i) refused_place (get_or-take summary_length l refused_place 0 (omega arith) i + 1)))
 
 module _ {table summary : List ℕ} {act p m : ℕ} where
-  leaves-summary : {r : LentBoth} → RecordGiven table summary act p m r
+  leaves_summary : {r : LentBoth} → RecordGiven table summary act p m r
       → r.answer.code ≢ 0 → r.answer.code ≤ 3 → r.summary ≡ summary
-  leaves-summary (RecordGiven.no_table _) n h = refl
-  leaves-summary (RecordGiven.no-summary _ _) n h = refl
-  leaves-summary (RecordGiven.taken _ fits) n h =
+  leaves_summary (RecordGiven.no_table _) n h = refl
+  leaves_summary (RecordGiven.no-summary _ _) n h = refl
+  leaves_summary (RecordGiven.taken _ fits) n h =
       rw ((recorded_is_plain (table_in table) (summary_in summary) act p m).unchanged (omega arith) h).2
       (summary_numbers_come_back summary fits)
 
-  counts-refused : {r : LentBoth} → RecordGiven table summary act p m r
+  counts_refused : {r : LentBoth} → RecordGiven table summary act p m r
       → 4 ≤ r.answer.code → r.summary ≡ set summary refused_place (get_or summary refused_place 0 + 1)
-  counts-refused (RecordGiven.no_table _) h = absurd (omega arith)
-  counts-refused (RecordGiven.no-summary _ _) h = absurd (omega arith)
-  counts-refused (RecordGiven.taken _ fits) h =
+  counts_refused (RecordGiven.no_table _) h = absurd (omega arith)
+  counts_refused (RecordGiven.no-summary _ _) h = absurd (omega arith)
+  counts_refused (RecordGiven.taken _ fits) h =
       let s = table_in table in
       let x = summary_in summary in
       rw (refused-counted s x act p m (judged s x act p m) h) (one_more summary fits)
 
 pub summary_stays : SummaryStays
-summary_stays table summary act p m = leaves-summary (record-given table summary act p m)
+summary_stays table summary act p m = leaves_summary (record_given table summary act p m)
 
 pub refused_is_counted : RefusedIsCounted
-refused_is_counted table summary act p m = counts-refused (record-given table summary act p m)
+refused_is_counted table summary act p m = counts_refused (record_given table summary act p m)

@@ -2,12 +2,12 @@
 use mathlib.Core.List.{List}
 use Rattle.model.specs.declared.State.{State}
 use Rattle.model.specs.Calls.{Call, table_of, run_of}
-use Rattle.lists.proofs.Calls.{call-keeps, run-keeps}
+use Rattle.lists.proofs.Calls.{call_keeps, run_keeps}
 use Rattle.layout.specs.Numbers.{IsWhole}
 use Rattle.layout.proofs.Encodings.{step_whole}
 
 pub call_whole : (s : State) → IsWhole s → (d : Call) → IsWhole (table_of s d)
-call_whole s whole d = call-keeps IsWhole step_whole d whole
+call_whole s whole d = call_keeps IsWhole step_whole d whole
 
 pub run_whole : (s : State) → IsWhole s → (ds : List Call) → IsWhole (run_of s ds)
-run_whole s whole ds = run-keeps IsWhole step_whole ds whole
+run_whole s whole ds = run_keeps IsWhole step_whole ds whole

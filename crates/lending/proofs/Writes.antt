@@ -33,17 +33,17 @@ use Rattle.lending.specs.Guarantees.{LentCall, lent_call, call_lent}
 use Rattle.model.proofs.Lists.{length_over}
 use Rattle.model.proofs.Tests.{by_test}
 use Rattle.theory.proofs.Entries.{entry_at}
-use Rattle.theory.proofs.Waits.{unused-used, trying_at, waited-other, waited_on_zero, cleared-other, clears_some}
+use Rattle.theory.proofs.Waits.{unused_used, trying_at, waited_other, waited_on_zero, cleared_other, clears_some}
 use Rattle.theory.proofs.Rows.{from_ready}
-use Rattle.theory.proofs.Steps.{stepped, accepted-is}
+use Rattle.theory.proofs.Steps.{stepped, accepted_is}
 use Rattle.lists.proofs.Calls.{Called, called}
-use Rattle.lists.proofs.Sizes.{recorded-waited, waited_as_long}
+use Rattle.lists.proofs.Sizes.{recorded_waited, waited_as_long}
 use Rattle.layout.specs.Numbers.{IsWhole}
 use Rattle.layout.proofs.Storing.{moved_stored, waited_stored}
 use Rattle.layout.proofs.Starting.{fresh_whole}
-use Rattle.layout.proofs.Encodings.{table-length, table_fits, table_is_whole, numbers_come_back, sound-is-table}
-use Rattle.layout.proofs.Encodings.{summary-length, summary-is-whole, summary_numbers_come_back}
-use Rattle.lending.proofs.LentSteps.{FreshGiven, fresh-given, NewGiven, new-given, RecordGiven, record-given}
+use Rattle.layout.proofs.Encodings.{table-length, table_fits, table_is_whole, numbers_come_back, sound_is_table}
+use Rattle.layout.proofs.Encodings.{summary-length, summary_is_whole, summary_numbers_come_back}
+use Rattle.lending.proofs.LentSteps.{FreshGiven, fresh_given, NewGiven, new_given, RecordGiven, record_given}
 use Rattle.lending.proofs.Sizes.{call_whole}
 use Rattle.lending.proofs.LentSteps.{step_call, record_call, CallGiven, Given, given}
 
@@ -51,38 +51,38 @@ use Rattle.lending.proofs.LentSteps.{step_call, record_call, CallGiven, Given, g
 
 module _ {p k : ℕ} (e : Elsewhere p k) where
   -- what is stored of the clock and the word, and of an entry, leaves each other place
-  clocked-stays : (l : List ℕ) (m word : ℕ) → get_or (clocked l m word) k 0 ≡ get_or l k 0
-  clocked-stays l m word =
-      get_or-set_other (set l clock_place m) word_place k word 0 e.not-word ∙ get_or-set_other l clock_place k m 0 e.not-clock
+  clocked_stays : (l : List ℕ) (m word : ℕ) → get_or (clocked l m word) k 0 ≡ get_or l k 0
+  clocked_stays l m word =
+      get_or-set_other (set l clock_place m) word_place k word 0 e.not_word ∙ get_or-set_other l clock_place k m 0 e.not_clock
 
-  placed-stays : 1 ≤ p → (l : List ℕ) (to : Location) → get_or (placed_at l (p - 1) to) k 0 ≡ get_or l k 0
-  placed-stays some l to =
-      get_or-set_other (set l (stage_place (p - 1)) (stage_of to)) (since_place (p - 1)) k (since_of to) 0 (e.not-since some)
-      ∙ get_or-set_other l (stage_place (p - 1)) k (stage_of to) 0 (e.not-stage some)
+  placed_stays : 1 ≤ p → (l : List ℕ) (to : Location) → get_or (placed_at l (p - 1) to) k 0 ≡ get_or l k 0
+  placed_stays some l to =
+      get_or-set_other (set l (stage_place (p - 1)) (stage_of to)) (since_place (p - 1)) k (since_of to) 0 (e.not_since some)
+      ∙ get_or-set_other l (stage_place (p - 1)) k (stage_of to) 0 (e.not_stage some)
 
   module _ (s : State) (size : length s.parameters.a ≡ 96) (m : ℕ) where
     abbrev Stays : State → Type 0
     Stays t = get_or (state_numbers t) k 0 ≡ get_or (state_numbers s) k 0
 
     wait_stays : Stays (waited s m)
-    wait_stays = rw (waited_stored s m) (clocked-stays (state_numbers s) m s.word)
+    wait_stays = rw (waited_stored s m) (clocked_stays (state_numbers s) m s.word)
 
-    move-stays : 1 ≤ p → (t : Transition) → Stays (moved s p m t)
-    move-stays some t =
+    move_stays : 1 ≤ p → (t : Transition) → Stays (moved s p m t)
+    move_stays some t =
         rw (moved_stored s size p m t)
-        (placed-stays some (clocked (state_numbers s) m t.word) t.to ∙ clocked-stays (state_numbers s) m t.word)
+        (placed_stays some (clocked (state_numbers s) m t.word) t.to ∙ clocked_stays (state_numbers s) m t.word)
 
-    effect-stays : {act : ℕ} → Waits act p ⊎ Acts s act p m → Stays (effect s act p m)
+    effect_stays : {act : ℕ} → Waits act p ⊎ Acts s act p m → Stays (effect s act p m)
     unfolding effect
-    effect-stays (inl w) = rw w.wait wait_stays
-    effect-stays {act} (inr a) = rw (ne_eqb act wait_act (from_ready a.from).not-wait) (move-stays a.some (transition_of s.word act p m))
+    effect_stays (inl w) = rw w.wait wait_stays
+    effect_stays {act} (inr a) = rw (ne_eqb act wait_act (from_ready a.from).not_wait) (move_stays a.some (transition_of s.word act p m))
 
 -- of any call: a refused one leaves them all
 numbers_stay : {s : State} {d : Call} {o : Outcome} → length s.parameters.a ≡ 96 → Called s d o → (k : ℕ) → Elsewhere d.process k
     → get_or (state_numbers o.state) k 0 ≡ get_or (state_numbers s) k 0
 numbers_stay {s} {d} size (Called.accepted a) k e =
-    let t = accepted-is (stepped s d.action d.process d.time) a in
-    rw t.is (effect-stays e s size d.time t.allowed.turn)
+    let t = accepted_is (stepped s d.action d.process d.time) a in
+    rw t.is (effect_stays e s size d.time t.allowed.turn)
 numbers_stay size (Called.refused _ same) k e = rw same
 
 -- The numbers of the summary after an act
@@ -99,23 +99,23 @@ past_counts x y k past same =
 
 module _ (s : State) (ws : List ℕ) (m j : ℕ) (others : IsTrying s (j + 1) → (i : ℕ) × IsCritical s i) where
   -- no time is added, as the process is not trying or somebody is critical
-  added-stays : get_or (waited_on (unused_time s m) s.processes ws) j 0 ≡ get_or ws j 0
-  added-stays = by_test (trying_at s.processes j)
+  added_stays : get_or (waited_on (unused_time s m) s.processes ws) j 0 ≡ get_or ws j 0
+  added_stays = by_test (trying_at s.processes j)
       (λ e. let used = others (record { from = omega arith; at = rw (entry_at s j) e }) in
-      rw (unused-used s m used.1, waited_on_zero s.processes ws))
-      (waited-other (unused_time s m) s.processes ws j)
+      rw (unused_used s m used.1, waited_on_zero s.processes ws))
+      (waited_other (unused_time s m) s.processes ws j)
 
-  after-stays : {act p : ℕ} → Allowed s act p m → (1 ≤ p → j ≢ p - 1) → get_or (waited_after s ws act p m) j 0 ≡ get_or ws j 0
-  after-stays {act} {p} allowed own =
-      cleared-other act p (waited_on (unused_time s m) s.processes ws) j (λ e. own (clears_some allowed.turn e)) ∙ added-stays
+  after_stays : {act p : ℕ} → Allowed s act p m → (1 ≤ p → j ≢ p - 1) → get_or (waited_after s ws act p m) j 0 ≡ get_or ws j 0
+  after_stays {act} {p} allowed own =
+      cleared_other act p (waited_on (unused_time s m) s.processes ws) j (λ e. own (clears_some allowed.turn e)) ∙ added_stays
 
-waits-stay : (s : State) (x : Statistics) (act p m k : ℕ) → WaitElsewhere s p k
+waits_stay : (s : State) (x : Statistics) (act p m k : ℕ) → WaitElsewhere s p k
     → get_or (statistics_numbers (recorded_of s x act p m).statistics) k 0 ≡ get_or (statistics_numbers x) k 0
-waits-stay s x act p m k e =
+waits_stay s x act p m k e =
     let j = k - counts_length in
-    past_counts x (recorded_of s x act p m).statistics k e.not-count
-    (recorded-waited s x act p m (λ (l : List ℕ). get_or l j 0 ≡ get_or x.waited j 0) refl
-    (λ allowed. after-stays s x.waited m j e.not-trying allowed (λ some f. e.not_own some (omega arith))))
+    past_counts x (recorded_of s x act p m).statistics k e.not_count
+    (recorded_waited s x act p m (λ (l : List ℕ). get_or l j 0 ≡ get_or x.waited j 0) refl
+    (λ allowed. after_stays s x.waited m j e.not_trying allowed (λ some f. e.not_own some (omega arith))))
 
 -- The lent numbers
 
@@ -144,38 +144,38 @@ over_as_long xs l e h = length_over xs l (omega arith)
 module _ (table : List ℕ) (d : LentCall) where
   module _ (sound : is_sound_table table ≡ true) where
     whole : IsWhole (table_in table)
-    whole = table_is_whole table (sound-is-table table sound)
+    whole = table_is_whole table (sound_is_table table sound)
 
-    after-length : length (state_numbers (table_of (table_in table) (call_lent d))) ≡ table_length
-    after-length = table-length (table_of (table_in table) (call_lent d)) (call_whole (table_in table) whole (call_lent d))
+    after_length : length (state_numbers (table_of (table_in table) (call_lent d))) ≡ table_length
+    after_length = table-length (table_of (table_in table) (call_lent d)) (call_whole (table_in table) whole (call_lent d))
 
-  given-writes : {g : LentBoth} → Given table d g
+  given_writes : {g : LentBoth} → Given table d g
       → (k : ℕ) → Elsewhere d.process k → get_or g.table k 0 ≡ get_or table k 0
-  given-writes (CallGiven.no_table _) k e = refl
-  given-writes (CallGiven.taken sound) k e =
+  given_writes (CallGiven.no_table _) k e = refl
+  given_writes (CallGiven.taken sound) k e =
       let s = table_in table in
-      over_same (state_numbers (table_of s (call_lent d))) (state_numbers s) table (numbers_come_back table (sound-is-table table sound))
-      (after-length sound ∙ sym (table-length s (whole sound))) k (numbers_stay (whole sound).limits (called s (call_lent d)) k e)
+      over_same (state_numbers (table_of s (call_lent d))) (state_numbers s) table (numbers_come_back table (sound_is_table table sound))
+      (after_length sound ∙ sym (table-length s (whole sound))) k (numbers_stay (whole sound).limits (called s (call_lent d)) k e)
 
-  given-as-long : {g : LentBoth} → Given table d g → length g.table ≡ length table
-  given-as-long (CallGiven.no_table _) = refl
-  given-as-long (CallGiven.taken sound) =
-      over_as_long (state_numbers (table_of (table_in table) (call_lent d))) table (after-length sound)
-      (table_fits table (sound-is-table table sound))
+  given_as_long : {g : LentBoth} → Given table d g → length g.table ≡ length table
+  given_as_long (CallGiven.no_table _) = refl
+  given_as_long (CallGiven.taken sound) =
+      over_as_long (state_numbers (table_of (table_in table) (call_lent d))) table (after_length sound)
+      (table_fits table (sound_is_table table sound))
 
-  call-writes : (k : ℕ) → Elsewhere d.process k → get_or (lent_call table d).table k 0 ≡ get_or table k 0
-  call-writes = given-writes (given table d)
+  call_writes : (k : ℕ) → Elsewhere d.process k → get_or (lent_call table d).table k 0 ≡ get_or table k 0
+  call_writes = given_writes (given table d)
 
-  call-as-long : length (lent_call table d).table ≡ length table
-  call-as-long = given-as-long (given table d)
+  call_as_long : length (lent_call table d).table ≡ length table
+  call_as_long = given_as_long (given table d)
 
 pub step_writes_its_own : StepWritesItsOwn
 unfolding lent_call
-step_writes_its_own table act p m = call-writes table (step_call act p m)
+step_writes_its_own table act p m = call_writes table (step_call act p m)
 
 pub record_writes_its_own : RecordWritesItsOwn
 unfolding lent_call
-record_writes_its_own table summary act p m = call-writes table (record_call summary act p m)
+record_writes_its_own table summary act p m = call_writes table (record_call summary act p m)
 
 -- The summary of a recorded step
 
@@ -183,27 +183,27 @@ module _ (table summary : List ℕ) (act p m : ℕ) where
   abbrev after : Statistics
   after = (recorded_of (table_in table) (summary_in summary) act p m).statistics
 
-  noted-length : summary_length ≤ length summary → length (statistics_numbers after) ≡ summary_length
-  noted-length fits =
-      summary-length after (waited_as_long (table_in table) (summary_in summary) act p m ∙ summary-is-whole summary fits)
+  noted_length : summary_length ≤ length summary → length (statistics_numbers after) ≡ summary_length
+  noted_length fits =
+      summary-length after (waited_as_long (table_in table) (summary_in summary) act p m ∙ summary_is_whole summary fits)
 
-  counted-writes : {g : LentBoth} → RecordGiven table summary act p m g
+  counted_writes : {g : LentBoth} → RecordGiven table summary act p m g
       → (k : ℕ) → WaitElsewhere (table_in table) p k → get_or g.summary k 0 ≡ get_or summary k 0
-  counted-writes (RecordGiven.no_table _) k e = refl
-  counted-writes (RecordGiven.no-summary _ _) k e = refl
-  counted-writes (RecordGiven.taken _ fits) k e =
+  counted_writes (RecordGiven.no_table _) k e = refl
+  counted_writes (RecordGiven.no-summary _ _) k e = refl
+  counted_writes (RecordGiven.taken _ fits) k e =
       let x = summary_in summary in
       over_same (statistics_numbers after) (statistics_numbers x) summary (summary_numbers_come_back summary fits)
-      (noted-length fits ∙ sym (summary-length x (summary-is-whole summary fits))) k
-      (waits-stay (table_in table) x act p m k e)
+      (noted_length fits ∙ sym (summary-length x (summary_is_whole summary fits))) k
+      (waits_stay (table_in table) x act p m k e)
 
-  counted-as-long : {g : LentBoth} → RecordGiven table summary act p m g → length g.summary ≡ length summary
-  counted-as-long (RecordGiven.no_table _) = refl
-  counted-as-long (RecordGiven.no-summary _ _) = refl
-  counted-as-long (RecordGiven.taken _ fits) = over_as_long (statistics_numbers after) summary (noted-length fits) fits
+  counted_as_long : {g : LentBoth} → RecordGiven table summary act p m g → length g.summary ≡ length summary
+  counted_as_long (RecordGiven.no_table _) = refl
+  counted_as_long (RecordGiven.no-summary _ _) = refl
+  counted_as_long (RecordGiven.taken _ fits) = over_as_long (statistics_numbers after) summary (noted_length fits) fits
 
 pub summary_writes_its_own : SummaryWritesItsOwn
-summary_writes_its_own table summary act p m = counted-writes table summary act p m (record-given table summary act p m)
+summary_writes_its_own table summary act p m = counted_writes table summary act p m (record_given table summary act p m)
 
 -- All lengths
 
@@ -221,9 +221,9 @@ new_as_long {summary} (NewGiven.made fits) =
 pub lengths_stay : LengthsStay
 unfolding lent_call
 lengths_stay = record {
-  fresh = λ k table. fresh_as_long (fresh-given k table);
-  step = λ table act p m. call-as-long table (step_call act p m);
-  new-summary = λ summary. new_as_long (new-given summary);
-  record-table = λ table summary act p m. call-as-long table (record_call summary act p m);
-  record-summary = λ table summary act p m. counted-as-long table summary act p m (record-given table summary act p m);
+  fresh = λ k table. fresh_as_long (fresh_given k table);
+  step = λ table act p m. call_as_long table (step_call act p m);
+  new-summary = λ summary. new_as_long (new_given summary);
+  record_table = λ table summary act p m. call_as_long table (record_call summary act p m);
+  record_summary = λ table summary act p m. counted_as_long table summary act p m (record_given table summary act p m);
 }

@@ -61,9 +61,9 @@ RefusedIsCounted = (table summary : List ℕ) (act p m : ℕ)
 -- [4.70] [9.50] [9.70] when the two calls that are lent only an output succeed, and what they then answer; what they write is `FreshIsPlain`
 -- in numbers, and zeros
 pub record LentSuccesses : Type 0 where
-  pub fresh-iff : (k : Parameters) (table : List ℕ)
+  pub fresh_iff : (k : Parameters) (table : List ℕ)
       → ((lent_fresh k table).answer.code ≡ 0) ↔ (ParametersStand k × (table_length ≤ length table))
-  pub new-summary-iff : (summary : List ℕ) → ((lent_summary summary).answer.code ≡ 0) ↔ (summary_length ≤ length summary)
+  pub new_summary_iff : (summary : List ℕ) → ((lent_summary summary).answer.code ≡ 0) ↔ (summary_length ≤ length summary)
   pub fresh : (k : Parameters) (table : List ℕ) → (lent_fresh k table).answer.code ≡ 0 → (lent_fresh k table).answer ≡ answer_of 0 0 0
   pub new-summary : (summary : List ℕ) → (lent_summary summary).answer.code ≡ 0 → (lent_summary summary).answer ≡ answer_of 0 0 0
 
@@ -72,10 +72,10 @@ pub record LentSuccesses : Type 0 where
 
 -- [9.130] place k of a table is another than these, for an act of process p
 pub record Elsewhere (p k : ℕ) : Type 0 where
-  pub not-clock : k ≢ clock_place
-  pub not-word : k ≢ word_place
-  pub not-stage : 1 ≤ p → k ≢ header_length + stride * (p - 1)
-  pub not-since : 1 ≤ p → k ≢ header_length + stride * (p - 1) + 1
+  pub not_clock : k ≢ clock_place
+  pub not_word : k ≢ word_place
+  pub not_stage : 1 ≤ p → k ≢ header_length + stride * (p - 1)
+  pub not_since : 1 ≤ p → k ≢ header_length + stride * (p - 1) + 1
 
 -- [9.130]
 abbrev pub StepWritesItsOwn : Type 0
@@ -89,10 +89,10 @@ RecordWritesItsOwn = (table summary : List ℕ) (act p m k : ℕ) → Elsewhere 
 
 -- [9.130] place k of a summary is another than these, for an act of process p in the state s
 pub record WaitElsewhere (s : State) (p k : ℕ) : Type 0 where
-  pub not-count : counts_length ≤ k
+  pub not_count : counts_length ≤ k
   pub not_own : 1 ≤ p → k ≢ waited_place (p - 1)
   -- its process is not trying, unless somebody is critical
-  pub not-trying : IsTrying s (k - counts_length + 1) → (i : ℕ) × IsCritical s i
+  pub not_trying : IsTrying s (k - counts_length + 1) → (i : ℕ) × IsCritical s i
 
 -- [9.130]
 abbrev pub SummaryWritesItsOwn : Type 0
@@ -104,13 +104,13 @@ pub record LengthsStay : Type 0 where
   pub fresh : (k : Parameters) (table : List ℕ) → length (lent_fresh k table).table ≡ length table
   pub step : (table : List ℕ) (act p m : ℕ) → length (lent_step table act p m).table ≡ length table
   pub new-summary : (summary : List ℕ) → length (lent_summary summary).summary ≡ length summary
-  pub record-table : (table summary : List ℕ) (act p m : ℕ) → length (lent_record table summary act p m).table ≡ length table
-  pub record-summary : (table summary : List ℕ) (act p m : ℕ) → length (lent_record table summary act p m).summary ≡ length summary
+  pub record_table : (table summary : List ℕ) (act p m : ℕ) → length (lent_record table summary act p m).table ≡ length table
+  pub record_summary : (table summary : List ℕ) (act p m : ℕ) → length (lent_record table summary act p m).summary ≡ length summary
 
 -- [9.135] a withdraw that gave back g takes back the try, at the time m, that was made on the numbers `table`
 pub record LentTakenBack (table : List ℕ) (m : ℕ) (g : Lent) : Type 0 where
   pub accepted : g.answer.code ≡ 0
-  pub clock-only : g.table ≡ set table clock_place m
+  pub clock_only : g.table ≡ set table clock_place m
 
 -- [9.135] of process p, directly after the try
 abbrev pub LentWithdrawUndoesTry : Type 0
@@ -187,8 +187,8 @@ pub record LentNotStuck (s : State) (table : List ℕ) : Type 0 where
 pub record LentDemand3 (s : State) (table rest : List ℕ) (ds : List LentCall) : Type 0 where
   pub results : List Recorded
   pub last : State
-  pub results-are : lent_results table ds ≡ all_in_numbers rest ds results
-  pub last-is : lent_run table ds ≡ state_numbers last ++ rest
+  pub results_are : lent_results table ds ≡ all_in_numbers rest ds results
+  pub last_is : lent_run table ds ≡ state_numbers last ++ rest
   pub demand3 : Demand3 s (map call_lent ds) results last
   pub not_stuck : LentNotStuck last (lent_run table ds)
 
@@ -228,10 +228,10 @@ lent_code r = r.answer.code
 
 -- [9.150] the steps gave back the numbers of recorded steps, and what the last one left is tallied
 pub record LentTally (k : Parameters) (table summary : List ℕ) (es : List Event) : Type 0 where
-  pub results-are :
+  pub results_are :
       lent_records (lent_start k table summary) es
       ≡ map (both_in_numbers (drop table_length table) (drop summary_length summary)) (records_of (start_of (fresh_of k).state) es)
-  pub last-is :
+  pub last_is :
       lent_all (lent_start k table summary) es
       ≡ both_in_numbers (drop table_length table) (drop summary_length summary) (record_all (start_of (fresh_of k).state) es)
   pub tallied :

@@ -12,17 +12,17 @@ use Rattle.model.specs.Calls.{Call, call_of, handed_on, run_of, results_of}
 use Rattle.lists.specs.Demand3.{Span, OwedWithin, owed_wait, OneCritical, NamesTheOnly, EachNames, EveryList}
 use Rattle.lists.specs.Demand3.{SoundIsNotEnough, EveryTableSound}
 use Rattle.model.proofs.Tests.{if_eq}
-use Rattle.model.proofs.Folds.{end-append}
+use Rattle.model.proofs.Folds.{end_append}
 use Rattle.theory.proofs.Soundness.{sound_iff_plain, two_critical_may_be_sound}
 use Rattle.theory.proofs.OwnLimits.{largest_stands}
 use Rattle.theory.proofs.Lowest.{accepted_tells}
-use Rattle.lists.proofs.Exclusion.{one-owner}
+use Rattle.lists.proofs.Exclusion.{one_owner}
 use Rattle.lists.proofs.Wait.{Room}
-use Rattle.lists.proofs.StateView.{view_of, lock_of, critical-owns, view_past}
+use Rattle.lists.proofs.StateView.{view_of, lock_of, critical_owns, view_past}
 use Rattle.lists.proofs.Calls.{Called, called}
-use Rattle.lists.proofs.Reached.{parameters-stand, fresh-reached, run-reached}
-use Rattle.lists.proofs.Guarded.{Guarded, fresh_guarded, call-guarded, run_guarded}
-use Rattle.lists.proofs.Progress.{waits-unless-due, due-may-act}
+use Rattle.lists.proofs.Reached.{parameters-stand, fresh_reached, run_reached}
+use Rattle.lists.proofs.Guarded.{Guarded, fresh_guarded, call_guarded, run_guarded}
+use Rattle.lists.proofs.Progress.{waits_unless_due, due_may_act}
 use Rattle.lists.proofs.Spans.{wait_within}
 
 -- The owed wait
@@ -34,7 +34,7 @@ LeavesRoom k B = (s : State) (w : ℕ) (ds : List Call) → Guarded k s → Span
 owed_within : {k : Parameters} {s : State} {B : ℕ} → LeavesRoom k B → Guarded k s → (ds : List Call) → OwedWithin B s ds
 owed_within {s = s} {B = B} room g ds before during after w e span stays =
     let g' = run_guarded before g in
-    rw (end-append call_of handed_on s before during) (wait_within B g' span stays (room (run_of s before) w during g' span))
+    rw (end_append call_of handed_on s before during) (wait_within B g' span stays (room (run_of s before) w during g' span))
 
 -- 2c + 5a leaves room, with the largest a; as a < c, even 2c + 4a would
 owed_room : {k : Parameters} → LeavesRoom k (owed_wait k)
@@ -45,7 +45,7 @@ owed_room {k} s w ds g span =
 -- One critical process
 
 pub one_critical : {k : Parameters} {s : State} → Guarded k s → OneCritical s
-one_critical g i j h l = one-owner g.inv i j (critical-owns h) (critical-owns l)
+one_critical g i j h l = one_owner g.inv i j (critical_owns h) (critical_owns l)
 
 names_the_only : {s : State} {d : Call} {o : Outcome} → Called s d o → OneCritical o.state → Accepted o → NamesTheOnly o
 names_the_only {s} {d} (Called.accepted a) one _ =
@@ -60,7 +60,7 @@ each_names : {k : Parameters} {s : State} (ds : List Call) → Guarded k s → E
 unfolding results_by
 each_names [] g = tt
 each_names {s = s} (d ∷ ds) g =
-    let g' = call-guarded d g in
+    let g' = call_guarded d g in
     (names_the_only (called s d) (one_critical g'), each_names ds g')
 
 -- The whole
@@ -75,8 +75,8 @@ every_list s fresh ds =
       owed = owed_within owed_room g ds;
       one = one_critical g';
       names = each_names ds g;
-      waits = waits-unless-due (run_of s ds) g'.reached.sound;
-      acts = due-may-act (run_of s ds) g'.reached.sound;
+      waits = waits_unless_due (run_of s ds) g'.reached.sound;
+      acts = due_may_act (run_of s ds) g'.reached.sound;
     }
 
 pub sound_is_not_enough : SoundIsNotEnough
@@ -88,4 +88,4 @@ sound_is_not_enough every =
     omega arith
 
 pub every_table_sound : EveryTableSound
-every_table_sound s fresh ds = (sound_iff_plain (run_of s ds)).1 (run-reached ds (fresh-reached fresh)).sound
+every_table_sound s fresh ds = (sound_iff_plain (run_of s ds)).1 (run_reached ds (fresh_reached fresh)).sound

@@ -44,8 +44,8 @@ fresh_inv f = record {
 -- What they tell
 
 module _ {L : Lock} {x : View} (inv : Inv L x) where
-  pub one-owner : (i j : ℕ) → Owns x i → Owns x j → i ≡ j
-  one-owner i j h k = omega (arith, inv.owner i h, inv.owner j k)
+  pub one_owner : (i j : ℕ) → Owns x i → Owns x j → i ≡ j
+  one_owner i j h k = omega (arith, inv.owner i h, inv.owner j k)
 
   pub from_one : (i : ℕ) → x.rank i ≢ at_remainder → 0 < i
   from_one zero h = absurd (h inv.nobody)
@@ -61,21 +61,21 @@ module _ {L : Lock} {x y : View} {act p m : ℕ} (move : Move x y act p m) (inv 
   goes = move.goes
 
   -- only an owner resets the word
-  pub other-word-stays : x.rank p ≢ at_setting → (i : ℕ) → i ≢ p → x.word ≡ i → y.word ≡ i
-  other-word-stays h i n e = goes.word-stays h (λ r. n (omega (arith, inv.owner p (omega arith)))) ∙ e
+  pub other_word_stays : x.rank p ≢ at_setting → (i : ℕ) → i ≢ p → x.word ≡ i → y.word ≡ i
+  other_word_stays h i n e = goes.word_stays h (λ r. n (omega (arith, inv.owner p (omega arith)))) ∙ e
 
   -- who comes to own the word had set it
-  own-before : Owns y p → x.word ≡ p
-  own-before h =
-      let r = comes.to-own h in
+  own_before : Owns y p → x.word ≡ p
+  own_before h =
+      let r = comes.to_own h in
       if_eq (x.rank p) at_checking
-      (λ e. if_eq x.word p (λ f. f) (λ n. omega (arith, goes.check-other e n)))
+      (λ e. if_eq x.word p (λ f. f) (λ n. omega (arith, goes.check_other e n)))
       (λ n. inv.owner p (omega arith))
 
   module _ (apart : L.a < L.b) (kept : Kept L x p m) where
     -- who sets the word arrives at its check after all who are setting then, and a < b; nobody joins these while the word is taken
-    delay-kept : Delay L y
-    delay-kept = split move
+    delay_kept : Delay L y
+    delay_kept = split move
         (split move
         (λ e f g. omega arith)
         (λ j n s e f g. omega (arith, move.past j, comes.arrival (omega arith) (omega arith))))
@@ -84,38 +84,38 @@ module _ {L : Lock} {x y : View} {act p m : ℕ} (move : Move x y act p m) (inv 
         (λ j o u e f g.
         omega (arith, inv.delay i j (comes.other_word i n (from_one inv i (omega arith)) e) (omega arith) (omega arith))))
 
-    owner-kept : Owner y
-    owner-kept = split move
-        (λ h. omega (arith, own-before h, comes.to-own h))
-        (λ i n s h. other-word-stays (λ e. inv.unset i p (omega arith) (omega arith)) i n (inv.owner i (omega arith)))
+    owner_kept : Owner y
+    owner_kept = split move
+        (λ h. omega (arith, own_before h, comes.to_own h))
+        (λ i n s h. other_word_stays (λ e. inv.unset i p (omega arith) (omega arith)) i n (inv.owner i (omega arith)))
 
     -- at a check that finds its own word, who was setting would be late
-    unset-kept : Unset y
-    unset-kept = split move
+    unset_kept : Unset y
+    unset_kept = split move
         (split move
         (λ h g. omega arith)
-        (λ j n s h g. let r = comes.to-own h in
+        (λ j n s h g. let r = comes.to_own h in
         if_eq (x.rank p) at_checking
-        (λ e. omega (arith, kept.released e, kept.timely.short j (omega arith), inv.delay p j (own-before h) e (omega arith)))
+        (λ e. omega (arith, kept.released e, kept.timely.short j (omega arith), inv.delay p j (own_before h) e (omega arith)))
         (λ o. inv.unset p j (omega arith) (omega arith))))
         (λ i n s. split move
         (λ h g. omega (arith, comes.to_set g, from_one inv i (omega arith), inv.owner i (omega arith)))
         (λ j o u h g. inv.unset i j (omega arith) (omega arith)))
 
-    named-kept : Named y
-    named-kept = split move
+    named_kept : Named y
+    named_kept = split move
         (λ e h. if_eq (y.rank p) at_checking (λ f. omega arith)
-        (λ n. let w = comes.own-word e n in let r = inv.named p w h in
+        (λ n. let w = comes.own_word e n in let r = inv.named p w h in
         if_eq (x.rank p) at_resetting
         (λ f. omega (arith, goes.reset f))
         (λ o. omega (arith, goes.own_on w r.0 (omega arith)))))
         (λ i n s e h. omega (arith, inv.named i (comes.other_word i n h e) h))
 
-    pub move-inv : Inv L y
-    move-inv = record {
+    pub move_inv : Inv L y
+    move_inv = record {
       nobody = move.nobody;
-      delay = delay-kept;
-      owner = owner-kept;
-      unset = unset-kept;
-      named = named-kept;
+      delay = delay_kept;
+      owner = owner_kept;
+      unset = unset_kept;
+      named = named_kept;
     }

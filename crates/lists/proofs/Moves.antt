@@ -13,7 +13,7 @@ use Rattle.theory.specs.Acceptance.{From, Effect, Waits, Acts, Allowed, Changed}
 use Rattle.theory.proofs.Rows.{from_ready}
 use Rattle.lists.proofs.Ranks.{at_checking, at_entering, rank_of}
 use Rattle.lists.proofs.View.{View, Same, Comes, Goes, Move, Kept}
-use Rattle.lists.proofs.StateView.{location_of, view_of, lock_of, location-of, view_past, view-timely}
+use Rattle.lists.proofs.StateView.{location_of, view_of, lock_of, location-of, view_past, view_timely}
 
 -- The acts table
 
@@ -50,11 +50,11 @@ record Turn (x y : View) (act p m : ℕ) : Type 0 where
 effect_turn : {x y : View} {b m act p w w' : ℕ} {k l : Location} → From b m act k → Effect p m act w l w' → Leads x y p k w l w'
     → Turn x y act p m
 effect_turn From.try Effect.try h = omega arith
-effect_turn From.test Effect.test-free h = omega arith
-effect_turn From.test (Effect.test-taken n) h = omega arith
+effect_turn From.test Effect.test_free h = omega arith
+effect_turn From.test (Effect.test_taken n) h = omega arith
 effect_turn From.set Effect.set h = omega arith
-effect_turn (From.check _) Effect.check-own h = omega arith
-effect_turn (From.check _) (Effect.check-other n) h = omega arith
+effect_turn (From.check _) Effect.check_own h = omega arith
+effect_turn (From.check _) (Effect.check_other n) h = omega arith
 effect_turn From.crit Effect.crit h = omega arith
 effect_turn From.exit Effect.exit h = omega arith
 effect_turn From.reset Effect.reset h = omega arith
@@ -64,23 +64,23 @@ effect_turn From.withdraw Effect.withdraw h = omega arith
 -- The limits
 
 module _ {s : State} {act p m : ℕ} (allowed : Allowed s act p m) where
-  act-left : Left s.parameters.b m act (location_of s p)
-  act-left = ⊎_elim
+  act_left : Left s.parameters.b m act (location_of s p)
+  act_left = ⊎_elim
       (λ w. rw w.nobody (omega arith))
       (λ a. rw (location-of s p a.some) (from_left a.from))
       allowed.turn
 
-  pub limits-kept : Sound s → Kept (lock_of s.parameters) (view_of s) p m
-  limits-kept sound = record { timely = view-timely sound allowed.in-time; released = act-left.released }
+  pub limits_kept : Sound s → Kept (lock_of s.parameters) (view_of s) p m
+  limits_kept sound = record { timely = view_timely sound allowed.in-time; released = act_left.released }
 
 -- The move
 
 module _ {s s' : State} {act p m : ℕ} (sound : Sound s) (allowed : Allowed s act p m) (changed : Changed s act p m s') where
-  wait-turn : Waits act p → Turn (view_of s) (view_of s') act p m
-  wait-turn w = let e = changed.wait-keeps w.wait in rw w.nobody (omega arith)
+  wait_turn : Waits act p → Turn (view_of s) (view_of s') act p m
+  wait_turn w = let e = changed.wait_keeps w.wait in rw w.nobody (omega arith)
 
-  act-turn : Acts s act p m → Turn (view_of s) (view_of s') act p m
-  act-turn a = effect_turn a.from (changed.effect (from_ready a.from).not-wait) (record {
+  act_turn : Acts s act p m → Turn (view_of s) (view_of s') act p m
+  act_turn a = effect_turn a.from (changed.effect (from_ready a.from).not_wait) (record {
     some = a.some;
     leaves = ap rank_of (location-of s p a.some);
     finds = refl;
@@ -90,22 +90,22 @@ module _ {s s' : State} {act p m : ℕ} (sound : Sound s) (allowed : Allowed s a
   })
 
   turn : Turn (view_of s) (view_of s') act p m
-  turn = ⊎_elim wait-turn act-turn allowed.turn
+  turn = ⊎_elim wait_turn act_turn allowed.turn
 
   others_same : (j : ℕ) → j ≢ p → Same (view_of s) (view_of s') j
   others_same zero n = omega arith
   others_same (suc j) n =
-      let e = changed.others-stay (suc j) (omega arith) n in
+      let e = changed.others_stay (suc j) (omega arith) n in
       record { rank = ap (λ (q : Process). rank_of q.location) e; since = ap (λ (q : Process). since_of q.location) e }
 
-  pub view-moves : Move (view_of s) (view_of s') act p m
-  view-moves = record {
+  pub view_moves : Move (view_of s) (view_of s') act p m
+  view_moves = record {
     forward = allowed.forward;
-    clock-is = changed.clock-is;
+    clock_is = changed.clock_is;
     past = view_past sound;
     comes = turn.comes;
     goes = turn.goes;
     others = others_same;
     nobody = refl;
-    is-crit = (act-left allowed).crit;
+    is_crit = (act_left allowed).crit;
   }

@@ -29,8 +29,8 @@ module _ (s : State) (sound : Sound s) where
   allowed : (act p m : ℕ) → Accepted (step_of s act p m) ↔ Allowed s act p m
   allowed = accepted_iff_allowed s ((sound_iff_plain s).1 sound)
 
-  pub waits-unless-due : WaitsUnlessDue s
-  waits-unless-due below = (
+  pub waits_unless_due : WaitsUnlessDue s
+  waits_unless_due below = (
     λ a i h. omega (arith, ((allowed wait_act 0 (s.clock + 1)).0 a).in-time i s.clock h),
     λ none. (allowed wait_act 0 (s.clock + 1)).1 (record {
       forward = omega arith;
@@ -43,11 +43,11 @@ module _ (s : State) (sound : Sound s) where
   )
 
   -- above n all are in remainder, which has no deadline
-  deadline-most : (i d : ℕ) → HasDeadline s i d → i ≤ s.parameters.n
-  deadline-most i d h = if_lt s.parameters.n i (λ k. elim (rw (sound.above i k) at h.is) [ ]) (λ k. k)
+  deadline_most : (i d : ℕ) → HasDeadline s i d → i ≤ s.parameters.n
+  deadline_most i d h = if_lt s.parameters.n i (λ k. elim (rw (sound.above i k) at h.is) [ ]) (λ k. k)
 
-  pub due-may-act : DueMayAct s
-  due-may-act i h =
+  pub due_may_act : DueMayAct s
+  due_may_act i h =
       let due = due-from sound.parameters.limits.order h.is in (
         due.0,
         due.1,
@@ -55,6 +55,6 @@ module _ (s : State) (sound : Sound s) where
           forward = omega arith;
           within = sound.clock;
           in-time = sound.in-time;
-          turn = inr (record { some = h.from; most = deadline-most i s.clock h; from = due.2 });
+          turn = inr (record { some = h.from; most = deadline_most i s.clock h; from = due.2 });
         }),
       )

@@ -14,8 +14,8 @@ use Rattle.theory.specs.Soundness.{ParametersStand, Sound, Fresh}
 use Rattle.theory.specs.Acceptance.{Allowed, Changed}
 use Rattle.theory.proofs.Soundness.{sound_iff_plain, fresh_is_plain}
 use Rattle.theory.proofs.Acceptance.{accepted_iff_allowed, next_is_changed}
-use Rattle.theory.proofs.StaysSound.{stays-sound}
-use Rattle.lists.proofs.Calls.{run-keeps}
+use Rattle.theory.proofs.StaysSound.{stays_sound}
+use Rattle.lists.proofs.Calls.{run_keeps}
 use Rattle.lists.proofs.Sizes.{Whole}
 
 -- of the table s, which was fresh with the parameters k
@@ -30,14 +30,14 @@ parameters-stand r = subst ParametersStand r.parameters r.sound.parameters
 -- The start
 
 module _ {s : State} (fresh : IsFresh s) where
-  pub fresh-plain : Fresh fresh.parameters s
-  fresh-plain = rw fresh.is ((fresh_is_plain fresh.parameters).fresh fresh.accepted)
+  pub fresh_plain : Fresh fresh.parameters s
+  fresh_plain = rw fresh.is ((fresh_is_plain fresh.parameters).fresh fresh.accepted)
 
-  fresh-sound : sound_of s ≡ true
-  fresh-sound = rw fresh.is ((fresh_is_plain fresh.parameters).sound fresh.accepted)
+  fresh_sound : sound_of s ≡ true
+  fresh_sound = rw fresh.is ((fresh_is_plain fresh.parameters).sound fresh.accepted)
 
-  pub fresh-reached : Reached s.parameters s
-  fresh-reached = record { parameters = refl; size = fresh-plain.size; sound = (sound_iff_plain s).0 fresh-sound }
+  pub fresh_reached : Reached s.parameters s
+  fresh_reached = record { parameters = refl; size = fresh_plain.size; sound = (sound_iff_plain s).0 fresh_sound }
 
 -- An accepted step
 
@@ -47,21 +47,21 @@ pub record Step (s : State) (act p m : ℕ) (s' : State) : Type 0 where
   pub changed : Changed s act p m s'
 
 module _ {k : Parameters} {s : State} {act p m : ℕ} (r : Reached k s) where
-  pub step-tells : Accepted (step_of s act p m) → Step s act p m (step_of s act p m).state
-  step-tells a = record {
+  pub step_tells : Accepted (step_of s act p m) → Step s act p m (step_of s act p m).state
+  step_tells a = record {
     allowed = (accepted_iff_allowed s ((sound_iff_plain s).1 r.sound) act p m).0 a;
     changed = next_is_changed s r.size act p m a;
   }
 
-  pub step-reached : {s' : State} → Step s act p m s' → Reached k s'
-  step-reached step = record {
-    parameters = step.changed.parameters-stay ∙ r.parameters;
-    size = step.changed.size-stays ∙ r.size;
-    sound = stays-sound r.sound step.allowed step.changed;
+  pub step_reached : {s' : State} → Step s act p m s' → Reached k s'
+  step_reached step = record {
+    parameters = step.changed.parameters_stay ∙ r.parameters;
+    size = step.changed.size_stays ∙ r.size;
+    sound = stays_sound r.sound step.allowed step.changed;
   }
 
 -- Calls
 
 module _ {k : Parameters} {s : State} where
-  pub run-reached : (ds : List Call) → Reached k s → Reached k (run_of s ds)
-  run-reached = run-keeps (Reached k) (λ t act p m a r. step-reached r (step-tells r a))
+  pub run_reached : (ds : List Call) → Reached k s → Reached k (run_of s ds)
+  run_reached = run_keeps (Reached k) (λ t act p m a r. step_reached r (step_tells r a))

@@ -41,16 +41,16 @@ location-of s zero h = absurd (omega arith)
 location-of s (suc i) h = refl
 
 pub fresh_view : {k : Parameters} {s : State} → Fresh k s → FreshView (view_of s)
-fresh_view f = record { word = f.word-is; all = λ j. elim j [ zero ↦ refl | suc i ↦ ap rank_of (f.all (suc i)) ] }
+fresh_view f = record { word = f.word_is; all = λ j. elim j [ zero ↦ refl | suc i ↦ ap rank_of (f.all (suc i)) ] }
 
 -- Places
 
 module _ {s : State} {i : ℕ} where
-  pub critical-owns : IsCritical s i → Owns (view_of s) i
-  critical-owns h = omega (arith, ap rank_of (location-of s i h.from ∙ h.at))
+  pub critical_owns : IsCritical s i → Owns (view_of s) i
+  critical_owns h = omega (arith, ap rank_of (location-of s i h.from ∙ h.at))
 
-  pub trying-rank : IsTrying s i → (at_testing ≤ (view_of s).rank i) × ((view_of s).rank i ≤ at_entering)
-  trying-rank h = omega (arith, ap rank_of (location-of s i h.from), trying_between (entry_of s i).location h.at)
+  pub trying_rank : IsTrying s i → (at_testing ≤ (view_of s).rank i) × ((view_of s).rank i ≤ at_entering)
+  trying_rank h = omega (arith, ap rank_of (location-of s i h.from), trying_between (entry_of s i).location h.at)
 
 pub none_critical : {s : State} → ((i : ℕ) → IsCritical s i → ⊥) → (i : ℕ) → (view_of s).rank i ≢ at_critical
 none_critical h zero e = omega arith
@@ -63,13 +63,13 @@ view_past sound zero = omega arith
 view_past {s} sound (suc j) = (past_iff s.clock (location_of s (suc j))).1 (sound.past (suc j))
 
 module _ {s : State} {m : ℕ} (sound : Sound s) (h : AllInTime s m) where
-  process-in-time : (j : ℕ) → InTime (largest_limit s.parameters) s.parameters.c m (location_of s j)
-  process-in-time zero = omega arith
-  process-in-time (suc j) = later (largest_bounds s.parameters sound.parameters (suc j) (omega arith))
+  process_in_time : (j : ℕ) → InTime (largest_limit s.parameters) s.parameters.c m (location_of s j)
+  process_in_time zero = omega arith
+  process_in_time (suc j) = later (largest_bounds s.parameters sound.parameters (suc j) (omega arith))
       (in-time (location_of s (suc j)) (λ d k. h (suc j) d (record { from = omega arith; is = k })))
 
-  pub view-timely : Timely (lock_of s.parameters) (view_of s) m
-  view-timely = record {
-    short = λ j k. (process-in-time j).short k.not_remainder k.not-checking k.not_critical;
-    long = λ j k. (process-in-time j).long k.at;
+  pub view_timely : Timely (lock_of s.parameters) (view_of s) m
+  view_timely = record {
+    short = λ j k. (process_in_time j).short k.not_remainder k.not_checking k.not_critical;
+    long = λ j k. (process_in_time j).long k.at;
   }

@@ -48,7 +48,7 @@ pub record Checks (x : View) (j : ℕ) : Type 0 where
 -- its deadline is at most a after its arrival
 pub record Short (x : View) (j : ℕ) : Type 0 where
   pub not_remainder : x.rank j ≢ at_remainder
-  pub not-checking : x.rank j ≢ at_checking
+  pub not_checking : x.rank j ≢ at_checking
   pub not_critical : x.rank j ≢ at_critical
 
 -- Moves
@@ -61,32 +61,32 @@ pub record Same (x y : View) (j : ℕ) : Type 0 where
 -- what an act of process p at the time m tells, by where p comes to in y and by the word in y
 pub record Comes (x y : View) (p m : ℕ) : Type 0 where
   pub to_set : Sets y p → (x.rank p ≡ at_testing) × (x.word ≡ 0) × (y.word ≡ 0)
-  pub to-own : Owns y p → (at_checking ≤ x.rank p) × (x.rank p ≤ at_critical) × (y.word ≡ x.word)
+  pub to_own : Owns y p → (at_checking ≤ x.rank p) × (x.rank p ≤ at_critical) × (y.word ≡ x.word)
   pub arrival : y.rank p ≢ at_remainder → y.rank p ≢ at_critical → y.since p ≡ m
-  pub own-word : y.word ≡ p → y.rank p ≢ at_checking → x.word ≡ p
+  pub own_word : y.word ≡ p → y.rank p ≢ at_checking → x.word ≡ p
   pub other_word : (k : ℕ) → k ≢ p → 0 < k → y.word ≡ k → x.word ≡ k
 
 -- what it makes of p and of the word, by where p is in x; from testing a withdraw leads out of the line
 pub record Goes (x y : View) (act p : ℕ) : Type 0 where
-  pub test-free : act ≢ withdraw_act → x.rank p ≡ at_testing → x.word ≡ 0 → y.rank p ≡ at_setting
-  pub test-taken : act ≢ withdraw_act → x.rank p ≡ at_testing → x.word ≢ 0 → y.rank p ≡ at_testing
+  pub test_free : act ≢ withdraw_act → x.rank p ≡ at_testing → x.word ≡ 0 → y.rank p ≡ at_setting
+  pub test_taken : act ≢ withdraw_act → x.rank p ≡ at_testing → x.word ≢ 0 → y.rank p ≡ at_testing
   pub set : x.rank p ≡ at_setting → (y.rank p ≡ at_checking) × (y.word ≡ p)
-  pub check-own : x.rank p ≡ at_checking → x.word ≡ p → y.rank p ≡ at_entering
-  pub check-other : x.rank p ≡ at_checking → x.word ≢ p → y.rank p ≡ at_testing
+  pub check_own : x.rank p ≡ at_checking → x.word ≡ p → y.rank p ≡ at_entering
+  pub check_other : x.rank p ≡ at_checking → x.word ≢ p → y.rank p ≡ at_testing
   pub own_on : x.word ≡ p → at_checking ≤ x.rank p → x.rank p ≤ at_critical → (x.rank p < y.rank p) × (y.rank p ≤ at_resetting)
   pub reset : x.rank p ≡ at_resetting → (y.rank p ≡ at_leaving) × (y.word ≡ 0)
-  pub word-stays : x.rank p ≢ at_setting → x.rank p ≢ at_resetting → y.word ≡ x.word
+  pub word_stays : x.rank p ≢ at_setting → x.rank p ≢ at_resetting → y.word ≡ x.word
 
 -- an accepted act of process p at the time m; a wait is one of 0, which stays in remainder
 pub record Move (x y : View) (act p m : ℕ) : Type 0 where
   pub forward : x.clock ≤ m
-  pub clock-is : y.clock ≡ m
+  pub clock_is : y.clock ≡ m
   pub past : (j : ℕ) → x.since j ≤ x.clock
   pub comes : Comes x y p m
   pub goes : Goes x y act p
   pub others : (j : ℕ) → j ≢ p → Same x y j
   pub nobody : y.rank 0 ≡ at_remainder
-  pub is-crit : x.rank p ≡ at_entering → act ≡ crit_act
+  pub is_crit : x.rank p ≡ at_entering → act ≡ crit_act
 
 -- of every process: of the one that acts, and of one that does not
 pub split : {x y : View} {act p m : ℕ} → Move x y act p m → {P : ℕ → Type 0}

@@ -8,7 +8,7 @@ use Rattle.model.specs.Acts.{withdraw_act}
 use Rattle.model.proofs.Tests.{if_eq, if_lt}
 use Rattle.lists.proofs.Ranks.{at_testing, at_setting, at_checking, at_entering, at_critical, at_resetting}
 use Rattle.lists.proofs.View.{Lock, View, Owns, Sets, Same, Comes, Goes, Move, Timely, Kept, split}
-use Rattle.lists.proofs.Exclusion.{Inv, from_one, other-word-stays}
+use Rattle.lists.proofs.Exclusion.{Inv, from_one, other_word_stays}
 
 -- The phases
 -- Once the word is set, those who are setting follow within a; the last of them checks within c and is critical within the tail. Each
@@ -48,7 +48,7 @@ pub record Resets (L : Lock) (w W : ℕ) (x : View) (k : ℕ) : Type 0 where
   pub at : x.rank k ≡ at_resetting
   pub left : x.since k + 4 * L.a + L.c + L.tail ≤ W
   pub waiting : Waiting L w W x
-  pub not-setting : x.rank w ≢ at_setting
+  pub not_setting : x.rank w ≢ at_setting
 
 pub data Phase (L : Lock) (w W : ℕ) (x : View) : Type 0 where
   ahead : (k : ℕ) → Ahead L W x k → Phase L w W x
@@ -61,65 +61,65 @@ pub data Phase (L : Lock) (w W : ℕ) (x : View) : Type 0 where
 -- what is asked of a bound B: time for a reset and all that follows, and for a check of w that is to fail
 pub record Room (L : Lock) (x : View) (w B : ℕ) : Type 0 where
   pub reset : 4 * L.a + L.c + L.tail ≤ B
-  pub check-free : x.word ≡ 0 → x.rank w ≡ at_checking → x.since w + 3 * L.a + 2 * L.c + L.tail ≤ x.clock + B
-  pub check-owned : (k : ℕ) → Owns x k → x.rank w ≡ at_checking → x.since w + 3 * L.a + 2 * L.c + L.tail ≤ x.clock + B
+  pub check_free : x.word ≡ 0 → x.rank w ≡ at_checking → x.since w + 3 * L.a + 2 * L.c + L.tail ≤ x.clock + B
+  pub check_owned : (k : ℕ) → Owns x k → x.rank w ≡ at_checking → x.since w + 3 * L.a + 2 * L.c + L.tail ≤ x.clock + B
 
 module _ {L : Lock} {x : View} (inv : Inv L x) (past : (j : ℕ) → x.since j ≤ x.clock) (w B : ℕ) (room : Room L x w B)
     (low : at_testing ≤ x.rank w) (high : x.rank w ≤ at_entering) (none : (i : ℕ) → x.rank i ≢ at_critical) where
-  not-entering : (k : ℕ) → x.word ≡ k → k ≢ w → x.rank w ≤ at_checking
-  not-entering k e n = if_lt at_checking (x.rank w) (λ h. absurd (n (omega (arith, inv.owner w (omega arith))))) (λ h. h)
+  not_entering : (k : ℕ) → x.word ≡ k → k ≢ w → x.rank w ≤ at_checking
+  not_entering k e n = if_lt at_checking (x.rank w) (λ h. absurd (n (omega (arith, inv.owner w (omega arith))))) (λ h. h)
 
-  start-free : x.word ≡ 0 → Free L w (x.clock + B) x
-  start-free e = record {
+  start_free : x.word ≡ 0 → Free L w (x.clock + B) x
+  start_free e = record {
     word = e;
     waiting = record {
       low = low;
-      high = not-entering 0 e (omega (arith, from_one inv w (omega arith)));
-      checks = room.check-free e;
+      high = not_entering 0 e (omega (arith, from_one inv w (omega arith)));
+      checks = room.check_free e;
     };
     tests = λ f. omega (arith, past w);
     sets = λ f. omega (arith, past w);
   }
 
-  start-taken : (k : ℕ) → x.word ≡ k → x.rank k ≡ at_checking → Taken L (x.clock + B) x k
-  start-taken k e f = record { word = e; at = f; left = omega (arith, past k); setters = λ j g. omega (arith, past j) }
+  start_taken : (k : ℕ) → x.word ≡ k → x.rank k ≡ at_checking → Taken L (x.clock + B) x k
+  start_taken k e f = record { word = e; at = f; left = omega (arith, past k); setters = λ j g. omega (arith, past j) }
 
-  start-resets : (k : ℕ) → x.word ≡ k → x.rank k ≡ at_resetting → Resets L w (x.clock + B) x k
-  start-resets k e f = record {
+  start_resets : (k : ℕ) → x.word ≡ k → x.rank k ≡ at_resetting → Resets L w (x.clock + B) x k
+  start_resets k e f = record {
     at = f;
     left = omega (arith, past k);
     waiting = record {
       low = low;
-      high = not-entering k e (λ z. omega (arith, ap x.rank z));
-      checks = room.check-owned k (omega arith);
+      high = not_entering k e (λ z. omega (arith, ap x.rank z));
+      checks = room.check_owned k (omega arith);
     };
-    not-setting = λ g. inv.unset k w (omega arith) (omega arith);
+    not_setting = λ g. inv.unset k w (omega arith) (omega arith);
   }
 
-  start-named : (k : ℕ) → x.word ≡ k → 0 < k → Phase L w (x.clock + B) x
-  start-named k e h =
+  start_named : (k : ℕ) → x.word ≡ k → 0 < k → Phase L w (x.clock + B) x
+  start_named k e h =
       let r = inv.named k e h in
-      if_eq (x.rank k) at_checking (λ f. taken k (start-taken k e f))
-      (λ n. if_eq (x.rank k) at_resetting (λ f. resets k (start-resets k e f))
+      if_eq (x.rank k) at_checking (λ f. taken k (start_taken k e f))
+      (λ n. if_eq (x.rank k) at_resetting (λ f. resets k (start_resets k e f))
       (λ o. ahead k (omega (arith, none k, past k))))
 
-  pub phase-start : Phase L w (x.clock + B) x
-  phase-start = if_eq x.word 0 (λ e. free (start-free e)) (λ n. start-named x.word refl (omega arith))
+  pub phase_start : Phase L w (x.clock + B) x
+  phase_start = if_eq x.word 0 (λ e. free (start_free e)) (λ n. start_named x.word refl (omega arith))
 
 -- A phase bounds the time
 
 module _ {L : Lock} {w W m : ℕ} {x : View} (t : Timely L x m) where
-  free-time : Free L w W x → m + L.a + L.c + L.tail ≤ W
-  free-time f = if_eq (x.rank w) at_checking
+  free_time : Free L w W x → m + L.a + L.c + L.tail ≤ W
+  free_time f = if_eq (x.rank w) at_checking
       (λ e. omega (arith, f.waiting.checks e, t.long w (omega arith)))
       (λ n. let h = t.short w (omega arith) in
       if_eq (x.rank w) at_testing (λ e. omega (arith, f.tests e)) (λ o. omega (arith, f.sets (omega arith))))
 
-  pub phase-time : Phase L w W x → m ≤ W
-  phase-time (ahead k h) = omega (arith, t.short k (omega arith))
-  phase-time (taken k h) = omega (arith, t.long k (omega arith))
-  phase-time (free h) = omega (arith, free-time h)
-  phase-time (resets k h) = omega (arith, t.short k (omega arith))
+  pub phase_time : Phase L w W x → m ≤ W
+  phase_time (ahead k h) = omega (arith, t.short k (omega arith))
+  phase_time (taken k h) = omega (arith, t.long k (omega arith))
+  phase_time (free h) = omega (arith, free_time h)
+  phase_time (resets k h) = omega (arith, t.short k (omega arith))
 
 -- An act other than a crit, and other than a withdraw of w, leads from a phase to a phase
 
@@ -133,13 +133,13 @@ module _ {L : Lock} (tail : L.a ≤ L.tail) {x y : View} {act p m : ℕ} (move :
 
   -- from `ahead`
 
-  from-ahead : x.rank p ≢ at_entering → (k : ℕ) → Ahead L W x k → Phase L w W y
-  from-ahead n = split move (λ h. absurd (n h.at)) (λ k o s h. ahead k (omega arith))
+  from_ahead : x.rank p ≢ at_entering → (k : ℕ) → Ahead L W x k → Phase L w W y
+  from_ahead n = split move (λ h. absurd (n h.at)) (λ k o s h. ahead k (omega arith))
 
   -- from `taken`
 
-  set-taken : x.rank p ≡ at_setting → m + L.c + L.tail ≤ W → Setters L W x → Taken L W y p
-  set-taken e h g =
+  set_taken : x.rank p ≡ at_setting → m + L.c + L.tail ≤ W → Setters L W x → Taken L W y p
+  set_taken e h g =
       let r = goes.set e in
       let t = comes.arrival (omega arith) (omega arith) in
       record {
@@ -149,28 +149,28 @@ module _ {L : Lock} (tail : L.a ≤ L.tail) {x y : View} {act p m : ℕ} (move :
         setters = split move (λ s. omega arith) (λ j n u s. omega (arith, g j (omega arith)));
       }
 
-  check-ahead : Taken L W x p → Ahead L W y p
-  check-ahead h =
-      let r = goes.check-own h.at h.word in
+  check_ahead : Taken L W x p → Ahead L W y p
+  check_ahead h =
+      let r = goes.check_own h.at h.word in
       omega (arith, comes.arrival (omega arith) (omega arith), kept.timely.long p (omega arith))
 
   -- while the word is taken nobody comes to set it
-  taken-stays : (k : ℕ) → k ≢ p → Same x y k → x.rank p ≢ at_setting → Taken L W x k → Taken L W y k
-  taken-stays k n s q h =
+  taken_stays : (k : ℕ) → k ≢ p → Same x y k → x.rank p ≢ at_setting → Taken L W x k → Taken L W y k
+  taken_stays k n s q h =
       let z = from_one inv k (omega arith) in
       record {
-        word = other-word-stays move inv q k n h.word;
+        word = other_word_stays move inv q k n h.word;
         at = omega arith;
         left = omega arith;
         setters = split move (λ g. omega (arith, comes.to_set g)) (λ j o u g. omega (arith, h.setters j (omega arith)));
       }
 
-  from-taken : (k : ℕ) → Taken L W x k → Phase L w W y
-  from-taken = split move
-      (λ h. ahead p (check-ahead h))
+  from_taken : (k : ℕ) → Taken L W x k → Phase L w W y
+  from_taken = split move
+      (λ h. ahead p (check_ahead h))
       (λ k n s h. if_eq (x.rank p) at_setting
-      (λ q. taken p (set-taken q (omega (arith, h.setters p (omega arith), kept.timely.short p (omega arith))) h.setters))
-      (λ q. taken k (taken-stays k n s q h)))
+      (λ q. taken p (set_taken q (omega (arith, h.setters p (omega arith), kept.timely.short p (omega arith))) h.setters))
+      (λ q. taken k (taken_stays k n s q h)))
 
   -- where w acts, and where it does not
 
@@ -190,56 +190,56 @@ module _ {L : Lock} (tail : L.a ≤ L.tail) {x y : View} {act p m : ℕ} (move :
 
   -- from `free`
 
-  word-free : x.rank p ≢ at_setting → Free L w W x → y.word ≡ 0
-  word-free q h = if_eq (x.rank p) at_resetting
+  word_free : x.rank p ≢ at_setting → Free L w W x → y.word ≡ 0
+  word_free q h = if_eq (x.rank p) at_resetting
       (λ r. omega (arith, goes.reset r))
-      (λ r. omega (arith, goes.word-stays q r))
+      (λ r. omega (arith, goes.word_stays q r))
 
-  test-free : w ≡ p → x.rank w ≡ at_testing → Free L w W x → Free L w W y
-  test-free z e h =
+  test_free : w ≡ p → x.rank w ≡ at_testing → Free L w W x → Free L w W y
+  test_free z e h =
       let o = own z in
-      let g = goes.test-free (stays z) (omega arith) h.word in
+      let g = goes.test_free (stays z) (omega arith) h.word in
       let t = comes.arrival (omega arith) (omega arith) in
       let v = kept.timely.short p (omega arith) in
-      let f = word-free (omega arith) h in
+      let f = word_free (omega arith) h in
       record { word = f; waiting = omega arith; tests = λ r. omega arith; sets = λ r. omega (arith, h.tests e) }
 
-  check-free : w ≡ p → x.rank w ≡ at_checking → Free L w W x → Free L w W y
-  check-free z e h =
+  check_free : w ≡ p → x.rank w ≡ at_checking → Free L w W x → Free L w W y
+  check_free z e h =
       let o = own z in
-      let g = goes.check-other (omega arith) (omega (arith, from_one inv p (omega arith))) in
+      let g = goes.check_other (omega arith) (omega (arith, from_one inv p (omega arith))) in
       let t = comes.arrival (omega arith) (omega arith) in
       let v = kept.timely.long p (omega arith) in
-      let f = word-free (omega arith) h in
+      let f = word_free (omega arith) h in
       record { word = f; waiting = omega arith; tests = λ r. omega (arith, h.waiting.checks e); sets = λ r. omega arith }
 
-  stays-free : w ≢ p → x.rank p ≢ at_setting → Free L w W x → Free L w W y
-  stays-free z q h =
+  stays_free : w ≢ p → x.rank p ≢ at_setting → Free L w W x → Free L w W y
+  stays_free z q h =
       let s = move.others w z in
       record {
-        word = word-free q h;
+        word = word_free q h;
         waiting = waiting_stays z h.waiting;
         tests = λ r. omega (arith, h.tests (omega arith));
         sets = λ r. omega (arith, h.sets (omega arith));
       }
 
-  from-free : x.rank p ≢ at_setting → Free L w W x → Free L w W y
-  from-free q h = if_eq w p
+  from_free : x.rank p ≢ at_setting → Free L w W x → Free L w W y
+  from_free q h = if_eq w p
       (λ z. let o = own z in if_eq (x.rank w) at_testing
-      (λ e. test-free z e h)
-      (λ n. check-free z (omega arith) h))
-      (λ z. stays-free z q h)
+      (λ e. test_free z e h)
+      (λ n. check_free z (omega arith) h))
+      (λ z. stays_free z q h)
 
   -- the first to set the word does so while it may be free
-  free-set : x.rank p ≡ at_setting → Free L w W x → Taken L W y p
-  free-set q h =
-      let t = free-time kept.timely h in
-      set-taken q (omega arith) (λ j s. omega (arith, move.past j))
+  free_set : x.rank p ≡ at_setting → Free L w W x → Taken L W y p
+  free_set q h =
+      let t = free_time kept.timely h in
+      set_taken q (omega arith) (λ j s. omega (arith, move.past j))
 
   -- from `resets`
 
-  reset-free : Resets L w W x p → Free L w W y
-  reset-free h =
+  reset_free : Resets L w W x p → Free L w W y
+  reset_free h =
       let n : w ≢ p = λ z. omega (arith, ap x.rank z) in
       let s = move.others w n in
       let v = kept.timely.short p (omega arith) in
@@ -251,24 +251,24 @@ module _ {L : Lock} (tail : L.a ≤ L.tail) {x y : View} {act p m : ℕ} (move :
       }
 
   -- while another process has the word, w comes from a test or a check to the next test
-  resets-stay : (k : ℕ) → k ≢ p → Same x y k → Resets L w W x k → Resets L w W y k
-  resets-stay k n s h =
+  resets_stay : (k : ℕ) → k ≢ p → Same x y k → Resets L w W x k → Resets L w W y k
+  resets_stay k n s h =
       let e = inv.owner k (omega arith) in
       let f = from_one inv k (omega arith) in
       if_eq w p
       (λ z. let o = own z in
       let g = if_eq (x.rank p) at_testing
-      (λ t. goes.test-taken (stays z) t (omega arith))
-      (λ t. goes.check-other (omega arith) (omega arith)) in
+      (λ t. goes.test_taken (stays z) t (omega arith))
+      (λ t. goes.check_other (omega arith) (omega arith)) in
       omega arith)
       (λ z. let u = move.others w z in
-      record { at = omega arith; left = omega arith; waiting = waiting_stays z h.waiting; not-setting = omega arith })
+      record { at = omega arith; left = omega arith; waiting = waiting_stays z h.waiting; not_setting = omega arith })
 
-  from-resets : (k : ℕ) → Resets L w W x k → Phase L w W y
-  from-resets = split move (λ h. free (reset-free h)) (λ k n s h. resets k (resets-stay k n s h))
+  from_resets : (k : ℕ) → Resets L w W x k → Phase L w W y
+  from_resets = split move (λ h. free (reset_free h)) (λ k n s h. resets k (resets_stay k n s h))
 
-  pub phase-step : x.rank p ≢ at_entering → Phase L w W x → Phase L w W y
-  phase-step n (ahead k h) = from-ahead n k h
-  phase-step n (taken k h) = from-taken k h
-  phase-step n (free h) = if_eq (x.rank p) at_setting (λ q. taken p (free-set q h)) (λ q. free (from-free q h))
-  phase-step n (resets k h) = from-resets k h
+  pub phase_step : x.rank p ≢ at_entering → Phase L w W x → Phase L w W y
+  phase_step n (ahead k h) = from_ahead n k h
+  phase_step n (taken k h) = from_taken k h
+  phase_step n (free h) = if_eq (x.rank p) at_setting (λ q. taken p (free_set q h)) (λ q. free (from_free q h))
+  phase_step n (resets k h) = from_resets k h

@@ -21,15 +21,15 @@ use Rattle.model.proofs.Tests.{if_eq}
 use Rattle.theory.specs.Acceptance.{ClockOnly}
 use Rattle.theory.proofs.Lowest.{accepted_tells}
 use Rattle.theory.proofs.TakenBack.{withdraw_undoes_try}
-use Rattle.lists.proofs.Calls.{accepted-call}
+use Rattle.lists.proofs.Calls.{accepted_call}
 use Rattle.lists.proofs.Demand3.{every_list}
 
 -- A try that is taken back
 
 pub calls_taken_back : CallsTakenBack
 calls_taken_back s size d e try withdraw same now a b =
-    let t = accepted-call s d a in
-    let u = accepted-call (table_of s d) e b in
+    let t = accepted_call s d a in
+    let u = accepted_call (table_of s d) e b in
     let p = d.process in
     let m = d.time in
     let steps : table_of (table_of s d) e ≡ (step_of (step_of s try_act p m).state withdraw_act p m).state =

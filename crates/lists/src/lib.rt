@@ -1,1 +1,3 @@
 // Theorems about every list of calls; this crate has no code.
+
+#![tactic(auto)]

@@ -4,56 +4,56 @@ use lib.IntN.{neg_ℤ-neg_ℤ, +ℤ_idr}
 use lib.Signed.{≤ℤ_refl}
 use Rattle.local_log.specs.declared.Comparison.{Comparison}
 use Rattle.local_log.specs.Comparisons.{Entry, Within, SameActions, AllNear, Serves, Least}
-use Rattle.local_log.specs.Comparisons.{Compared, past-bounds, other-actions, no_shift, agree}
+use Rattle.local_log.specs.Comparisons.{Compared, past_bounds, other_actions, no_shift, agree}
 use Rattle.local_log.specs.Answers.{AnsweredExactly, RefusedWithout, NoEntries, ClockOff, Wider, OtherWayRound}
-use Rattle.local_log.proofs.Orders.{≤ℤ-antisym, ≤ℤ-trans, neg_below, near_apart, near-looser, near-round, neg_order, pos_order}
+use Rattle.local_log.proofs.Orders.{≤ℤ-antisym, ≤ℤ-trans, neg_below, near_apart, near_looser, near_round, neg_order, pos_order}
 
 -- [13.65]
 pub answered_exactly : AnsweredExactly
-answered_exactly d e xs ys r (past-bounds n) = record {
+answered_exactly d e xs ys r (past_bounds n) = record {
   agree = (λ k. absurd (omega arith), λ k. absurd (n k.0));
-  past-bounds = (λ k. n, λ k. refl);
-  other-actions = (λ k. absurd (omega arith), λ k. absurd (n k.0));
+  past_bounds = (λ k. n, λ k. refl);
+  other_actions = (λ k. absurd (omega arith), λ k. absurd (n k.0));
   no_shift = (λ k. absurd (omega arith), λ k. absurd (n k.0));
 }
-answered_exactly d e xs ys r (other-actions w n) = record {
+answered_exactly d e xs ys r (other_actions w n) = record {
   agree = (λ k. absurd (omega arith), λ k. absurd (n k.1));
-  past-bounds = (λ k. absurd (omega arith), λ k. absurd (k w));
-  other-actions = (λ k. (w, n), λ k. refl);
+  past_bounds = (λ k. absurd (omega arith), λ k. absurd (k w));
+  other_actions = (λ k. (w, n), λ k. refl);
   no_shift = (λ k. absurd (omega arith), λ k. absurd (n k.1));
 }
 answered_exactly d e xs ys r (no_shift w a n) = record {
   agree = (λ k. absurd (omega arith), λ k. absurd (n k.2 k.3));
-  past-bounds = (λ k. absurd (omega arith), λ k. absurd (k w));
-  other-actions = (λ k. absurd (omega arith), λ k. absurd (k.1 a));
+  past_bounds = (λ k. absurd (omega arith), λ k. absurd (k w));
+  other_actions = (λ k. absurd (omega arith), λ k. absurd (k.1 a));
   no_shift = (λ k. (w, a, n), λ k. refl);
 }
 answered_exactly d e xs ys r (agree w a s l) = record {
   agree = (λ k. (w, a, s, l.serves), λ k. refl);
-  past-bounds = (λ k. absurd (omega arith), λ k. absurd (k w));
-  other-actions = (λ k. absurd (omega arith), λ k. absurd (k.1 a));
+  past_bounds = (λ k. absurd (omega arith), λ k. absurd (k w));
+  other_actions = (λ k. absurd (omega arith), λ k. absurd (k.1 a));
   no_shift = (λ k. absurd (omega arith), λ k. absurd (k.2 s l.serves));
 }
 
 -- [13.60]
 pub refused_without : RefusedWithout
-refused_without d e xs ys r (past-bounds n) = (refl, λ k. refl)
-refused_without d e xs ys r (other-actions w n) = (refl, λ k. refl)
+refused_without d e xs ys r (past_bounds n) = (refl, λ k. refl)
+refused_without d e xs ys r (other_actions w n) = (refl, λ k. refl)
 refused_without d e xs ys r (no_shift w a n) = (refl, λ k. refl)
 refused_without d e xs ys r (agree w a s l) = (refl, λ k. absurd (k refl))
 
 -- [13.75]
 pub no_entries : NoEntries
 no_entries d e h g =
-    agree (record { range = h; tolerance = g; local-times = tt; other-times = tt }) refl (neg_ℤ (pos d))
+    agree (record { range = h; tolerance = g; local_times = tt; other_times = tt }) refl (neg_ℤ (pos d))
     (record { serves = record { from = ≤ℤ_refl (neg_ℤ (pos d)); to = neg_below d; near = tt }; least = λ t v. v.from })
 
 -- A shift that serves, beside the one that is told
 
 -- the shift of an answer 0
 least_told : (d e : ℕ) (xs ys : List Entry) (r : Comparison) → Compared d e xs ys r → r.code ≡ 0 → Least d e xs ys r.shift
-least_told d e xs ys r (past-bounds n) k = absurd (omega arith)
-least_told d e xs ys r (other-actions w n) k = absurd (omega arith)
+least_told d e xs ys r (past_bounds n) k = absurd (omega arith)
+least_told d e xs ys r (other_actions w n) k = absurd (omega arith)
 least_told d e xs ys r (no_shift w a n) k = absurd (omega arith)
 least_told d e xs ys r (agree w a s l) k = l
 
@@ -82,7 +82,7 @@ clock_off d e xs ys s r w a v c =
 all_looser : (e g : ℕ) (s : ℤ) → e ≤ g → (xs ys : List Entry) → AllNear e s xs ys → AllNear g s xs ys
 all_looser e g s h [] ys n = tt
 all_looser e g s h (x ∷ xs) [] n = tt
-all_looser e g s h (x ∷ xs) (y ∷ ys) n = (near-looser e x y s g h n.0, all_looser e g s h xs ys n.1)
+all_looser e g s h (x ∷ xs) (y ∷ ys) n = (near_looser e x y s g h n.0, all_looser e g s h xs ys n.1)
 
 serves_wider : (d e f g : ℕ) (xs ys : List Entry) (s : ℤ) → d ≤ f → e ≤ g → Serves d e xs ys s → Serves f g xs ys s
 serves_wider d e f g xs ys s h k v = record {
@@ -95,7 +95,7 @@ serves_wider d e f g xs ys s h k v = record {
 pub wider : Wider
 wider d e f g xs ys r t df fm eg gm c ok k =
     let had = (answered_exactly d e xs ys r c).agree.0 ok in
-    let bounds : Within f g xs ys = record { range = fm; tolerance = gm; local-times = had.0.local-times; other-times = had.0.other-times } in
+    let bounds : Within f g xs ys = record { range = fm; tolerance = gm; local_times = had.0.local_times; other_times = had.0.other_times } in
     let served = serves_wider d e f g xs ys r.shift df eg (least_told d e xs ys r c ok).serves in
     let code = (answered_exactly f g xs ys t k).agree.1 (bounds, had.1, r.shift, served) in
     (code, (least_told f g xs ys t k code).least r.shift served)
@@ -104,7 +104,7 @@ all_round : (e : ℕ) (s : ℤ) (xs ys : List Entry) → AllNear e s xs ys → A
 all_round e s [] [] n = tt
 all_round e s [] (y ∷ ys) n = tt
 all_round e s (x ∷ xs) [] n = tt
-all_round e s (x ∷ xs) (y ∷ ys) n = (near-round e x y s n.0, all_round e s xs ys n.1)
+all_round e s (x ∷ xs) (y ∷ ys) n = (near_round e x y s n.0, all_round e s xs ys n.1)
 
 round : (d e : ℕ) (xs ys : List Entry) (s : ℤ) → Serves d e xs ys s → Serves d e ys xs (neg_ℤ s)
 round d e xs ys s v = record {

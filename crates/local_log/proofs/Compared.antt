@@ -6,11 +6,11 @@ use Rattle.model.specs.States.{last_time}
 use Rattle.model.proofs.Tests.{by_test, clash, if_lt}
 use Rattle.local_log.specs.declared.passes.Differences.{Differences}
 use Rattle.local_log.specs.Comparisons.{Entry, times_in, most_shift, InTime, Within, actions_in, SameActions}
-use Rattle.local_log.specs.Comparisons.{comparison, Compared, past-bounds, other-actions}
+use Rattle.local_log.specs.Comparisons.{comparison, Compared, past_bounds, other_actions}
 use Rattle.local_log.specs.Formulas.{in_time, same_numbers}
 use Rattle.local_log.specs.Passes.{no_differences, noted, pass_from, pass_of, bounded_of}
 use Rattle.local_log.proofs.Worked.{in_time_iff, same_iff}
-use Rattle.local_log.proofs.Shifts.{bounded-compared}
+use Rattle.local_log.proofs.Shifts.{bounded_compared}
 
 -- What a pass tells
 
@@ -47,36 +47,36 @@ places_all p (x ∷ xs) (y ∷ ys) e = if_lt last_time x.time
     (λ h. let more = places_all (noted p x.time y.time) xs ys (omega arith) (omega arith) in ((s, more.0), (t, more.1)))))
 
 module _ (d e : ℕ) (xs ys : List Entry) where
-  pub past-range : most_shift < d → Compared d e xs ys (comparison 19 (pos 0))
-  past-range h = past-bounds (λ b. omega (arith, b.range))
+  pub past_range : most_shift < d → Compared d e xs ys (comparison 19 (pos 0))
+  past_range h = past_bounds (λ b. omega (arith, b.range))
 
-  pub past-tolerance : most_shift < e → Compared d e xs ys (comparison 19 (pos 0))
-  past-tolerance h = past-bounds (λ b. omega (arith, b.tolerance))
+  pub past_tolerance : most_shift < e → Compared d e xs ys (comparison 19 (pos 0))
+  past_tolerance h = past_bounds (λ b. omega (arith, b.tolerance))
 
-  pub past-local : in_time (times_in xs) ≡ false → Compared d e xs ys (comparison 19 (pos 0))
-  past-local t = past-bounds (λ b. clash ((in_time_iff xs).1 b.local-times) t)
+  pub past_local : in_time (times_in xs) ≡ false → Compared d e xs ys (comparison 19 (pos 0))
+  past_local t = past_bounds (λ b. clash ((in_time_iff xs).1 b.local_times) t)
 
-  pub past-other : in_time (times_in ys) ≡ false → Compared d e xs ys (comparison 19 (pos 0))
-  past-other t = past-bounds (λ b. clash ((in_time_iff ys).1 b.other-times) t)
+  pub past_other : in_time (times_in ys) ≡ false → Compared d e xs ys (comparison 19 (pos 0))
+  past_other t = past_bounds (λ b. clash ((in_time_iff ys).1 b.other_times) t)
 
   module _ (range : d ≤ most_shift) (tolerance : e ≤ most_shift) where
     within : InTime xs → InTime ys → Within d e xs ys
-    within s t = record { range = range; tolerance = tolerance; local-times = s; other-times = t }
+    within s t = record { range = range; tolerance = tolerance; local_times = s; other_times = t }
 
     pub not_same : same_numbers (actions_in xs) (actions_in ys) ≡ false → in_time (times_in xs) ≡ true → in_time (times_in ys) ≡ true
         → Compared d e xs ys (comparison 20 (pos 0))
-    not_same n s t = other-actions (within ((in_time_iff xs).0 s) ((in_time_iff ys).0 t)) (λ a. clash ((same_iff _ _).1 a) n)
+    not_same n s t = other_actions (within ((in_time_iff xs).0 s) ((in_time_iff ys).0 t)) (λ a. clash ((same_iff _ _).1 a) n)
 
     -- both have the same actions
     module _ (a : SameActions xs ys) where
       same_length : length xs ≡ length ys
       same_length = sym (length-map xs (λ (x : Entry). x.action)) ∙ ap length a ∙ length-map ys (λ (x : Entry). x.action)
 
-      pub past-place : (pass_of (times_in xs) (times_in ys)).places < length ys → Compared d e xs ys (comparison 19 (pos 0))
-      past-place h = past-bounds (λ b. omega (arith, h, places_in_time no_differences xs ys b.local-times b.other-times same_length))
+      pub past_place : (pass_of (times_in xs) (times_in ys)).places < length ys → Compared d e xs ys (comparison 19 (pos 0))
+      past_place h = past_bounds (λ b. omega (arith, h, places_in_time no_differences xs ys b.local_times b.other_times same_length))
 
-      pub all-places : length ys ≤ (pass_of (times_in xs) (times_in ys)).places
+      pub all_places : length ys ≤ (pass_of (times_in xs) (times_in ys)).places
           → let p = pass_of (times_in xs) (times_in ys) in Compared d e xs ys (bounded_of p.smallest p.largest d e)
-      all-places h =
+      all_places h =
           let t = places_all no_differences xs ys same_length (omega (arith, h)) in
-          bounded-compared d e xs ys (within t.0 t.1) a
+          bounded_compared d e xs ys (within t.0 t.1) a

@@ -100,13 +100,13 @@ module _ (a : ℕ) (small : a ≤ 2_000_000_000_000) where
   shifted : to_z w64 a -ℤ pos last_time ≡ sub_ℕ a last_time
   shifted = ap (λ (z : ℤ). z -ℤ pos last_time) (to_z_pos w64 a half)
 
-  fits-half : SFits w64 (sub_ℕ a last_time)
-  fits-half = if_lt a last_time
+  fits_half : SFits w64 (sub_ℕ a last_time)
+  fits_half = if_lt a last_time
       (λ h. subst (SFits w64) (sym (sub_below a last_time h)) (record { sfits = omega arith }))
       (λ h. subst (SFits w64) (sym (sub_above a last_time h)) (record { sfits = omega arith }))
 
   pub shift_fits : SFits w64 (to_z w64 a -ℤ pos last_time)
-  shift_fits = subst (SFits w64) (sym shifted) fits-half
+  shift_fits = subst (SFits w64) (sym shifted) fits_half
 
   pub shift_is : to_z w64 (of_z w64 (to_z w64 a -ℤ pos last_time)) ≡ sub_ℕ a last_time
   shift_is = to_z-of_z w64 (to_z w64 a -ℤ pos last_time) shift_fits ∙ shifted

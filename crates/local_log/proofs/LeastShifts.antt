@@ -5,68 +5,68 @@ use Rattle.model.proofs.Tests.{by_test}
 use Rattle.local_log.specs.Comparisons.{Entry, AllNear, Serves, Least}
 use Rattle.local_log.specs.Formulas.{greater_of, least_shift}
 use Rattle.local_log.specs.Answers.{Touches, here, later, LeastTouches, WhichShift}
-use Rattle.local_log.proofs.Orders.{≤ℤ-antisym, ≤ℤ-trans, lowest_for, near-lowest, near-between, touches_lowest, touches_least}
+use Rattle.local_log.proofs.Orders.{≤ℤ-antisym, ≤ℤ-trans, lowest_for, near_lowest, near_between, touches_lowest, touches_least}
 use Rattle.local_log.proofs.Orders.{le_test, le_other}
 
 -- The greater of two
 
 module _ (a b : ℤ) where
-  greater-first : a ≤ℤ greater_of a b
-  greater-first = by_test (le_z a b) (λ e. rw e (le_test a b e)) (λ e. rw e (≤ℤ_refl a))
+  greater_first : a ≤ℤ greater_of a b
+  greater_first = by_test (le_z a b) (λ e. rw e (le_test a b e)) (λ e. rw e (≤ℤ_refl a))
 
-  greater-second : b ≤ℤ greater_of a b
-  greater-second = by_test (le_z a b) (λ e. rw e (≤ℤ_refl b)) (λ e. rw e (le_other a b e))
+  greater_second : b ≤ℤ greater_of a b
+  greater_second = by_test (le_z a b) (λ e. rw e (≤ℤ_refl b)) (λ e. rw e (le_other a b e))
 
-  greater-least : (t : ℤ) → a ≤ℤ t → b ≤ℤ t → greater_of a b ≤ℤ t
-  greater-least t h g = by_test (le_z a b) (λ e. rw e g) (λ e. rw e h)
+  greater_least : (t : ℤ) → a ≤ℤ t → b ≤ℤ t → greater_of a b ≤ℤ t
+  greater_least t h g = by_test (le_z a b) (λ e. rw e g) (λ e. rw e h)
 
 -- Over all places
 
 module _ (d e : ℕ) where
   -- it is not below -d
-  least-from : (xs ys : List Entry) → neg_ℤ (pos d) ≤ℤ least_shift d e xs ys
+  least_from : (xs ys : List Entry) → neg_ℤ (pos d) ≤ℤ least_shift d e xs ys
   unfolding least_shift
-  least-from [] ys = ≤ℤ_refl (neg_ℤ (pos d))
-  least-from (x ∷ xs) [] = ≤ℤ_refl (neg_ℤ (pos d))
-  least-from (x ∷ xs) (y ∷ ys) = ≤ℤ-trans (least-from xs ys) (greater-second (lowest_for e x y) (least_shift d e xs ys))
+  least_from [] ys = ≤ℤ_refl (neg_ℤ (pos d))
+  least_from (x ∷ xs) [] = ≤ℤ_refl (neg_ℤ (pos d))
+  least_from (x ∷ xs) (y ∷ ys) = ≤ℤ-trans (least_from xs ys) (greater_second (lowest_for e x y) (least_shift d e xs ys))
 
   -- and not above a shift that serves
-  pub least-below : (s : ℤ) → neg_ℤ (pos d) ≤ℤ s → (xs ys : List Entry) → AllNear e s xs ys → least_shift d e xs ys ≤ℤ s
+  pub least_below : (s : ℤ) → neg_ℤ (pos d) ≤ℤ s → (xs ys : List Entry) → AllNear e s xs ys → least_shift d e xs ys ≤ℤ s
   unfolding least_shift
-  least-below s h [] ys n = h
-  least-below s h (x ∷ xs) [] n = h
-  least-below s h (x ∷ xs) (y ∷ ys) n =
-      greater-least (lowest_for e x y) (least_shift d e xs ys) s (near-lowest e x y s n.0) (least-below s h xs ys n.1)
+  least_below s h [] ys n = h
+  least_below s h (x ∷ xs) [] n = h
+  least_below s h (x ∷ xs) (y ∷ ys) n =
+      greater_least (lowest_for e x y) (least_shift d e xs ys) s (near_lowest e x y s n.0) (least_below s h xs ys n.1)
 
   -- what lies between it and a shift that brings all entries near does so too
-  all-between : (s t : ℤ) (xs ys : List Entry) → least_shift d e xs ys ≤ℤ t → t ≤ℤ s → AllNear e s xs ys → AllNear e t xs ys
+  all_between : (s t : ℤ) (xs ys : List Entry) → least_shift d e xs ys ≤ℤ t → t ≤ℤ s → AllNear e s xs ys → AllNear e t xs ys
   unfolding least_shift
-  all-between s t [] ys l h n = tt
-  all-between s t (x ∷ xs) [] l h n = tt
-  all-between s t (x ∷ xs) (y ∷ ys) l h n = (
-    near-between e x y s t (≤ℤ-trans (greater-first (lowest_for e x y) (least_shift d e xs ys)) l) h n.0,
-    all-between s t xs ys (≤ℤ-trans (greater-second (lowest_for e x y) (least_shift d e xs ys)) l) h n.1,
+  all_between s t [] ys l h n = tt
+  all_between s t (x ∷ xs) [] l h n = tt
+  all_between s t (x ∷ xs) (y ∷ ys) l h n = (
+    near_between e x y s t (≤ℤ-trans (greater_first (lowest_for e x y) (least_shift d e xs ys)) l) h n.0,
+    all_between s t xs ys (≤ℤ-trans (greater_second (lowest_for e x y) (least_shift d e xs ys)) l) h n.1,
   )
 
   module _ (xs ys : List Entry) where
     -- where any shift serves, it does
-    pub least-serves : (s : ℤ) → Serves d e xs ys s → Serves d e xs ys (least_shift d e xs ys)
-    least-serves s v =
-        let below = least-below s v.from xs ys v.near in
+    pub least_serves : (s : ℤ) → Serves d e xs ys s → Serves d e xs ys (least_shift d e xs ys)
+    least_serves s v =
+        let below = least_below s v.from xs ys v.near in
         record {
-          from = least-from xs ys;
+          from = least_from xs ys;
           to = ≤ℤ-trans below v.to;
-          near = all-between s (least_shift d e xs ys) xs ys (≤ℤ_refl (least_shift d e xs ys)) below v.near;
+          near = all_between s (least_shift d e xs ys) xs ys (≤ℤ_refl (least_shift d e xs ys)) below v.near;
         }
 
     -- so that it is the least
-    pub least-is : Serves d e xs ys (least_shift d e xs ys) → Least d e xs ys (least_shift d e xs ys)
-    least-is v = record { serves = v; least = λ s w. least-below s w.from xs ys w.near }
+    pub least_is : Serves d e xs ys (least_shift d e xs ys) → Least d e xs ys (least_shift d e xs ys)
+    least_is v = record { serves = v; least = λ s w. least_below s w.from xs ys w.near }
 
 -- [13.70]
 pub which_shift : WhichShift
 which_shift d e xs ys s l =
-    ≤ℤ-antisym (l.least (least_shift d e xs ys) (least-serves d e xs ys s l.serves)) (least-below d e s l.serves.from xs ys l.serves.near)
+    ≤ℤ-antisym (l.least (least_shift d e xs ys) (least_serves d e xs ys s l.serves)) (least_below d e s l.serves.from xs ys l.serves.near)
 
 -- Where it touches
 
@@ -79,15 +79,15 @@ unfolding least_shift
 touches_or d e [] ys s h = inl h
 touches_or d e (x ∷ xs) [] s h = inl h
 touches_or d e (x ∷ xs) (y ∷ ys) s h =
-    by-either (greater_either (lowest_for e x y) (least_shift d e xs ys)) (touches_or d e xs ys s)
+    by_either (greater_either (lowest_for e x y) (least_shift d e xs ys)) (touches_or d e xs ys s)
   where
     rest : ℤ
     rest = least_shift d e xs ys
 
-    by-either : (greater_of (lowest_for e x y) rest ≡ lowest_for e x y) ⊎ (greater_of (lowest_for e x y) rest ≡ rest)
+    by_either : (greater_of (lowest_for e x y) rest ≡ lowest_for e x y) ⊎ (greater_of (lowest_for e x y) rest ≡ rest)
         → (s ≡ least_shift d e xs ys → (s ≡ neg_ℤ (pos d)) ⊎ Touches e s xs ys) → (s ≡ neg_ℤ (pos d)) ⊎ Touches e s (x ∷ xs) (y ∷ ys)
-    by-either (inl k) more = inr (here {x = x} {y = y} (rw (h ∙ k) (touches_lowest e x y)))
-    by-either (inr k) more = further (more (h ∙ k))
+    by_either (inl k) more = inr (here {x = x} {y = y} (rw (h ∙ k) (touches_lowest e x y)))
+    by_either (inr k) more = further (more (h ∙ k))
       where
         further : (s ≡ neg_ℤ (pos d)) ⊎ Touches e s xs ys → (s ≡ neg_ℤ (pos d)) ⊎ Touches e s (x ∷ xs) (y ∷ ys)
         further (inl f) = inl f

@@ -68,8 +68,8 @@ pos_order a b h = record { le = le→leb a b h }
 abbrev pub lowest_for : ℕ → Entry → Entry → ℤ
 lowest_for e x y = pos y.time -ℤ (pos x.time +ℤ pos e)
 
-lowest-is : (e : ℕ) (x y : Entry) → lowest_for e x y ≡ sub_ℕ y.time (x.time + e)
-lowest-is e x y =
+lowest_is : (e : ℕ) (x y : Entry) → lowest_for e x y ≡ sub_ℕ y.time (x.time + e)
+lowest_is e x y =
     ap (λ (z : ℤ). pos y.time -ℤ z) (pos_is (x.time + e) 0) ∙ pos_less y.time (0 + (x.time + e)) 0
     ∙ sub_same (y.time + 0) (0 + (x.time + e)) y.time (x.time + e) (omega arith)
 
@@ -83,17 +83,17 @@ near_across e a b x y = rw (off x y a b) (nat-abs (y.time + b) (x.time + a) e)
 
 -- and is not below the bound
 pub lowest_across : (e a b : ℕ) (x y : Entry) → (lowest_for e x y ≤ℤ sub_ℕ a b) ↔ (y.time + b ≤ a + (x.time + e))
-lowest_across e a b x y = rw (lowest-is e x y) (across y.time (x.time + e) a b)
+lowest_across e a b x y = rw (lowest_is e x y) (across y.time (x.time + e) a b)
 
 module _ (e : ℕ) (x y : Entry) (s : ℤ) where
-  pub near-lowest : Near e s x y → lowest_for e x y ≤ℤ s
-  near-lowest n =
+  pub near_lowest : Near e s x y → lowest_for e x y ≤ℤ s
+  near_lowest n =
       let z = difference_of s in
       rw z.is ((lowest_across e z.more z.less x y).1 (omega (arith, (near_across e z.more z.less x y).0 (rw z.is at n))))
 
   -- what lies between the bound and a shift that brings them near does so too
-  pub near-between : (t : ℤ) → lowest_for e x y ≤ℤ t → t ≤ℤ s → Near e s x y → Near e t x y
-  near-between t l h n =
+  pub near_between : (t : ℤ) → lowest_for e x y ≤ℤ t → t ≤ℤ s → Near e s x y → Near e t x y
+  near_between t l h n =
       let z = difference_of s in
       let w = difference_of t in
       rw w.is
@@ -119,12 +119,12 @@ module _ (e : ℕ) (x y : Entry) (s : ℤ) where
       )))
 
   -- with more tolerance
-  pub near-looser : (f : ℕ) → e ≤ f → Near e s x y → Near f s x y
-  near-looser f h n = omega (arith, n)
+  pub near_looser : (f : ℕ) → e ≤ f → Near e s x y → Near f s x y
+  near_looser f h n = omega (arith, n)
 
   -- the other way round
-  pub near-round : Near e s x y → Near e (neg_ℤ s) y x
-  near-round n =
+  pub near_round : Near e s x y → Near e (neg_ℤ s) y x
+  near_round n =
       let z = difference_of s in
       rw (z.is, neg_sub z.more z.less)
       ((near_across e z.less z.more y x).1 (omega (arith, (near_across e z.more z.less x y).0 (rw z.is at n))))
@@ -132,7 +132,7 @@ module _ (e : ℕ) (x y : Entry) (s : ℤ) where
 -- the bound itself: there the other time is the local one, the shift and e together
 pub touches_lowest : (e : ℕ) (x y : Entry) → pos y.time ≡ pos x.time +ℤ lowest_for e x y +ℤ pos e
 touches_lowest e x y =
-    rw (lowest-is e x y, pos_add x.time y.time (x.time + e), add_pos (x.time + y.time) (x.time + e) e)
+    rw (lowest_is e x y, pos_add x.time y.time (x.time + e), add_pos (x.time + y.time) (x.time + e) e)
     (pos_is y.time 0 ∙ sub_same (0 + y.time) 0 (x.time + y.time + e) (x.time + e) (omega arith))
 
 -- a shift at which they touch is not above one that brings them near

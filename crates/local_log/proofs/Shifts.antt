@@ -30,13 +30,13 @@ module _ (e w : ℕ) where
   Between p = (p.largest ≤ w + e) × (w ≤ p.smallest + e)
 
   -- all places
-  all-near-iff : (p : Differences) (xs ys : List Entry) → InTime xs → InTime ys
+  all_near_iff : (p : Differences) (xs ys : List Entry) → InTime xs → InTime ys
       → (Between p × AllNear e shift xs ys) ↔ Between (pass_from p (times_in xs) (times_in ys))
   unfolding pass_from noted between
-  all-near-iff p [] ys s t = (λ b. b.0, λ b. (b, tt))
-  all-near-iff p (x ∷ xs) [] s t = (λ b. b.0, λ b. (b, tt))
-  all-near-iff p (x ∷ xs) (y ∷ ys) s t =
-      let more = all-near-iff (noted p x.time y.time) xs ys s.1 t.1 in
+  all_near_iff p [] ys s t = (λ b. b.0, λ b. (b, tt))
+  all_near_iff p (x ∷ xs) [] s t = (λ b. b.0, λ b. (b, tt))
+  all_near_iff p (x ∷ xs) (y ∷ ys) s t =
+      let more = all_near_iff (noted p x.time y.time) xs ys s.1 t.1 in
       let near = near_iff x y s.0 in
       rw (le-leb _ _ s.0, le-leb _ _ t.0) (
         λ b. more.0 ((omega (arith, b.0, near.0 b.1.0), omega (arith, b.0, near.0 b.1.0)), b.1.1),
@@ -56,45 +56,45 @@ module _ (d e : ℕ) (xs ys : List Entry) (bounds : Within d e xs ys) where
   -- they are those of an interval
   pub record Inside (w : ℕ) : Type 0 where
     pub above : low ≤ w
-    pub in-range : w ≤ last_time + d
+    pub in_range : w ≤ last_time + d
     pub below : w ≤ kept.smallest + e
 
-  serves-inside : (w : ℕ) → Serves d e xs ys (sub_ℕ w last_time) → Inside w
-  serves-inside w s =
+  serves_inside : (w : ℕ) → Serves d e xs ys (sub_ℕ w last_time) → Inside w
+  serves_inside w s =
       let from = (sub_le (last_time - d) w last_time).0 (subst (λ (z : ℤ). z ≤ℤ sub_ℕ w last_time) (neg_is d last_time (omega (arith, bounds.range))) s.from) in
       let to = (sub_le w (last_time + d) last_time).0 (subst (λ (z : ℤ). sub_ℕ w last_time ≤ℤ z) (pos_is d last_time) s.to) in
-      let between = (all-near-iff e w no_differences xs ys bounds.local-times bounds.other-times).0 ((omega arith, omega arith), s.near) in
-      record { above = omega (arith, from, between.0); in-range = to; below = between.1 }
+      let between = (all_near_iff e w no_differences xs ys bounds.local_times bounds.other_times).0 ((omega arith, omega arith), s.near) in
+      record { above = omega (arith, from, between.0); in_range = to; below = between.1 }
 
-  inside-serves : (w : ℕ) → Inside w → Serves d e xs ys (sub_ℕ w last_time)
-  inside-serves w i = record {
+  inside_serves : (w : ℕ) → Inside w → Serves d e xs ys (sub_ℕ w last_time)
+  inside_serves w i = record {
     from = subst (λ (z : ℤ). z ≤ℤ sub_ℕ w last_time) (sym (neg_is d last_time (omega (arith, bounds.range))))
         ((sub_le (last_time - d) w last_time).1 (omega (arith, i.above)));
-    to = subst (λ (z : ℤ). sub_ℕ w last_time ≤ℤ z) (sym (pos_is d last_time)) ((sub_le w (last_time + d) last_time).1 i.in-range);
-    near = ((all-near-iff e w no_differences xs ys bounds.local-times bounds.other-times).1 (omega (arith, i.above), i.below)).1;
+    to = subst (λ (z : ℤ). sub_ℕ w last_time ≤ℤ z) (sym (pos_is d last_time)) ((sub_le w (last_time + d) last_time).1 i.in_range);
+    near = ((all_near_iff e w no_differences xs ys bounds.local_times bounds.other_times).1 (omega (arith, i.above), i.below)).1;
   }
 
   -- a shift that serves is in it
   found : (s : ℤ) → Serves d e xs ys s → (w : ℕ) × (s ≡ sub_ℕ w last_time) × Inside w
   found s h =
       let w = from_neg d last_time (omega (arith, bounds.range)) s h.from in
-      (w.0, w.1, serves-inside w.0 (subst (Serves d e xs ys) w.1 h))
+      (w.0, w.1, serves_inside w.0 (subst (Serves d e xs ys) w.1 h))
 
   none : (low ≤ last_time + d → low ≤ kept.smallest + e → ⊥) → (s : ℤ) → Serves d e xs ys s → ⊥
   none empty s h =
       let f = found s h in
-      empty (omega (arith, f.2.above, f.2.in-range)) (omega (arith, f.2.above, f.2.below))
+      empty (omega (arith, f.2.above, f.2.in_range)) (omega (arith, f.2.above, f.2.below))
 
-  least-is : low ≤ last_time + d → low ≤ kept.smallest + e → Least d e xs ys (sub_ℕ low last_time)
-  least-is h g = record {
-    serves = inside-serves low (record { above = omega arith; in-range = h; below = g });
+  least_is : low ≤ last_time + d → low ≤ kept.smallest + e → Least d e xs ys (sub_ℕ low last_time)
+  least_is h g = record {
+    serves = inside_serves low (record { above = omega arith; in_range = h; below = g });
     least = λ s k. let f = found s k in
         subst (λ (z : ℤ). sub_ℕ low last_time ≤ℤ z) (sym f.1) ((sub_le low f.0 last_time).1 f.2.above);
   }
 
   -- so the interval tells the answer
-  pub bounded-compared : SameActions xs ys → Compared d e xs ys (bounded_of kept.smallest kept.largest d e)
+  pub bounded_compared : SameActions xs ys → Compared d e xs ys (bounded_of kept.smallest kept.largest d e)
   unfolding bounded_of
-  bounded-compared a = if_lt (highest kept.smallest d e) low
+  bounded_compared a = if_lt (highest kept.smallest d e) low
       (λ h. rw (lt-ltb _ _ h) (no_shift bounds a (none (λ k l. omega arith))))
-      (λ h. rw (le-ltb _ _ h) (agree bounds a (sub_ℕ low last_time) (least-is (omega arith) (omega arith))))
+      (λ h. rw (le-ltb _ _ h) (agree bounds a (sub_ℕ low last_time) (least_is (omega arith) (omega arith))))

@@ -82,19 +82,19 @@ module _ (stamps times : List ℕ) (i : ℕ) where
     unfolding pass_from
     turn = rw (drop_at stamps i 0 (omega arith), drop_at times i 0 (omega arith)) refl
 
-    pub pass-next : stamp ≤ last_time → time ≤ last_time → pass_left p ≡ pass_from (noted p stamp time) (drop (i + 1) stamps) (drop (i + 1) times)
-    pass-next s t = turn ∙ rw (le-leb stamp last_time s, le-leb time last_time t) refl
+    pub pass_next : stamp ≤ last_time → time ≤ last_time → pass_left p ≡ pass_from (noted p stamp time) (drop (i + 1) stamps) (drop (i + 1) times)
+    pass_next s t = turn ∙ rw (le-leb stamp last_time s, le-leb time last_time t) refl
 
-    pub local-stops : last_time < stamp → pass_left p ≡ p
-    local-stops s = turn ∙ rw (lt-leb stamp last_time s) refl
+    pub local_stops : last_time < stamp → pass_left p ≡ p
+    local_stops s = turn ∙ rw (lt-leb stamp last_time s) refl
 
-    pub other-stops : stamp ≤ last_time → last_time < time → pass_left p ≡ p
-    other-stops s t = turn ∙ rw (le-leb stamp last_time s, lt-leb time last_time t) refl
+    pub other_stops : stamp ≤ last_time → last_time < time → pass_left p ≡ p
+    other_stops s t = turn ∙ rw (le-leb stamp last_time s, lt-leb time last_time t) refl
 
   -- one of the lists has no place i
-  pub pass-ends : min (length stamps) (length times) ≤ i → (p : Differences) → pass_left p ≡ p
+  pub pass_ends : min (length stamps) (length times) ≤ i → (p : Differences) → pass_left p ≡ p
   unfolding pass_from
-  pass-ends h p = no_more (drop i stamps) (drop i times) (simp length-drop (omega arith))
+  pass_ends h p = no_more (drop i stamps) (drop i times) (simp length-drop (omega arith))
     where
       no_more : (xs ys : List ℕ) → min (length xs) (length ys) ≡ 0 → pass_from p xs ys ≡ p
       no_more [] ys e = refl

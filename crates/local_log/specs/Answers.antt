@@ -27,8 +27,8 @@ OneAnswer = (d e : ℕ) (local other : List Entry) (r t : Comparison) → Compar
 -- [13.65] which code it has. For 0 it is enough that some shift serves: then there is a least one
 pub record Exactly (d e : ℕ) (local other : List Entry) (r : Comparison) : Type 0 where
   pub agree : (r.code ≡ 0) ↔ (Within d e local other × SameActions local other × (s : ℤ) × Serves d e local other s)
-  pub past-bounds : (r.code ≡ 19) ↔ (Within d e local other → ⊥)
-  pub other-actions : (r.code ≡ 20) ↔ (Within d e local other × (SameActions local other → ⊥))
+  pub past_bounds : (r.code ≡ 19) ↔ (Within d e local other → ⊥)
+  pub other_actions : (r.code ≡ 20) ↔ (Within d e local other × (SameActions local other → ⊥))
   pub no_shift : (r.code ≡ 21) ↔ (Within d e local other × SameActions local other × ((s : ℤ) → Serves d e local other s → ⊥))
 
 -- [13.65]

@@ -36,8 +36,8 @@ InTime (x ∷ xs) = (x.time ≤ last_time) × InTime xs
 pub record Within (d e : ℕ) (local other : List Entry) : Type 0 where
   pub range : d ≤ most_shift
   pub tolerance : e ≤ most_shift
-  pub local-times : InTime local
-  pub other-times : InTime other
+  pub local_times : InTime local
+  pub other_times : InTime other
 
 -- Agreement
 
@@ -82,8 +82,8 @@ comparison code shift = record { code = code; process = 0; shift = shift }
 
 -- [13.60] [4.19] [4.20] [4.21] what is answered to a local log that is held against another one
 pub data Compared (d e : ℕ) (local other : List Entry) : Comparison → Type 0 where
-  past-bounds : (Within d e local other → ⊥) → Compared d e local other (comparison 19 (pos 0))
-  other-actions : Within d e local other → (SameActions local other → ⊥) → Compared d e local other (comparison 20 (pos 0))
+  past_bounds : (Within d e local other → ⊥) → Compared d e local other (comparison 19 (pos 0))
+  other_actions : Within d e local other → (SameActions local other → ⊥) → Compared d e local other (comparison 20 (pos 0))
   no_shift : Within d e local other → SameActions local other → ((s : ℤ) → Serves d e local other s → ⊥)
       → Compared d e local other (comparison 21 (pos 0))
   agree : Within d e local other → SameActions local other → (s : ℤ) → Least d e local other s → Compared d e local other (comparison 0 s)

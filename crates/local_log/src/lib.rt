@@ -1,5 +1,7 @@
 // A local log, which a process keeps by a clock of its own, held against another log: whether both have the same actions, and the least shift
 // of the local times that brings each near the other. One pass over each list; there is no search for the shift.
+#![tactic(auto)]
+
 mod passes;
 
 ghost use Rattle.std.specs.Prelude.{◌≡◌, ◌≤◌, pos};
@@ -17,7 +19,7 @@ const MOST: u64 = 1000000;
 
 // [13.60] What a comparison answers: the third number has a sign. Its fields lie as in C, for `funnelfawn`.
 #[repr(C)]
-#[derive(Drop)]
+#[derive(Clone, Copy)]
 pub struct Comparison {
     pub code: u64,
     pub process: u64,

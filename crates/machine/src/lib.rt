@@ -1,6 +1,8 @@
 // Fischer's timed mutual exclusion as a step machine: `fresh` makes a state, `step` takes one action in it.
 // Both take any numbers and any state, and answer what `fresh_of` and `step_of` of the model say.
 
+#![tactic(auto)]
+
 ghost use Rattle.std.specs.Prelude.{◌≡◌, ℕ, ◌<◌, get_or};
 ghost use Rattle.model.specs.declared.Process.{Process};
 ghost use Rattle.model.specs.States.{entry, idle, initial};

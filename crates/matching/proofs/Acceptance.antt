@@ -13,18 +13,18 @@ use Rattle.theory.proofs.Soundness.{sound_iff_plain}
 use Rattle.theory.proofs.Acceptance.{accepted_iff_allowed, next_is_changed, refused_stays}
 use Rattle.matching.specs.Facts.{AcceptedWith, AcceptedIffAllowedWith, NextIsChangedWith, RefusedStaysWith}
 use Rattle.matching.proofs.Matchings.{one_match, size_same}
-use Rattle.matching.proofs.Engines.{arrived-matches, arrived-sound, steps_match, code_same, unsound_with}
-use Rattle.matching.proofs.Facts.{allowed-to, allowed-fro, changed-to}
+use Rattle.matching.proofs.Engines.{arrived_matches, arrived_sound, steps_match, code_same, unsound_with}
+use Rattle.matching.proofs.Facts.{allowed_to, allowed_fro, changed_to}
 
 -- [12.70]
 pub accepted_iff_allowed_with : AcceptedIffAllowedWith
 accepted_iff_allowed_with d e act p m =
-    let match = arrived-matches d e in
-    let sound = arrived-sound d e in
+    let match = arrived_matches d e in
+    let sound = arrived_sound d e in
     let code = code_same match act p m in
     let iff = accepted_iff_allowed (arrived d) sound act p m in (
-      λ a. allowed-to match ((sound_iff_plain (arrived d)).0 sound) (iff.0 (sym code ∙ a)),
-      λ h. code ∙ iff.1 (allowed-fro match h),
+      λ a. allowed_to match ((sound_iff_plain (arrived d)).0 sound) (iff.0 (sym code ∙ a)),
+      λ h. code ∙ iff.1 (allowed_fro match h),
     )
 
 -- one that is not sound is answered with 1, so an accepted one is sound
@@ -35,8 +35,8 @@ accepted_sound d act p m a =
 -- [12.60]
 pub next_is_changed_with : NextIsChangedWith
 next_is_changed_with d size act p m a =
-    let match = arrived-matches d (accepted_sound d act p m a) in
-    changed-to match (steps_match (arrived d) d match act p m).states
+    let match = arrived_matches d (accepted_sound d act p m a) in
+    changed_to match (steps_match (arrived d) d match act p m).states
     (next_is_changed (arrived d) (sym (size_same match) ∙ size) act p m (sym (code_same match act p m) ∙ a))
 
 -- [12.50]
@@ -44,7 +44,7 @@ pub refused_stays_with : RefusedStaysWith
 refused_stays_with d act p m n =
     by_test (sound_with d)
     (λ e.
-    let match = arrived-matches d e in
+    let match = arrived_matches d e in
     let stays = refused_stays (arrived d) act p m (λ a. n (code_same match act p m ∙ a)) in
     one_match (rw stays at (steps_match (arrived d) d match act p m).states) match)
     (λ e. ap (λ (o : DeadlineOutcome). o.state) (unsound_with d act p m e))

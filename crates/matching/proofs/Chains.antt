@@ -11,7 +11,7 @@ use Rattle.model.specs.Folds as folds
 use Rattle.deadlines.specs.declared.DeadlineState.{DeadlineState}
 use Rattle.deadlines.specs.declared.DeadlineOutcome.{DeadlineOutcome}
 use Rattle.deadlines.specs.Deadlines.{fresh_with}
-use Rattle.model.proofs.Folds.{chain-results, chain-last, list-chain}
+use Rattle.model.proofs.Folds.{chain_results, chain_last, list_chain}
 use Rattle.theory.proofs.Soundness.{fresh_is_plain}
 use Rattle.matching.specs.Lists.{step_by_deadlines, deadlines_after, steps_with, Demand3With}
 use Rattle.matching.specs.Chains.{MadeWith, MadeByFirst, NotStuckWith, ChainsMatch, EveryChainWith, SomeChainWith}
@@ -27,7 +27,7 @@ first_is s e o h = h
 
 pub chains_match : ChainsMatch
 chains_match s d m es os rs firsts seconds =
-    rw (chain-results state_after first_is firsts, chain-results deadlines_after made_is seconds) (lists_match s d m es).each
+    rw (chain_results state_after first_is firsts, chain_results deadlines_after made_is seconds) (lists_match s d m es).each
 
 not_stuck : {k : Parameters} {es : List Event} {rs : List DeadlineOutcome} {t : DeadlineState} → Demand3With k es rs t → NotStuckWith t
 not_stuck h = record {
@@ -38,11 +38,11 @@ not_stuck h = record {
 pub every_chain_with : EveryChainWith
 every_chain_with k o es rs h accepted ch =
     let holds : Demand3With k es rs (folds.last_of deadlines_after o.state rs) =
-    rw (chain-last deadlines_after made_is ch, chain-results deadlines_after made_is ch, h) (every_list_with k (rw h at accepted) es) in
+    rw (chain_last deadlines_after made_is ch, chain_results deadlines_after made_is ch, h) (every_list_with k (rw h at accepted) es) in
     record { demand3 = holds; not_stuck = not_stuck holds }
 
 pub some_chain_with : SomeChainWith
 some_chain_with = record {
   start = λ k stand. (fresh_with k, refl, rw (fresh_match k).answer ((fresh_is_plain k).accepted.1 stand));
-  chain = λ d es. (steps_with d es, list-chain step_by_deadlines deadlines_after (λ d e. refl) d es);
+  chain = λ d es. (steps_with d es, list_chain step_by_deadlines deadlines_after (λ d e. refl) d es);
 }

@@ -31,7 +31,7 @@ use Rattle.matching.specs.Engines.{OutcomesMatch}
 use Rattle.matching.specs.Lists.{step_by_deadlines, steps_with, run_with, InSpanWith, SpanWith, StaysWith, OwedWithinWith}
 use Rattle.matching.specs.Lists.{NamesTheOnlyWith, EachNamesWith, EveryListWith, EveryTableSoundWith}
 use Rattle.matching.proofs.Engines.{sound_together, code_same, fresh_match}
-use Rattle.matching.proofs.Facts.{critical-iff, trying-iff, last-is-deadline, deadline-is-last}
+use Rattle.matching.proofs.Facts.{critical_iff, trying_iff, last_is_deadline, deadline_is_last}
 use Rattle.matching.proofs.Runs.{events_match, lists_match, fresh_lists_match}
 
 -- Steps as calls
@@ -75,8 +75,8 @@ stays w match (e ∷ es) h = (
 
 span : {s : State} {d : DeadlineState} {w : ℕ} {es : List Event} → Matches s d → SpanWith d w es → Span s w (as_calls es)
 span {w = w} {es = es} match h = record {
-  trying = (trying-iff match w).0 h.trying;
-  none = λ i c. h.none i ((critical-iff match i).1 c);
+  trying = (trying_iff match w).0 h.trying;
+  none = λ i c. h.none i ((critical_iff match i).1 c);
   calls = in_span match es h.steps;
 }
 
@@ -99,8 +99,8 @@ names_the_only : {o : Outcome} {e : DeadlineOutcome} → OutcomesMatch o e → N
 names_the_only {e = e} both h =
     let same = ap (λ (r : Answer). r.process) both.answer in
     record {
-      critical = λ n. subst (IsCriticalWith e.state) (sym same) ((critical-iff both.states _).1 (h.critical (λ z. n (same ∙ z))));
-      only = λ i c. h.only i ((critical-iff both.states i).0 c) ∙ sym same;
+      critical = λ n. subst (IsCriticalWith e.state) (sym same) ((critical_iff both.states _).1 (h.critical (λ z. n (same ∙ z))));
+      only = λ i c. h.only i ((critical_iff both.states i).0 c) ∙ sym same;
     }
 
 each_names : {s : State} {d : DeadlineState} → Matches s d → (es : List Event) → EachNames (results_of s (as_calls es)) → EachNamesWith (steps_with d es)
@@ -121,26 +121,26 @@ abbrev ActsAt : DeadlineState → ℕ → Type 0
 ActsAt t x = (i f : ℕ) → HasTimes t i f x → (act : ℕ) × LeadsOn act × AcceptedWith (step_with t act i x)
 
 module _ {s : State} {t : DeadlineState} (match : Matches s t) where
-  waits-unless-due : WaitsUnlessDue s → WaitsAt t t.clock
-  waits-unless-due h = subst (WaitsAt t) (sym match.clock) (λ below.
+  waits_unless_due : WaitsUnlessDue s → WaitsAt t t.clock
+  waits_unless_due h = subst (WaitsAt t) (sym match.clock) (λ below.
       let code = code_same match wait_act 0 (s.clock + 1) in (
-        λ a i f k. (h below).0 (sym code ∙ a) i (last-is-deadline match k),
-        λ none. code ∙ (h below).1 (λ i k. let times = deadline-is-last match k in none i times.0 times.1),
+        λ a i f k. (h below).0 (sym code ∙ a) i (last_is_deadline match k),
+        λ none. code ∙ (h below).1 (λ i k. let times = deadline_is_last match k in none i times.0 times.1),
       ))
 
-  due-may-act : DueMayAct s → ActsAt t t.clock
-  due-may-act h = subst (ActsAt t) (sym match.clock) (λ i f k.
-      let act = h i (last-is-deadline match k) in
+  due_may_act : DueMayAct s → ActsAt t t.clock
+  due_may_act h = subst (ActsAt t) (sym match.clock) (λ i f k.
+      let act = h i (last_is_deadline match k) in
       (act.0, act.1, code_same match act.0 i s.clock ∙ act.2))
 
 -- The whole
 
 module _ (k : Parameters) (accepted : AcceptedWith (fresh_with k)) where
-  first-accepted : Accepted (fresh_of k)
-  first-accepted = sym (ap (λ (r : Answer). r.code) (fresh_match k).answer) ∙ accepted
+  first_accepted : Accepted (fresh_of k)
+  first_accepted = sym (ap (λ (r : Answer). r.code) (fresh_match k).answer) ∙ accepted
 
   fresh : IsFresh (fresh_of k).state
-  fresh = fresh_is k first-accepted
+  fresh = fresh_is k first_accepted
 
 -- [12.90]
 pub every_list_with : EveryListWith
@@ -149,15 +149,15 @@ every_list_with k accepted es =
     let runs = fresh_lists_match k es in
     let first = every_list (fresh_of k).state (fresh k accepted) (as_calls es) in
     let last = calls_match match es in
-    let parameters = ((fresh_is_plain k).fresh (first-accepted k accepted)).parameters-are in
+    let parameters = ((fresh_is_plain k).fresh (first_accepted k accepted)).parameters_are in
     record {
       results = runs.each;
       state = runs.states;
       owed = owed_within match (owed_wait k) es (rw parameters at first.owed);
-      one = λ i j g h. first.one i j ((critical-iff last i).0 g) ((critical-iff last j).0 h);
+      one = λ i j g h. first.one i j ((critical_iff last i).0 g) ((critical_iff last j).0 h);
       names = each_names match es first.names;
-      waits = waits-unless-due last first.waits;
-      acts = due-may-act last first.acts;
+      waits = waits_unless_due last first.waits;
+      acts = due_may_act last first.acts;
     }
 
 -- [8.140] [12.90]

@@ -14,7 +14,7 @@ use Rattle.deadlines.specs.Deadlines.{initial_with, sound_with, answers_with, st
 use Rattle.deadlines.specs.Matching.{Matches, dated_from, matched, arrived, to_deadlines, to_arrivals}
 use Rattle.model.proofs.Tests.{by_test, clash}
 use Rattle.theory.proofs.Steps.{unsound_iff_one}
-use Rattle.deadlines.proofs.Matched.{sound-same, step_same, sound_matched, arrived_matched}
+use Rattle.deadlines.proofs.Matched.{sound_same, step_same, sound_matched, arrived_matched}
 use Rattle.matching.specs.Engines.{SoundExactly, SoundTogether, UnsoundIffOneWith, UnmatchedIsOne}
 use Rattle.matching.specs.Engines.{OutcomesMatch, FreshMatch, StepsMatch, GoesTo, GoesFro, Inverse}
 use Rattle.matching.proofs.Matchings.{matches_matched, is_matched}
@@ -23,20 +23,20 @@ use Rattle.matching.proofs.Matchings.{matches_matched, is_matched}
 
 -- [12.35]
 pub sound_together : SoundTogether
-sound_together s d m = ap sound_with (is_matched m) ∙ sound-same s
+sound_together s d m = ap sound_with (is_matched m) ∙ sound_same s
 
 -- the state of the arrivals of a sound state of deadlines
 module _ (d : DeadlineState) (sound : sound_with d ≡ true) where
-  pub arrived-matches : Matches (arrived d) d
-  arrived-matches = subst (Matches (arrived d)) (sound_matched d sound) (matches_matched (arrived d))
+  pub arrived_matches : Matches (arrived d) d
+  arrived_matches = subst (Matches (arrived d)) (sound_matched d sound) (matches_matched (arrived d))
 
-  pub arrived-sound : sound_of (arrived d) ≡ true
-  arrived-sound = sym (sound_together (arrived d) d arrived-matches) ∙ sound
+  pub arrived_sound : sound_of (arrived d) ≡ true
+  arrived_sound = sym (sound_together (arrived d) d arrived_matches) ∙ sound
 
 -- [12.35] [12.30]
 pub sound_exactly : SoundExactly
 sound_exactly d = (
-  λ e. (arrived d, arrived-sound d e, arrived-matches d e),
+  λ e. (arrived d, arrived_sound d e, arrived_matches d e),
   λ h. sound_together h.0 d h.2 ∙ h.1,
 )
 
@@ -71,7 +71,7 @@ fresh_match k =
 
 -- where no sound state matches, that of the arrivals does not
 no_match : (d : DeadlineState) → ((s : State) → sound_of s ≡ true → Matches s d → ⊥) → sound_with d ≡ false
-no_match d none = by_test (sound_with d) (λ e. absurd (none (arrived d) (arrived-sound d e) (arrived-matches d e))) (λ e. e)
+no_match d none = by_test (sound_with d) (λ e. absurd (none (arrived d) (arrived_sound d e) (arrived_matches d e))) (λ e. e)
 
 -- soundness is judged first
 pub unsound_with : (d : DeadlineState) (act p m : ℕ) → sound_with d ≡ false → step_with d act p m ≡ answers_with 1 0 0 d
@@ -105,7 +105,7 @@ goes_to s e =
     record {
       answer = rw led;
       matches = rw led (matches_matched s);
-      back = rw led (fro_is (matched s) (sound-same s ∙ e) ∙ ap (answers 0 0 0) (arrived_matched s));
+      back = rw led (fro_is (matched s) (sound_same s ∙ e) ∙ ap (answers 0 0 0) (arrived_matched s));
     }
 
 goes_fro : (d : DeadlineState) → sound_with d ≡ true → GoesFro d
@@ -113,11 +113,11 @@ goes_fro d e =
     let led = fro_is d e in
     record {
       answer = rw led;
-      matches = rw led (arrived-matches d e);
-      back = rw led (to_is (arrived d) (arrived-sound d e) ∙ ap (answers_with 0 0 0) (sound_matched d e));
+      matches = rw led (arrived_matches d e);
+      back = rw led (to_is (arrived d) (arrived_sound d e) ∙ ap (answers_with 0 0 0) (sound_matched d e));
     }
 
 -- [12.100] [12.105]
 pub inverse : Inverse
 unfolding to_deadlines to_arrivals
-inverse = record { to = goes_to; fro = goes_fro; to-refused = λ s e. rw e; fro-refused = λ d e. rw e }
+inverse = record { to = goes_to; fro = goes_fro; to_refused = λ s e. rw e; fro_refused = λ d e. rw e }

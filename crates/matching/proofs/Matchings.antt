@@ -97,7 +97,7 @@ module _ {s : State} {d : DeadlineState} (m : Matches s d) where
   pub size_same : length d.processes ≡ length s.processes
   size_same = entries_size m.entries
 
-  pub places-match : (i : ℕ)
+  pub places_match : (i : ℕ)
       → LocationsMatch (get_or s.parameters.a (i - 1) 0) s.parameters.b s.parameters.c (entry_of s i).location (entry_in d i).location
   unfolding entry_of entry_in
-  places-match i = entry_matches m.entries (i - 1) (i - 1) (omega arith)
+  places_match i = entry_matches m.entries (i - 1) (i - 1) (omega arith)

@@ -18,7 +18,7 @@ use Rattle.deadlines.proofs.Matched.{sound_matched}
 use Rattle.deadlines.proofs.Search.{search_tells_arrived}
 use Rattle.matching.specs.Search.{FindsFirst, SearchFindsFirst, FindsFirstWith, SearchFindsFirstWith}
 use Rattle.matching.proofs.Matchings.{matches_matched}
-use Rattle.matching.proofs.Facts.{last-is-deadline, deadline-is-last}
+use Rattle.matching.proofs.Facts.{last_is_deadline, deadline_is_last}
 
 tells_finds : (s : State) (f : Survey) {c : ℕ} → TellsFirst s.clock c (first_deadline s) f → FindsFirst s f
 tells_finds s f t =
@@ -35,12 +35,12 @@ search_finds_first s acting sound = tells_finds s _ (search_tells_first s acting
 finds_same : {s : State} {d : DeadlineState} {f : Survey} → Matches s d → FindsFirst s f → FindsFirstWith d f
 finds_same {s} {d} {f} m found = record {
   none = (
-    λ z i first last h. found.none.0 z i last (last-is-deadline m h),
-    λ nobody. found.none.1 (λ i last h. let t = deadline-is-last m h in nobody i t.0 last t.1),
+    λ z i first last h. found.none.0 z i last (last_is_deadline m h),
+    λ nobody. found.none.1 (λ i last h. let t = deadline_is_last m h in nobody i t.0 last t.1),
   );
-  has = λ n. deadline-is-last m (rw m.clock (found.some n).has);
-  smallest = λ n i first last h. rw m.clock ((found.some n).smallest i last (last-is-deadline m h));
-  lowest = λ n i first h. (found.some n).lowest i (rw m.clock at (last-is-deadline m h));
+  has = λ n. deadline_is_last m (rw m.clock (found.some n).has);
+  smallest = λ n i first last h. rw m.clock ((found.some n).smallest i last (last_is_deadline m h));
+  lowest = λ n i first h. (found.some n).lowest i (rw m.clock at (last_is_deadline m h));
 }
 
 pub search_finds_first_with : SearchFindsFirstWith

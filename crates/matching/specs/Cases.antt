@@ -26,12 +26,12 @@ WaitGives code l = step_with (only_first l) wait_act 0 0 ≡ answers_with code 0
 
 -- [20.260] [12.35] in the order of the clause
 pub record DeadlineCases : Type 0 where
-  pub of-arrival-0 : WaitGives 0 (Checking 8 12)
+  pub of_arrival_0 : WaitGives 0 (Checking 8 12)
   pub one_later : WaitGives 1 (Checking 8 13)
-  pub of-no-arrival : WaitGives 1 (Checking 3 7)
-  pub first-below-b : WaitGives 1 (Checking 3 12)
-  pub last-far-off : WaitGives 1 (Testing 0 18_446_744_073_709_551_615)
-  pub first-that-wraps : WaitGives 1 (Testing 18_446_744_073_709_551_615 4)
+  pub of_no_arrival : WaitGives 1 (Checking 3 7)
+  pub first_below_b : WaitGives 1 (Checking 3 12)
+  pub last_far_off : WaitGives 1 (Testing 0 18_446_744_073_709_551_615)
+  pub first_that_wraps : WaitGives 1 (Testing 18_446_744_073_709_551_615 4)
 
 -- Two values of a that lie far apart
 
@@ -57,13 +57,13 @@ pub record OwnLastTimes (a₁ a₂ quick slow : ℕ) : Type 0 where
   -- [12.100] of the arrivals that the same steps of the first engine leave
   pub turned : to_deadlines (state_from (initial (own_parameters a₁ a₂)) both_try) ≡ answers_with 0 0 0 (both_testing a₁ a₂)
   -- [12.50]
-  pub quick-late : step_with (both_testing a₁ a₂) wait_act 0 6 ≡ answers_with 8 quick 5 (both_testing a₁ a₂)
+  pub quick_late : step_with (both_testing a₁ a₂) wait_act 0 6 ≡ answers_with 8 quick 5 (both_testing a₁ a₂)
   -- [12.50] once the quick one has withdrawn
-  pub slow-late : map (λ (o : DeadlineOutcome). o.answer)
+  pub slow_late : map (λ (o : DeadlineOutcome). o.answer)
       (steps_with (both_testing a₁ a₂) (event 5 quick withdraw_act ∷ event 5_001 0 wait_act ∷ event 5_000 slow test_act ∷ []))
       ≡ answer_of 0 0 5 ∷ answer_of 8 slow 5_000 ∷ answer_of 0 0 5_000 ∷ []
 
 -- [2.90] [12.20] whichever of the two has the lower number
 pub record EachItsOwnWith : Type 0 where
-  pub quick-first : OwnLastTimes 5 5_000 1 2
-  pub slow-first : OwnLastTimes 5_000 5 2 1
+  pub quick_first : OwnLastTimes 5 5_000 1 2
+  pub slow_first : OwnLastTimes 5_000 5 2 1

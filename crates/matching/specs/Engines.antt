@@ -70,5 +70,5 @@ pub record GoesFro (d : DeadlineState) : Type 0 where
 pub record Inverse : Type 0 where
   pub to : (s : State) → sound_of s ≡ true → GoesTo s
   pub fro : (d : DeadlineState) → sound_with d ≡ true → GoesFro d
-  pub to-refused : (s : State) → sound_of s ≡ false → to_deadlines s ≡ answers_with 1 0 0 blank_with
-  pub fro-refused : (d : DeadlineState) → sound_with d ≡ false → to_arrivals d ≡ answers 1 0 0 blank
+  pub to_refused : (s : State) → sound_of s ≡ false → to_deadlines s ≡ answers_with 1 0 0 blank_with
+  pub fro_refused : (d : DeadlineState) → sound_with d ≡ false → to_arrivals d ≡ answers 1 0 0 blank

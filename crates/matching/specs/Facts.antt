@@ -80,11 +80,11 @@ AcceptedIffAllowedWith = (d : DeadlineState) → sound_with d ≡ true → (act 
 -- [12.60] where an action of process p at the time m leads at the word w, and the word after it, with its own a and with b and c
 pub data EffectWith (a b c p m : ℕ) : ℕ → ℕ → DeadlineLocation → ℕ → Type 0 where
   try : {w : ℕ} → EffectWith a b c p m try_act w (Testing m (m + a)) w
-  test-free : EffectWith a b c p m test_act 0 (Setting m (m + a)) 0
-  test-taken : {w : ℕ} → w ≢ 0 → EffectWith a b c p m test_act w (Testing m (m + a)) w
+  test_free : EffectWith a b c p m test_act 0 (Setting m (m + a)) 0
+  test_taken : {w : ℕ} → w ≢ 0 → EffectWith a b c p m test_act w (Testing m (m + a)) w
   set : {w : ℕ} → EffectWith a b c p m set_act w (Checking (m + b) (m + c)) p
-  check-own : EffectWith a b c p m check_act p (Entering m (m + a)) p
-  check-other : {w : ℕ} → w ≢ p → EffectWith a b c p m check_act w (Testing m (m + a)) w
+  check_own : EffectWith a b c p m check_act p (Entering m (m + a)) p
+  check_other : {w : ℕ} → w ≢ p → EffectWith a b c p m check_act w (Testing m (m + a)) w
   crit : {w : ℕ} → EffectWith a b c p m crit_act w Critical w
   exit : {w : ℕ} → EffectWith a b c p m exit_act w (Resetting m (m + a)) w
   reset : {w : ℕ} → EffectWith a b c p m reset_act w (Leaving m (m + a)) 0
@@ -94,12 +94,12 @@ pub data EffectWith (a b c p m : ℕ) : ℕ → ℕ → DeadlineLocation → ℕ
 -- [12.60] e is d after the action of process p at the time m: it differs in the clock, in p's entry and in the word only. The a of p is named by
 -- its place, and not by what the step asks for it.
 pub record ChangedWith (d : DeadlineState) (act p m : ℕ) (e : DeadlineState) : Type 0 where
-  pub parameters-stay : e.parameters ≡ d.parameters
-  pub size-stays : length e.processes ≡ length d.processes
-  pub clock-is : e.clock ≡ m
-  pub others-stay : (i : ℕ) → 1 ≤ i → i ≢ p → entry_in e i ≡ entry_in d i
-  -- and `others-stay` keeps every entry, as none is of process 0
-  pub wait-keeps : act ≡ wait_act → e.word ≡ d.word
+  pub parameters_stay : e.parameters ≡ d.parameters
+  pub size_stays : length e.processes ≡ length d.processes
+  pub clock_is : e.clock ≡ m
+  pub others_stay : (i : ℕ) → 1 ≤ i → i ≢ p → entry_in e i ≡ entry_in d i
+  -- and `others_stay` keeps every entry, as none is of process 0
+  pub wait_keeps : act ≡ wait_act → e.word ≡ d.word
   pub effect : act ≢ wait_act
       → EffectWith (get_or d.parameters.a (p - 1) 0) d.parameters.b d.parameters.c p m act d.word (entry_in e p).location e.word
 

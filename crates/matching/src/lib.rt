@@ -1,1 +1,3 @@
 // The two engines side by side. No code: statements in `specs/`, proofs in `proofs/`.
+
+#![tactic(auto)]

@@ -14,32 +14,32 @@ use Rattle.model.proofs.Lists.{rows_long}
 module _ {S D R : Type 0} (gives : S → D → R) (next : R → S) where
   -- Two lists
 
-  pub end-append : (s : S) (ds es : List D) → end_by gives next s (ds ++ es) ≡ end_by gives next (end_by gives next s ds) es
+  pub end_append : (s : S) (ds es : List D) → end_by gives next s (ds ++ es) ≡ end_by gives next (end_by gives next s ds) es
   unfolding end_by
-  end-append s [] es = refl
-  end-append s (d ∷ ds) es = end-append (next (gives s d)) ds es
+  end_append s [] es = refl
+  end_append s (d ∷ ds) es = end_append (next (gives s d)) ds es
 
-  pub results-append : (s : S) (ds es : List D)
+  pub results_append : (s : S) (ds es : List D)
       → results_by gives next s (ds ++ es) ≡ results_by gives next s ds ++ results_by gives next (end_by gives next s ds) es
   unfolding end_by results_by
-  results-append s [] es = refl
-  results-append s (d ∷ ds) es = ap (λ (rs : List R). gives s d ∷ rs) (results-append (next (gives s d)) ds es)
+  results_append s [] es = refl
+  results_append s (d ∷ ds) es = ap (λ (rs : List R). gives s d ∷ rs) (results_append (next (gives s d)) ds es)
 
   -- One call more
 
   pub end_snoc : (s : S) (ds : List D) (d : D) → end_by gives next s (ds ++ (d ∷ [])) ≡ next (gives (end_by gives next s ds) d)
   unfolding end_by
-  end_snoc s ds d = end-append s ds (d ∷ [])
+  end_snoc s ds d = end_append s ds (d ∷ [])
 
-  pub results-snoc : (s : S) (ds : List D) (d : D)
+  pub results_snoc : (s : S) (ds : List D) (d : D)
       → results_by gives next s (ds ++ (d ∷ [])) ≡ results_by gives next s ds ++ (gives (end_by gives next s ds) d ∷ [])
   unfolding results_by
-  results-snoc s ds d = results-append s ds (d ∷ [])
+  results_snoc s ds d = results_append s ds (d ∷ [])
 
-  pub length-results : (s : S) (ds : List D) → length (results_by gives next s ds) ≡ length ds
+  pub length_results : (s : S) (ds : List D) → length (results_by gives next s ds) ≡ length ds
   unfolding results_by
-  length-results s [] = refl
-  length-results s (d ∷ ds) = ap suc (length-results (next (gives s d)) ds)
+  length_results s [] = refl
+  length_results s (d ∷ ds) = ap suc (length_results (next (gives s d)) ds)
 
 -- The loop
 
@@ -55,8 +55,8 @@ module _ {S D R : Type 0} {gives : S → D → R} {next : R → S} {s : S} {ds :
   begins = record { within = omega arith; state = refl; results = refl }
 
   module _ {i : ℕ} {t : S} {rs : List R} (made : Made gives next s ds i t rs) where
-    pub count-made : length rs ≡ i
-    count-made = rw made.results (length-results gives next s (take i ds) ∙ length-take-le i ds made.within)
+    pub count_made : length rs ≡ i
+    count_made = rw made.results (length_results gives next s (take i ds) ∙ length-take-le i ds made.within)
 
     -- d is the next call; e is of no account
     pub goes_on : i < length ds → (d e : D) → get_or ds i e ≡ d → Made gives next s ds (i + 1) (next (gives t d)) (rs ++ (gives t d ∷ []))
@@ -65,15 +65,15 @@ module _ {S D R : Type 0} {gives : S → D → R} {next : R → S} {s : S} {ds :
         record {
           within = omega arith;
           state = rw (more, made.state) (sym (end_snoc gives next s (take i ds) d));
-          results = rw (more, made.state, made.results) (sym (results-snoc gives next s (take i ds) d));
+          results = rw (more, made.state, made.results) (sym (results_snoc gives next s (take i ds) d));
         }
 
     -- all have been made
-    pub end-made : length ds ≤ i → t ≡ end_by gives next s ds
-    end-made h = made.state ∙ ap (end_by gives next s) (take_all i ds h)
+    pub end_made : length ds ≤ i → t ≡ end_by gives next s ds
+    end_made h = made.state ∙ ap (end_by gives next s) (take_all i ds h)
 
-    pub results-made : length ds ≤ i → rs ≡ results_by gives next s ds
-    results-made h = made.results ∙ ap (results_by gives next s) (take_all i ds h)
+    pub results_made : length ds ≤ i → rs ≡ results_by gives next s ds
+    results_made h = made.results ∙ ap (results_by gives next s) (take_all i ds h)
 
 -- The loop that writes down what the calls give back
 
@@ -88,21 +88,21 @@ pub record Going {S D R A L : Type 0} (gives : S → D → R) (next : R → S) (
 
 module _ {S D R A L : Type 0} {gives : S → D → R} {next : R → S} {read : A → L → List D} {write : List R → L → L}
     {s : S} {a : A} {l : L} {n : ℕ} where
-  pub sets-out : n ≡ length (read a l) → l ≡ write [] l → Going gives next read write s a l n 0 s l
-  sets-out h none = record { results = []; made = begins; all = h; written = none }
+  pub sets_out : n ≡ length (read a l) → l ≡ write [] l → Going gives next read write s a l n 0 s l
+  sets_out h none = record { results = []; made = begins; all = h; written = none }
 
   module _ {i : ℕ} {t : S} {m : L} (g : Going gives next read write s a l n i t m) where
-    pub count-going : length g.results ≡ i
-    count-going = count-made g.made
+    pub count_going : length g.results ≡ i
+    count_going = count_made g.made
 
     -- a list with a row for each call is as long after a row of each result has been stored over its front
-    pub long-going : {B : Type 0} (f : R → B) (rows : List B) → n ≤ length rows → length (over (map f g.results) rows) ≡ length rows
-    long-going f rows h = rows_long f g.results rows i count-going (omega (arith, g.made.within, g.all))
+    pub long_going : {B : Type 0} (f : R → B) (rows : List B) → n ≤ length rows → length (over (map f g.results) rows) ≡ length rows
+    long_going f rows h = rows_long f g.results rows i count_going (omega (arith, g.made.within, g.all))
 
     -- d is the next call; e is of no account
-    pub moves-on : i < n → (d e : D) → get_or (read a l) i e ≡ d → {u : S} {k : L} → u ≡ next (gives t d)
+    pub moves_on : i < n → (d e : D) → get_or (read a l) i e ≡ d → {u : S} {k : L} → u ≡ next (gives t d)
         → k ≡ write (g.results ++ (gives t d ∷ [])) l → Going gives next read write s a l n (i + 1) u k
-    moves-on h d e at led put = record {
+    moves_on h d e at led put = record {
       results = g.results ++ (gives t d ∷ []);
       made = rw led (goes_on g.made (omega (arith, g.all)) d e at);
       all = g.all;
@@ -110,31 +110,31 @@ module _ {S D R A L : Type 0} {gives : S → D → R} {next : R → S} {read : A
     }
 
     -- all have been made
-    pub end-reached : n ≤ i → t ≡ end_by gives next s (read a l)
-    end-reached h = end-made g.made (omega (arith, g.all))
+    pub end_reached : n ≤ i → t ≡ end_by gives next s (read a l)
+    end_reached h = end_made g.made (omega (arith, g.all))
 
-    pub all-written : n ≤ i → m ≡ write (results_by gives next s (read a l)) l
-    all-written h = g.written ∙ ap (λ (rs : List R). write rs l) (results-made g.made (omega (arith, g.all)))
+    pub all_written : n ≤ i → m ≡ write (results_by gives next s (read a l)) l
+    all_written h = g.written ∙ ap (λ (rs : List R). write rs l) (results_made g.made (omega (arith, g.all)))
 
 -- Chains
 
 -- where one result alone is allowed, a chain is the list of calls
 module _ {S D R : Type 0} {Allows : S → D → R → Type 0} {gives : S → D → R} (next : R → S)
     (only : (s : S) (d : D) (r : R) → Allows s d r → r ≡ gives s d) where
-  pub chain-results : {s : S} {ds : List D} {rs : List R} → Chained Allows next s ds rs → rs ≡ results_by gives next s ds
+  pub chain_results : {s : S} {ds : List D} {rs : List R} → Chained Allows next s ds rs → rs ≡ results_by gives next s ds
   unfolding results_by
-  chain-results Chained.ended = refl
-  chain-results (Chained.made {s} {d} {ds} {r} m ch) =
-      λ i. only s d r m i ∷ (chain-results ch ∙ ap (λ (q : R). results_by gives next (next q) ds) (only s d r m)) i
+  chain_results Chained.ended = refl
+  chain_results (Chained.made {s} {d} {ds} {r} m ch) =
+      λ i. only s d r m i ∷ (chain_results ch ∙ ap (λ (q : R). results_by gives next (next q) ds) (only s d r m)) i
 
-  pub chain-last : {s : S} {ds : List D} {rs : List R} → Chained Allows next s ds rs → last_of next s rs ≡ end_by gives next s ds
+  pub chain_last : {s : S} {ds : List D} {rs : List R} → Chained Allows next s ds rs → last_of next s rs ≡ end_by gives next s ds
   unfolding end_by
-  chain-last Chained.ended = refl
-  chain-last (Chained.made {s} {d} {ds} {r} m ch) = chain-last ch ∙ ap (λ (q : R). end_by gives next (next q) ds) (only s d r m)
+  chain_last Chained.ended = refl
+  chain_last (Chained.made {s} {d} {ds} {r} m ch) = chain_last ch ∙ ap (λ (q : R). end_by gives next (next q) ds) (only s d r m)
 
 -- where each call has a result that is allowed, so has each list
 module _ {S D R : Type 0} {Allows : S → D → R → Type 0} (gives : S → D → R) (next : R → S) (some : (s : S) (d : D) → Allows s d (gives s d)) where
-  pub list-chain : (s : S) (ds : List D) → Chained Allows next s ds (results_by gives next s ds)
+  pub list_chain : (s : S) (ds : List D) → Chained Allows next s ds (results_by gives next s ds)
   unfolding results_by
-  list-chain s [] = Chained.ended
-  list-chain s (d ∷ ds) = Chained.made (some s d) (list-chain (next (gives s d)) ds)
+  list_chain s [] = Chained.ended
+  list_chain s (d ∷ ds) = Chained.made (some s d) (list_chain (next (gives s d)) ds)

@@ -11,8 +11,8 @@ pub write-gave : {r s : Answer} {o p : List ℕ} → r ≡ s → o ≡ p → wri
 write-gave r o = λ i. write_gave (r i) (o i)
 
 module _ {r : Answer} {o : List ℕ} {w : Written} (e : write_gave r o ≡ w) where
-  pub gave-answer : r ≡ w.answer
-  gave-answer = ap (λ (x : Written). x.answer) e
+  pub gave_answer : r ≡ w.answer
+  gave_answer = ap (λ (x : Written). x.answer) e
 
-  pub gave-out : o ≡ w.out
-  gave-out = ap (λ (x : Written). x.out) e
+  pub gave_out : o ≡ w.out
+  gave_out = ap (λ (x : Written). x.out) e

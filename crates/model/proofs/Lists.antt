@@ -51,11 +51,11 @@ length_over xs l h = rw (length-append xs (drop (length xs) l), length-drop (len
 
 module _ {A : Type 0} (xs l : List A) (i : ℕ) (written : length xs ≡ i) (inside : i < length l) where
   -- the row after those stored is as it was
-  pub over-next : (d : A) → get_or (over xs l) i d ≡ get_or l i d
-  over-next d = rw (written, drop-cons l i d) (get_or_at xs (get_or l i d) (drop (suc i) l) d i written)
+  pub over_next : (d : A) → get_or (over xs l) i d ≡ get_or l i d
+  over_next d = rw (written, drop-cons l i d) (get_or_at xs (get_or l i d) (drop (suc i) l) d i written)
 
-  pub over-snoc : (x : A) → set (over xs l) i x ≡ over (xs ++ (x ∷ [])) l
-  over-snoc x =
+  pub over_snoc : (x : A) → set (over xs l) i x ≡ over (xs ++ (x ∷ [])) l
+  over_snoc x =
       let more : length (xs ++ (x ∷ [])) ≡ suc i = simp length-append (omega arith) in
       rw (written, drop-cons l i x, more, append_assoc) (set_at xs (get_or l i x) (drop (suc i) l) x i written)
 
@@ -65,10 +65,10 @@ module _ {A B : Type 0} (f : A → B) (rs : List A) (l : List B) (i : ℕ) (made
   rows_made = length-map rs f ∙ made
 
   pub rows_next : i < length l → (d : B) → get_or (over (map f rs) l) i d ≡ get_or l i d
-  rows_next h d = over-next (map f rs) l i rows_made h d
+  rows_next h d = over_next (map f rs) l i rows_made h d
 
   pub rows_snoc : i < length l → (r : A) → set (over (map f rs) l) i (f r) ≡ over (map f (rs ++ (r ∷ []))) l
-  rows_snoc h r = rw (map-append f rs (r ∷ [])) (over-snoc (map f rs) l i rows_made h (f r))
+  rows_snoc h r = rw (map-append f rs (r ∷ [])) (over_snoc (map f rs) l i rows_made h (f r))
 
   pub rows_long : i ≤ length l → length (over (map f rs) l) ≡ length l
   rows_long h = length_over (map f rs) l (omega (arith, rows_made))
@@ -85,7 +85,7 @@ length_mapped X Y f l n e = sym (length-map l f) ∙ e
 module _ {A : Type 0} (from to : List A) (i : ℕ) where
   pub copied_next : (d : A) → i < length from → i < length to → set (over (take i from) to) i (get_or from i d) ≡ over (take (i + 1) from) to
   copied_next d h g =
-      over-snoc (take i from) to i (length-take-le i from (omega arith)) g (get_or from i d)
+      over_snoc (take i from) to i (length-take-le i from (omega arith)) g (get_or from i d)
       ∙ ap (λ (l : List A). over l to) (sym (take-suc from i d h) ∙ ap (λ (k : ℕ). take k from) (sym (add-one i)))
 
   -- no more are left of one of the two

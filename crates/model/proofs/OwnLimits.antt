@@ -58,21 +58,21 @@ module _ (k : Parameters) (e : limits_stand k ≡ true) where
   past_end : (j : ℕ) → 96 ≤ j → get_or k.a j 0 ≡ 0
   past_end j h = let parts = limits_parts k e in get_or-eq_default k.a 0 (omega arith)
 
-  pub limit-zero : (j : ℕ) → k.n ≤ j → get_or k.a j 0 ≡ 0
-  limit-zero j h = if_lt j 96 (λ g. (simp tests at (stands_at j g)).1 (omega arith)) (past_end j)
+  pub limit_zero : (j : ℕ) → k.n ≤ j → get_or k.a j 0 ≡ 0
+  limit_zero j h = if_lt j 96 (λ g. (simp tests at (stands_at j g)).1 (omega arith)) (past_end j)
 
   -- whichever process has it, no a is past c
-  pub limit-held : (i : ℕ) → limit_in k i ≤ k.c
+  pub limit_held : (i : ℕ) → limit_in k i ≤ k.c
   unfolding limit_at
-  limit-held i =
+  limit_held i =
       let parts = limits_parts k e in
       if_lt (i - 1) k.n
       (λ h. if_lt (i - 1) 96 (λ g. omega (arith, limit_within (i - 1) h g)) (λ g. omega (arith, past_end (i - 1) g)))
-      (λ h. omega (arith, limit-zero (i - 1) h))
+      (λ h. omega (arith, limit_zero (i - 1) h))
 
   -- nor past the most that c may be
-  pub limit-fits : (i : ℕ) → limit_in k i ≤ 10_000_000
-  limit-fits i = omega (arith, limit-held i, (limits_parts k e).most)
+  pub limit_fits : (i : ℕ) → limit_in k i ≤ 10_000_000
+  limit_fits i = omega (arith, limit_held i, (limits_parts k e).most)
 
 -- The largest
 

@@ -49,23 +49,23 @@ abbrev pub from : ℕ → Lists → Lists
 from i l = lists (drop i l.times) (drop i l.processes) (drop i l.actions)
 
 module _ (l : Lists) where
-  pub length-steps : length (events_of l) ≡ room l
-  length-steps = length_in l.times l.processes l.actions
+  pub length_steps : length (events_of l) ≡ room l
+  length_steps = length_in l.times l.processes l.actions
 
-  pub step-at : (i : ℕ) (e : Event) → i < room l → get_or (events_of l) i e ≡ event_in l i
-  step-at i e h = at_in l.times l.processes l.actions i e (omega arith) (omega arith) (omega arith)
+  pub step_at : (i : ℕ) (e : Event) → i < room l → get_or (events_of l) i e ≡ event_in l i
+  step_at i e h = at_in l.times l.processes l.actions i e (omega arith) (omega arith) (omega arith)
 
   -- they stand for the steps from there on
-  pub steps-from : (i : ℕ) → events_of (from i l) ≡ drop i (events_of l)
-  steps-from i = from_in i l.times l.processes l.actions
+  pub steps_from : (i : ℕ) → events_of (from i l) ≡ drop i (events_of l)
+  steps_from i = from_in i l.times l.processes l.actions
 
-  pub steps-end : (i : ℕ) → room l ≤ i → events_of (from i l) ≡ []
-  steps-end i h =
-      let z : length (events_of l) ≤ i = omega (arith, length-steps) in
-      steps-from i ∙ drop_of_length-le (events_of l) z
+  pub steps_end : (i : ℕ) → room l ≤ i → events_of (from i l) ≡ []
+  steps_end i h =
+      let z : length (events_of l) ≤ i = omega (arith, length_steps) in
+      steps_from i ∙ drop_of_length-le (events_of l) z
 
   pub steps_next : (i : ℕ) → i < room l → events_of (from i l) ≡ event_in l i ∷ events_of (from (i + 1) l)
   steps_next i h =
       let e : Event = event_in l i in
-      steps-from i ∙ drop_at (events_of l) i e (omega (arith, length-steps))
-      ∙ rw (step-at i e h, steps-from (i + 1))
+      steps_from i ∙ drop_at (events_of l) i e (omega (arith, length_steps))
+      ∙ rw (step_at i e h, steps_from (i + 1))

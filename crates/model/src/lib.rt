@@ -1,8 +1,10 @@
 // The declared types of the lock. What they mean, and every definition that a contract cites, stands in `specs/`,
 // one to three files for each of sections 2 to 8 of the specification; this crate has no function.
 
+#![tactic(auto)]
+
 // [2.70] [2.80] [21.20] Where a process is; the timed locations carry the time since which it is there.
-#[derive(Drop)]
+#[derive(Clone, Copy)]
 pub enum Location {
     Remainder,
     Testing(u64),
@@ -15,13 +17,13 @@ pub enum Location {
 }
 
 // [2.10] [21.20] An entry.
-#[derive(Drop)]
+#[derive(Clone, Copy)]
 pub struct Process {
     pub location: Location,
 }
 
 // [2.10] What a lock is made with and keeps.
-#[derive(Drop)]
+#[derive(Clone, Copy)]
 pub struct Parameters {
     // how many of the entries are processes
     pub n: u64,
@@ -33,7 +35,7 @@ pub struct Parameters {
 }
 
 // [2.10] [21.50] Process p, from 1, has the entry at place p - 1.
-#[derive(Drop)]
+#[derive(Clone, Copy)]
 pub struct State {
     pub parameters: Parameters,
     pub clock: u64,
@@ -44,7 +46,7 @@ pub struct State {
 
 // A row of section 3 of the specification at a state, a process and a time: the stage that it leaves, where it leads, and the word after
 // it.
-#[derive(Drop)]
+#[derive(Clone, Copy)]
 pub struct Transition {
     pub from: u64,
     pub to: Location,
@@ -53,7 +55,7 @@ pub struct Transition {
 
 // [4.50] An answer. Its fields lie as in C, for `funnelfawn`.
 #[repr(C)]
-#[derive(Drop)]
+#[derive(Clone, Copy)]
 pub struct Answer {
     pub code: u64,
     pub process: u64,
@@ -61,21 +63,21 @@ pub struct Answer {
 }
 
 // What a call gives back.
-#[derive(Drop)]
+#[derive(Clone, Copy)]
 pub struct Outcome {
     pub answer: Answer,
     pub state: State,
 }
 
 // [6.80] [21.100] A field of a line: its value, and how many bytes it takes with the byte that ends it; or that it fails.
-#[derive(Drop)]
+#[derive(Clone, Copy)]
 pub enum Field {
     Value(u64, usize),
     Bad,
 }
 
 // [6.50] [21.100] A line of a step: time, process, action, and how many bytes it takes; or a refusal's code and line.
-#[derive(Drop)]
+#[derive(Clone, Copy)]
 pub enum Row {
     Step(u64, u64, u64, usize),
     Unread(u64, u64),
@@ -83,7 +85,7 @@ pub enum Row {
 
 // [6.30] A line of numbers, four at most: they stand first, zeros after them, and `size` is how many bytes the line takes; or a
 // refusal's code, which is not 0, and line.
-#[derive(Drop)]
+#[derive(Clone, Copy)]
 pub struct Line {
     pub code: u64,
     pub line: u64,
@@ -93,7 +95,7 @@ pub struct Line {
 
 // [6.34] The lines of a: the values as parameters have them, and how many bytes the lines take; or a refusal's code, which is not 0, and
 // line, where there is one.
-#[derive(Drop)]
+#[derive(Clone, Copy)]
 pub struct Limits {
     pub code: u64,
     pub line: u64,
@@ -104,7 +106,7 @@ pub struct Limits {
 // [6.145] What is found of a text: its parameters, the line of its first step, and a size, that of the first lines in
 // bytes or that of all in steps; or a refusal's code, which is not 0, and the line that it is reported at. It is no enum, which could not
 // hold the array of the parameters.
-#[derive(Drop)]
+#[derive(Clone, Copy)]
 pub struct Scan {
     pub code: u64,
     pub line: u64,
@@ -113,14 +115,14 @@ pub struct Scan {
 }
 
 // [6.130] [6.140] What a reading answers; the parameters are 0 where it is refused.
-#[derive(Drop)]
+#[derive(Clone, Copy)]
 pub struct Reading {
     pub answer: Answer,
     pub parameters: Parameters,
 }
 
 // [5.10] The counts of a summary, and the longest wait.
-#[derive(Drop)]
+#[derive(Clone, Copy)]
 pub struct Counts {
     pub accepted: u64,
     pub refused: u64,
@@ -132,14 +134,14 @@ pub struct Counts {
 }
 
 // [5.10] What process p, from 1, has waited so far has the place p - 1.
-#[derive(Drop)]
+#[derive(Clone, Copy)]
 pub struct Statistics {
     pub counts: Counts,
     pub waited: [u64; 96],
 }
 
 // [5.30] What a recorded step gives back: the outcome, and the summary brought up to date.
-#[derive(Drop)]
+#[derive(Clone, Copy)]
 pub struct Recorded {
     pub outcome: Outcome,
     pub statistics: Statistics,

@@ -21,7 +21,7 @@ use Rattle.recent.specs.Looking.{Looked, untimely_of}
 use Rattle.recent.proofs.Places.{wrapped_on, wrapped_below, ring_length}
 use Rattle.recent.proofs.Sights.{width_in, first_in, count_in, ring_in, SoundNumbers, sound_numbers}
 use Rattle.recent.proofs.Soundness.{sound_parts}
-use Rattle.recent.proofs.Figures.{how_many-most, figures-snoc}
+use Rattle.recent.proofs.Figures.{how_many-most, figures_snoc}
 
 -- both parts of what a call gives back are equal
 board-gave : {r s : Answer} {l m : List ℕ} → r ≡ s → l ≡ m → board_gave r l ≡ board_gave s m
@@ -39,53 +39,53 @@ emptied_stores w (x ∷ y ∷ z ∷ u ∷ l) h = refl
 
 module _ (w : ℕ) (l : List ℕ) {r : Answer} where
   module _ (fits : board_length ≤ length l) {new : List ℕ} where
-    pub set-up-refused : width_stands w ≡ false → r ≡ answer_of 17 0 0 → new ≡ emptied 0 l → board_gave r new ≡ lent_set_up w l
+    pub set_up_refused : width_stands w ≡ false → r ≡ answer_of 17 0 0 → new ≡ emptied 0 l → board_gave r new ≡ lent_set_up w l
     unfolding lent_set_up set_up_of
-    set-up-refused e f g = board-gave f g ∙ simp (le-leb _ _ fits, e)
+    set_up_refused e f g = board-gave f g ∙ simp (le-leb _ _ fits, e)
 
-    pub set-up-made : width_stands w ≡ true → r ≡ answer_of 0 0 0 → new ≡ emptied w l → board_gave r new ≡ lent_set_up w l
+    pub set_up_made : width_stands w ≡ true → r ≡ answer_of 0 0 0 → new ≡ emptied w l → board_gave r new ≡ lent_set_up w l
     unfolding lent_set_up set_up_of
-    set-up-made e f g = board-gave f g ∙ simp (le-leb _ _ fits, e)
+    set_up_made e f g = board-gave f g ∙ simp (le-leb _ _ fits, e)
 
   module _ (short : length l < board_length) where
-    pub set-up-neither : width_stands w ≡ false → r ≡ answer_of 17 0 0 → board_gave r l ≡ lent_set_up w l
+    pub set_up_neither : width_stands w ≡ false → r ≡ answer_of 17 0 0 → board_gave r l ≡ lent_set_up w l
     unfolding lent_set_up
-    set-up-neither e f = rw f (simp (lt-leb _ _ short, e))
+    set_up_neither e f = rw f (simp (lt-leb _ _ short, e))
 
-    pub set-up-short : width_stands w ≡ true → r ≡ answer_of 16 0 0 → board_gave r l ≡ lent_set_up w l
+    pub set_up_short : width_stands w ≡ true → r ≡ answer_of 16 0 0 → board_gave r l ≡ lent_set_up w l
     unfolding lent_set_up
-    set-up-short e f = rw f (simp (lt-leb _ _ short, e))
+    set_up_short e f = rw f (simp (lt-leb _ _ short, e))
 
 -- The places of a sound board at a time
 
 module _ (l : List ℕ) (t : ℕ) where
-  pub still-most : still_at l t ≤ count_in l
+  pub still_most : still_at l t ≤ count_in l
   unfolding board_in
-  still-most = omega (arith, ring_length l (first_in l) (count_in l), how_many-most (width_in l) t (ring_in l))
+  still_most = omega (arith, ring_length l (first_in l) (count_in l), how_many-most (width_in l) t (ring_in l))
 
   module _ (s : SoundNumbers l) where
-    pub first-inside : first_at l t < most_kept
-    first-inside = wrapped_below _ (omega (arith, s.inside, s.room))
+    pub first_inside : first_at l t < most_kept
+    first_inside = wrapped_below _ (omega (arith, s.inside, s.room))
 
     -- the place after the last entry that counts is that after the last kept one
     pub next_is : wrapped (first_at l t + still_at l t) ≡ next_at l
     next_is =
-        wrapped_on (first_in l + (count_in l - still_at l t)) (still_at l t) (omega (arith, s.inside, s.room, still-most))
-        ∙ ap wrapped (omega (arith, still-most))
+        wrapped_on (first_in l + (count_in l - still_at l t)) (still_at l t) (omega (arith, s.inside, s.room, still_most))
+        ∙ ap wrapped (omega (arith, still_most))
 
 -- of a look
 module _ {l : List ℕ} {t : ℕ} {r : Look} (k : Looked l t r) where
-  pub seen-sound : SoundNumbers l
-  seen-sound = sound_numbers l k.board k.sound
+  pub seen_sound : SoundNumbers l
+  seen_sound = sound_numbers l k.board k.sound
 
   pub count_most : r.count ≤ most_kept
-  count_most = omega (arith, k.count-is, still-most l t, seen-sound.room)
+  count_most = omega (arith, k.count_is, still_most l t, seen_sound.room)
 
-  pub first-most : r.first < most_kept
-  first-most = omega (arith, k.first_is, first-inside l t seen-sound)
+  pub first_most : r.first < most_kept
+  first_most = omega (arith, k.first_is, first_inside l t seen_sound)
 
-  pub next-most : wrapped (r.first + r.count) < most_kept
-  next-most = wrapped_below (r.first + r.count) (omega (arith, first-most, count_most))
+  pub next_most : wrapped (r.first + r.count) < most_kept
+  next_most = wrapped_below (r.first + r.count) (omega (arith, first_most, count_most))
 
 -- A call on a sound board
 
@@ -117,56 +117,56 @@ on_untimely l new b t after {r} board sound f n =
 -- `add`
 
 module _ (l : List ℕ) (t p wait : ℕ) {r : Answer} where
-  pub add-unsound : is_board l && board_sound (board_in l) ≡ false → r ≡ answer_of 2 0 0 → board_gave r l ≡ lent_add l t p wait
+  pub add_unsound : is_board l && board_sound (board_in l) ≡ false → r ≡ answer_of 2 0 0 → board_gave r l ≡ lent_add l t p wait
   unfolding lent_add add_of
-  add-unsound = on_unsound l (added l t p wait) (board_in l) t _
+  add_unsound = on_unsound l (added l t p wait) (board_in l) t _
 
   module _ {look : Look} (k : Looked l t look) where
-    pub add-untimely : r ≡ untimely_of (board_in l).last t → r.code ≢ 0 → board_gave r l ≡ lent_add l t p wait
+    pub add_untimely : r ≡ untimely_of (board_in l).last t → r.code ≢ 0 → board_gave r l ≡ lent_add l t p wait
     unfolding lent_add add_of
-    add-untimely = on_untimely l (added l t p wait) (board_in l) t _ k.board k.sound
+    add_untimely = on_untimely l (added l t p wait) (board_in l) t _ k.board k.sound
 
     module _ (h : Timely (board_in l).last t) where
-      pub add-misnamed : is_process p ≡ false → r ≡ answer_of 7 0 0 → board_gave r l ≡ lent_add l t p wait
+      pub add_misnamed : is_process p ≡ false → r ≡ answer_of 7 0 0 → board_gave r l ≡ lent_add l t p wait
       unfolding lent_add add_of
-      add-misnamed e f = rw f (simp (k.board, k.sound, h.forward, h.within, e))
+      add_misnamed e f = rw f (simp (k.board, k.sound, h.forward, h.within, e))
 
       module _ (named : is_process p ≡ true) where
-        pub add-full : look.count ≡ most_kept → r ≡ answer_of 18 0 0 → board_gave r l ≡ lent_add l t p wait
+        pub add_full : look.count ≡ most_kept → r ≡ answer_of 18 0 0 → board_gave r l ≡ lent_add l t p wait
         unfolding lent_add add_of
-        add-full e f =
-            let full = eq-eqb (still_at l t) most_kept (sym k.count-is ∙ e) in
+        add_full e f =
+            let full = eq-eqb (still_at l t) most_kept (sym k.count_is ∙ e) in
             rw f (simp (k.board, k.sound, h.forward, h.within, named, full))
 
-        pub add-accepted : look.count ≢ most_kept → r ≡ answer_of 0 (look.count + 1) (max look.longest wait)
+        pub add_accepted : look.count ≢ most_kept → r ≡ answer_of 0 (look.count + 1) (max look.longest wait)
             → {new : List ℕ}
             → new ≡ placed (headed l t look.first (look.count + 1)) (wrapped (look.first + look.count)) (entry_with t p wait)
             → board_gave r new ≡ lent_add l t p wait
         unfolding lent_add add_of
-        add-accepted n f {new} g =
-            let room = ne_eqb (still_at l t) most_kept (λ e. n (k.count-is ∙ e)) in
+        add_accepted n f {new} g =
+            let room = ne_eqb (still_at l t) most_kept (λ e. n (k.count_is ∙ e)) in
             let b = board_in l in
             let figures : r ≡ figures_at b.width t (b.kept ++ (entry_with t p wait ∷ [])) =
-            f ∙ rw (k.count-is, k.longest-is) (sym (figures-snoc b.width t p wait (sound_parts b k.sound).width.least b.kept)) in
-            let numbers : new ≡ added l t p wait = g ∙ rw (k.count-is, k.first_is, next_is l t (seen-sound k)) in
+            f ∙ rw (k.count_is, k.longest_is) (sym (figures_snoc b.width t p wait (sound_parts b k.sound).width.least b.kept)) in
+            let numbers : new ≡ added l t p wait = g ∙ rw (k.count_is, k.first_is, next_is l t (seen_sound k)) in
             board-gave figures numbers ∙ simp (k.board, k.sound, h.forward, h.within, named, room)
 
 -- `show`
 
 module _ (l : List ℕ) (t : ℕ) {r : Answer} where
-  pub show-unsound : is_board l && board_sound (board_in l) ≡ false → r ≡ answer_of 2 0 0 → board_gave r l ≡ lent_show l t
+  pub show_unsound : is_board l && board_sound (board_in l) ≡ false → r ≡ answer_of 2 0 0 → board_gave r l ≡ lent_show l t
   unfolding lent_show show_of
-  show-unsound = on_unsound l (shown l t) (board_in l) t _
+  show_unsound = on_unsound l (shown l t) (board_in l) t _
 
   module _ {look : Look} (k : Looked l t look) where
-    pub show-untimely : r ≡ untimely_of (board_in l).last t → r.code ≢ 0 → board_gave r l ≡ lent_show l t
+    pub show_untimely : r ≡ untimely_of (board_in l).last t → r.code ≢ 0 → board_gave r l ≡ lent_show l t
     unfolding lent_show show_of
-    show-untimely = on_untimely l (shown l t) (board_in l) t _ k.board k.sound
+    show_untimely = on_untimely l (shown l t) (board_in l) t _ k.board k.sound
 
-    pub show-accepted : Timely (board_in l).last t → r ≡ answer_of 0 look.count look.longest
+    pub show_accepted : Timely (board_in l).last t → r ≡ answer_of 0 look.count look.longest
         → {new : List ℕ} → new ≡ headed l t look.first look.count → board_gave r new ≡ lent_show l t
     unfolding lent_show show_of
-    show-accepted h f {new} g =
-        let figures : r ≡ figures_at (board_in l).width t (board_in l).kept = f ∙ rw (k.count-is, k.longest-is) in
-        let numbers : new ≡ shown l t = g ∙ rw (k.count-is, k.first_is) in
+    show_accepted h f {new} g =
+        let figures : r ≡ figures_at (board_in l).width t (board_in l).kept = f ∙ rw (k.count_is, k.longest_is) in
+        let numbers : new ≡ shown l t = g ∙ rw (k.count_is, k.first_is) in
         board-gave figures numbers ∙ simp (k.board, k.sound, h.forward, h.within, append-nil)

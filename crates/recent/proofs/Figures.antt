@@ -27,26 +27,26 @@ module _ (w t : ℕ) where
   how_many-append (e ∷ es) ds =
       let h = how_many-append es ds in by_test (counts w t e) (λ f. rw f (omega arith)) (λ f. rw f h)
 
-  pub longest-append : (es ds : List Entry) → longest_at w t (es ++ ds) ≡ max (longest_at w t es) (longest_at w t ds)
+  pub longest_append : (es ds : List Entry) → longest_at w t (es ++ ds) ≡ max (longest_at w t es) (longest_at w t ds)
   unfolding longest_at
-  longest-append [] ds = omega arith
-  longest-append (e ∷ es) ds =
-      let h = longest-append es ds in by_test (counts w t e) (λ f. rw f (omega arith)) (λ f. rw f h)
+  longest_append [] ds = omega arith
+  longest_append (e ∷ es) ds =
+      let h = longest_append es ds in by_test (counts w t e) (λ f. rw f (omega arith)) (λ f. rw f h)
 
   -- An entry of this time, which counts as a width is not 0
 
   module _ (p wait : ℕ) (some : 1 ≤ w) where
-    it-counts : counts w t (entry_with t p wait) ≡ true
-    it-counts = lt-ltb t (t + w) (omega arith)
+    it_counts : counts w t (entry_with t p wait) ≡ true
+    it_counts = lt-ltb t (t + w) (omega arith)
 
     how_many-one : how_many w t (entry_with t p wait ∷ []) ≡ 1
     unfolding how_many
-    how_many-one = simp it-counts
+    how_many-one = simp it_counts
 
-    longest-one : longest_at w t (entry_with t p wait ∷ []) ≡ wait
+    longest_one : longest_at w t (entry_with t p wait ∷ []) ≡ wait
     unfolding longest_at
-    longest-one = simp it-counts (omega arith)
+    longest_one = simp it_counts (omega arith)
 
-    pub figures-snoc : (es : List Entry)
+    pub figures_snoc : (es : List Entry)
         → figures_at w t (es ++ (entry_with t p wait ∷ [])) ≡ answer_of 0 (how_many w t es + 1) (max (longest_at w t es) wait)
-    figures-snoc es = rw (how_many-append es (entry_with t p wait ∷ []), longest-append es (entry_with t p wait ∷ []), how_many-one, longest-one)
+    figures_snoc es = rw (how_many-append es (entry_with t p wait ∷ []), longest_append es (entry_with t p wait ∷ []), how_many-one, longest_one)

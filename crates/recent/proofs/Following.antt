@@ -16,26 +16,26 @@ use Rattle.recent.specs.Boards.{counting_at, BoardOutcome, outcome_with, width_s
 use Rattle.recent.specs.Looking.{SameFigures}
 use Rattle.recent.specs.Lists.{BoardCall, Asked, asked, last_told, accepted_in, worked_out}
 use Rattle.recent.specs.Facts.{SoundBoard}
-use Rattle.recent.proofs.Figures.{how_many-append, longest-append}
+use Rattle.recent.proofs.Figures.{how_many-append, longest_append}
 use Rattle.recent.proofs.Soundness.{board_sound_iff_plain}
 use Rattle.recent.proofs.StaysSound.{board_stays_sound}
 
 -- What has expired at a time counts at no later one
 
 module _ (w t u : ℕ) (h : t ≤ u) where
-  expired-stays : (e : Entry) → counts w t e ≡ false → counts w u e ≡ false
-  expired-stays e f = le-ltb u (e.time + w) (omega (arith, ltb-false t (e.time + w) f))
+  expired_stays : (e : Entry) → counts w t e ≡ false → counts w u e ≡ false
+  expired_stays e f = le-ltb u (e.time + w) (omega (arith, ltb-false t (e.time + w) f))
 
-  counting-many : (es : List Entry) → how_many w u (counting_at w t es) ≡ how_many w u es
+  counting_many : (es : List Entry) → how_many w u (counting_at w t es) ≡ how_many w u es
   unfolding how_many counting_at
-  counting-many [] = refl
-  counting-many (e ∷ es) = by_test (counts w t e) (λ f. rw (f, counting-many es)) (λ f. rw (f, expired-stays e f, counting-many es))
+  counting_many [] = refl
+  counting_many (e ∷ es) = by_test (counts w t e) (λ f. rw (f, counting_many es)) (λ f. rw (f, expired_stays e f, counting_many es))
 
-  counting-longest : (es : List Entry) → longest_at w u (counting_at w t es) ≡ longest_at w u es
+  counting_longest : (es : List Entry) → longest_at w u (counting_at w t es) ≡ longest_at w u es
   unfolding longest_at counting_at
-  counting-longest [] = refl
-  counting-longest (e ∷ es) =
-      by_test (counts w t e) (λ f. rw (f, counting-longest es)) (λ f. rw (f, expired-stays e f, counting-longest es))
+  counting_longest [] = refl
+  counting_longest (e ∷ es) =
+      by_test (counts w t e) (λ f. rw (f, counting_longest es)) (λ f. rw (f, expired_stays e f, counting_longest es))
 
 -- A board beside a log
 
@@ -76,7 +76,7 @@ data Goes (w : ℕ) (log : List Asked) (b : Board) (d : BoardCall) : BoardOutcom
 same_more : {w t : ℕ} {es ds : List Entry} (new : List Entry) → SameFigures w t es ds → SameFigures w t (es ++ new) (new ++ ds)
 same_more {w} {t} {es} {ds} new h = record {
   many = rw (how_many-append w t es new, how_many-append w t new ds) (omega arith);
-  longest = rw (longest-append w t es new, longest-append w t new ds) (omega arith);
+  longest = rw (longest_append w t es new, longest_append w t new ds) (omega arith);
 }
 
 accepted_more : (d : BoardCall) (log : List Asked) → accepted_in (asked d 0 ∷ log) ≡ new_in d ++ accepted_in log
@@ -88,9 +88,9 @@ module _ {w : ℕ} {log : List Asked} {b : Board} (follows : Follows w log b) (d
   Went = Goes w log b d
 
   -- an answer of success
-  answer-is : last_told log ≤ d.time
+  answer_is : last_told log ≤ d.time
       → figures_at b.width d.time (b.kept ++ new_in d) ≡ figures_at w d.time (accepted_in (asked d 0 ∷ log))
-  answer-is h =
+  answer_is h =
       let same = same_more (new_in d) (follows.figures d.time h) in
       rw (follows.width, accepted_more d log, same.many, same.longest)
 
@@ -105,28 +105,28 @@ module _ {w : ℕ} {log : List Asked} {b : Board} (follows : Follows w log b) (d
       by_cond Went (beyond d.time) (λ f. refuses (omega arith) (rw (e', f)))
       (next e')))
 
-  showing-goes : d.adds ≡ false → Went (show_of b d.time)
+  showing_goes : d.adds ≡ false → Went (show_of b d.time)
   unfolding show_of worked_out
-  showing-goes n =
+  showing_goes n =
       in-time (λ e f. subst (λ (new : List Entry). Went (keeps b d.time new)) (rw n)
-      (accepts (ltb-false _ _ e) (answer-is (ltb-false _ _ e) ∙ rw (e, f, n))))
+      (accepts (ltb-false _ _ e) (answer_is (ltb-false _ _ e) ∙ rw (e, f, n))))
 
   -- whether there is no room is told by the log
-  full-told : (t : Bool) → eqb (how_many b.width d.time b.kept) most_kept ≡ t → last_told log ≤ d.time
+  full_told : (t : Bool) → eqb (how_many b.width d.time b.kept) most_kept ≡ t → last_told log ≤ d.time
       → eqb (how_many w d.time (accepted_in log)) most_kept ≡ t
-  full-told t h e = rw (follows.width, (follows.figures d.time e).many) at h
+  full_told t h e = rw (follows.width, (follows.figures d.time e).many) at h
 
-  adding-goes : d.adds ≡ true → Went (add_of b d.time d.process d.wait)
+  adding_goes : d.adds ≡ true → Went (add_of b d.time d.process d.wait)
   unfolding add_of worked_out
-  adding-goes y =
+  adding_goes y =
       in-time (λ e f. by_cond Went (not (is_process d.process)) (λ g. refuses (omega arith) (rw (e, f, y, g)))
       (λ g. by_cond Went (eqb (how_many b.width d.time b.kept) most_kept)
-      (λ h. refuses {r = answer_of 18 0 0} (omega arith) (rw (e, f, y, g, full-told true h (ltb-false _ _ e))))
+      (λ h. refuses {r = answer_of 18 0 0} (omega arith) (rw (e, f, y, g, full_told true h (ltb-false _ _ e))))
       (λ h. subst (λ (new : List Entry). Went (keeps b d.time new)) (rw y)
-      (accepts (ltb-false _ _ e) (answer-is (ltb-false _ _ e) ∙ rw (e, f, y, g, full-told false h (ltb-false _ _ e)))))))
+      (accepts (ltb-false _ _ e) (answer_is (ltb-false _ _ e) ∙ rw (e, f, y, g, full_told false h (ltb-false _ _ e)))))))
 
   goes : Went (board_call_of b d)
-  goes = by_cond Went d.adds adding-goes showing-goes
+  goes = by_cond Went d.adds adding_goes showing_goes
 
   -- What comes of it
 
@@ -135,9 +135,9 @@ module _ {w : ℕ} {log : List Asked} {b : Board} (follows : Follows w log b) (d
   answer-told (Goes.accepts _ e) = e
 
   -- the log is one call longer, and the board is sound
-  next-follows : {r : BoardOutcome} → Went r → board_sound r.board ≡ true → Follows w (asked d r.answer.code ∷ log) r.board
+  next_follows : {r : BoardOutcome} → Went r → board_sound r.board ≡ true → Follows w (asked d r.answer.code ∷ log) r.board
   unfolding last_told accepted_in
-  next-follows (Goes.refuses {r} n _) s =
+  next_follows (Goes.refuses {r} n _) s =
       let e : eqb r.code 0 ≡ false = ne_eqb _ _ n in
       record {
         width = follows.width;
@@ -145,21 +145,21 @@ module _ {w : ℕ} {log : List Asked} {b : Board} (follows : Follows w log b) (d
         sound = s;
         figures = λ t. by_test d.adds (λ f. rw (e, f) (follows.figures t)) (λ f. rw (e, f) (follows.figures t));
       }
-  next-follows (Goes.accepts h _) s = record {
+  next_follows (Goes.accepts h _) s = record {
     width = follows.width;
     last = refl;
     sound = s;
     figures = λ t later. rw (accepted_more d log) (same_more {es = counting_at b.width d.time b.kept} {ds = accepted_in log} (new_in d) (record {
-      many = rw (follows.width, counting-many w d.time t later b.kept) (follows.figures t (omega arith)).many;
-      longest = rw (follows.width, counting-longest w d.time t later b.kept) (follows.figures t (omega arith)).longest;
+      many = rw (follows.width, counting_many w d.time t later b.kept) (follows.figures t (omega arith)).many;
+      longest = rw (follows.width, counting_longest w d.time t later b.kept) (follows.figures t (omega arith)).longest;
     }));
   }
 
-  pub call-answer : (board_call_of b d).answer ≡ worked_out w log d
-  call-answer = answer-told goes
+  pub call_answer : (board_call_of b d).answer ≡ worked_out w log d
+  call_answer = answer-told goes
 
   pub call_next : Follows w (asked d (board_call_of b d).answer.code ∷ log) (board_call_of b d).board
-  call_next = next-follows goes (call_sound b d follows.sound)
+  call_next = next_follows goes (call_sound b d follows.sound)
 
 -- An answer that is worked out
 
@@ -168,9 +168,9 @@ module _ (w : ℕ) (log : List Asked) (d : BoardCall) where
   HasFigures r = r.code ≡ 0 → r ≡ figures_at w d.time (accepted_in (asked d 0 ∷ log))
 
   -- a success has the figures
-  pub worked-success : HasFigures (worked_out w log d)
+  pub worked_success : HasFigures (worked_out w log d)
   unfolding worked_out
-  worked-success =
+  worked_success =
       by_cond HasFigures (ltb d.time (last_told log)) (λ _ e. absurd (omega arith))
       (λ _. by_cond HasFigures (beyond d.time) (λ _ e. absurd (omega arith))
       (λ _. by_cond HasFigures (d.adds && not (is_process d.process)) (λ _ e. absurd (omega arith))

@@ -18,7 +18,7 @@ use Rattle.recent.specs.Encodings.{board_length, board_in, is_board, LentBoard, 
 use Rattle.recent.specs.Lists.{BoardCall, lent_board_call, board_after, Asked, asked_by, worked_out}
 use Rattle.recent.specs.Lists.{asked_of, board_results, board_run, BoardPromise, EveryBoardList}
 use Rattle.recent.proofs.Numbers.{numbers_follow}
-use Rattle.recent.proofs.Following.{board_call_of, Follows, set_up_follows, call-answer, call_next, worked-success}
+use Rattle.recent.proofs.Following.{board_call_of, Follows, set_up_follows, call_answer, call_next, worked_success}
 
 -- Lent numbers that follow a log
 
@@ -45,8 +45,8 @@ module _ {w : ℕ} {log : List Asked} {l : List ℕ} (lent : LentFollows w log l
   abbrev called : CallFollows l d
   called = call_follows l d lent.board
 
-  pub lent-answer : (lent_board_call l d).answer ≡ worked_out w log d
-  lent-answer = called.answer ∙ call-answer lent.follows d
+  pub lent_answer : (lent_board_call l d).answer ≡ worked_out w log d
+  lent_answer = called.answer ∙ call_answer lent.follows d
 
   pub lent-next : LentFollows w (asked_by d (lent_board_call l d) ∷ log) (lent_board_call l d).board
   lent-next = record {
@@ -85,13 +85,13 @@ unfolding set_up_of
 set_up_accepted w y = rw y
 
 module _ (w : ℕ) (n : width_stands w ≡ false) where
-  set-up-refused : (set_up_of w).answer.code ≢ 0
+  set_up_refused : (set_up_of w).answer.code ≢ 0
   unfolding set_up_of
-  set-up-refused = rw n (omega arith)
+  set_up_refused = rw n (omega arith)
 
-  set-up-unsound : board_sound (set_up_of w).board ≡ false
+  set_up_unsound : board_sound (set_up_of w).board ≡ false
   unfolding set_up_of board_sound
-  set-up-unsound = rw n
+  set_up_unsound = rw n
 
 module _ (w : ℕ) (board : List ℕ) where
   abbrev set_up : LentBoard
@@ -108,19 +108,19 @@ module _ (w : ℕ) (board : List ℕ) where
       fell (rw h (by_cond (λ (r : Answer). r.code ≢ 0) {u = answer_of 16 0 0} {v = answer_of 17 0 0} (width_stands w) (λ _. omega arith)
       (λ _. omega arith))) (rw (h, h))
 
-  long-enough : board_length ≤ length board → SetUpGiven
-  long-enough h =
+  long_enough : board_length ≤ length board → SetUpGiven
+  long_enough h =
       let f = numbers_follow.set-up w board h in
       by_test (width_stands w)
       (λ y. stood (ap (λ (r : Answer). r.code) f.0 ∙ set_up_accepted w y)
       (record { board = f.2; follows = rw f.1 (set_up_follows w y) }))
-      (λ n. fell (rw f.0 (set-up-refused w n)) (rw (f.1, f.2) (set-up-unsound w n)))
+      (λ n. fell (rw f.0 (set_up_refused w n)) (rw (f.1, f.2) (set_up_unsound w n)))
 
-  set-up-given : SetUpGiven
-  set-up-given = by_test (leb board_length (length board)) (λ h. long-enough (leb-true _ _ h)) too_short
+  set_up_given : SetUpGiven
+  set_up_given = by_test (leb board_length (length board)) (λ h. long_enough (leb-true _ _ h)) too_short
 
-  pub set-up-lent : set_up.answer.code ≡ 0 → LentFollows w [] set_up.board
-  set-up-lent e = elim set-up-given [ stood _ h ↦ h | fell n _ ↦ absurd (n e) ]
+  pub set_up_lent : set_up.answer.code ≡ 0 → LentFollows w [] set_up.board
+  set_up_lent e = elim set_up_given [ stood _ h ↦ h | fell n _ ↦ absurd (n e) ]
 
 -- Every list
 
@@ -130,8 +130,8 @@ board_promise : {w : ℕ} (board : List ℕ) (ds : List BoardCall) (d : BoardCal
 board_promise {w} board ds d (SetUpGiven.stood e h) =
     let lent = follows_all [] (lent_set_up w board).board ds h in
     record {
-      answer = λ _. lent-answer lent d;
-      figures = λ _ f. lent-answer lent d ∙ worked-success w _ d (rw (← lent-answer lent d) f);
+      answer = λ _. lent_answer lent d;
+      figures = λ _ f. lent_answer lent d ∙ worked_success w _ d (rw (← lent_answer lent d) f);
       refused = λ n. absurd (n e);
       refused_stays = λ n. absurd (n e);
     }
@@ -146,4 +146,4 @@ board_promise {w} board ds d (SetUpGiven.fell n h) =
     }
 
 pub every_board_list : EveryBoardList
-every_board_list w board ds d = board_promise board ds d (set-up-given w board)
+every_board_list w board ds d = board_promise board ds d (set_up_given w board)

@@ -17,14 +17,14 @@ use Rattle.recent.specs.Encodings.{width_index, last_index, first_index, count_i
 use Rattle.recent.specs.Encodings.{LentBoard, board_gave, still_at, first_at, next_at, headed, placed, shown, added, on_numbers}
 use Rattle.recent.specs.Encodings.{emptied, lent_set_up, lent_add, lent_show}
 use Rattle.recent.specs.Facts.{NumbersFollow}
-use Rattle.recent.proofs.Outcomes.{Came, show-came, add-came}
+use Rattle.recent.proofs.Outcomes.{Came, show_came, add_came}
 use Rattle.recent.proofs.Sights.{width_in, first_in, count_in, ring_in, SoundNumbers, sound_numbers}
-use Rattle.recent.proofs.Calls.{still-most, first-inside, next_is}
+use Rattle.recent.proofs.Calls.{still_most, first_inside, next_is}
 use Rattle.recent.proofs.Standing.{board_told_iff}
-use Rattle.recent.proofs.Expiry.{counting-last}
+use Rattle.recent.proofs.Expiry.{counting_last}
 use Rattle.recent.proofs.Places.{wrapped_below, wrapped_apart, ring_length, ring_none, ring_same, ring_snoc, ring_drop}
-use Rattle.recent.proofs.Writes.{headed-length, headed-other, headed-entry, emptied_length}
-use Rattle.recent.proofs.Writes.{placed-length, placed-other, placed-elsewhere, placed_there}
+use Rattle.recent.proofs.Writes.{headed_length, headed_other, headed_entry, emptied_length}
+use Rattle.recent.proofs.Writes.{placed_length, placed_other, placed_elsewhere, placed_there}
 
 -- A call on numbers
 
@@ -51,21 +51,21 @@ record Heads (l : List ℕ) (w t k n : ℕ) : Type 0 where
   count : get_or l count_index 0 ≡ n
 
 module _ {l : List ℕ} {w t k n : ℕ} (h : Heads l w t k n) where
-  heads-board : k < most_kept → is_board l ≡ true
-  heads-board b = (board_told_iff l).1 (h.fits, omega (arith, h.first))
+  heads_board : k < most_kept → is_board l ≡ true
+  heads_board b = (board_told_iff l).1 (h.fits, omega (arith, h.first))
 
-  heads-in : board_in l ≡ board_of w t (ring_from l k n)
+  heads_in : board_in l ≡ board_of w t (ring_from l k n)
   unfolding board_in
-  heads-in = rw (h.width, h.last, h.first, h.count)
+  heads_in = rw (h.width, h.last, h.first, h.count)
 
   -- an entry is written behind them
-  heads-placed : (j : ℕ) (e : Entry) → Heads (placed l j e) w t k n
-  heads-placed j e = record {
-    fits = omega (arith, h.fits, placed-length l j e);
-    width = placed-other l j e width_index (omega arith) ∙ h.width;
-    last = placed-other l j e last_index (omega arith) ∙ h.last;
-    first = placed-other l j e first_index (omega arith) ∙ h.first;
-    count = placed-other l j e count_index (omega arith) ∙ h.count;
+  heads_placed : (j : ℕ) (e : Entry) → Heads (placed l j e) w t k n
+  heads_placed j e = record {
+    fits = omega (arith, h.fits, placed_length l j e);
+    width = placed_other l j e width_index (omega arith) ∙ h.width;
+    last = placed_other l j e last_index (omega arith) ∙ h.last;
+    first = placed_other l j e first_index (omega arith) ∙ h.first;
+    count = placed_other l j e count_index (omega arith) ∙ h.count;
   }
 
 heads_headed : (l : List ℕ) (t k n : ℕ) → board_length ≤ length l → Heads (headed l t k n) (get_or l width_index 0) t k n
@@ -77,8 +77,8 @@ heads_headed l t k n fits =
     let y : last_index ≢ first_index = λ e. omega arith in
     let z : first_index ≢ count_index = λ e. omega arith in
     record {
-      fits = omega (arith, headed-length l t k n);
-      width = headed-other l t k n width_index (omega arith);
+      fits = omega (arith, headed_length l t k n);
+      width = headed_other l t k n width_index (omega arith);
       last = simp (get_or-set_other, get_or-set_same);
       first = simp (get_or-set_other, get_or-set_same, lt-length-set);
       count = simp (get_or-set_same, lt-length-set);
@@ -90,41 +90,41 @@ module _ (l : List ℕ) (t : ℕ) (s : SoundNumbers l) where
   abbrev still : ℕ
   still = still_at l t
 
-  still-fits : still ≤ most_kept
-  still-fits = omega (arith, still-most l t, s.room)
+  still_fits : still ≤ most_kept
+  still_fits = omega (arith, still_most l t, s.room)
 
-  first-still : first_at l t < most_kept
-  first-still = first-inside l t s
+  first_still : first_at l t < most_kept
+  first_still = first_inside l t s
 
   next_fits : next_at l < most_kept
   next_fits = wrapped_below _ (omega (arith, s.inside, s.room))
 
   -- what counts is left, from its first place on
-  rest-is : ring_from l (first_at l t) still ≡ counting_at (board_in l).width t (board_in l).kept
+  rest_is : ring_from l (first_at l t) still ≡ counting_at (board_in l).width t (board_in l).kept
   unfolding board_in
-  rest-is =
-      let rest : count_in l - (count_in l - still) ≡ still = omega (arith, still-most l t) in
+  rest_is =
+      let rest : count_in l - (count_in l - still) ≡ still = omega (arith, still_most l t) in
       sym
-      (counting-last (width_in l) t 0 (ring_in l) s.parts.order
+      (counting_last (width_in l) t 0 (ring_in l) s.parts.order
       ∙ rw (ring_length l (first_in l) (count_in l))
       (ring_drop l (first_in l) (count_in l) (count_in l - still) s.inside (omega arith) s.room)
       ∙ ap (ring_from l (first_at l t)) rest)
 
   -- the ring after a showing
-  shown-ring : ring_from (shown l t) (first_at l t) still ≡ counting_at (board_in l).width t (board_in l).kept
-  shown-ring =
-      ring_same (shown l t) l (first_at l t) still first-still still-fits
-      (λ i _. headed-entry l t (first_at l t) still (wrapped (first_at l t + i)))
-      ∙ rest-is
+  shown_ring : ring_from (shown l t) (first_at l t) still ≡ counting_at (board_in l).width t (board_in l).kept
+  shown_ring =
+      ring_same (shown l t) l (first_at l t) still first_still still_fits
+      (λ i _. headed_entry l t (first_at l t) still (wrapped (first_at l t + i)))
+      ∙ rest_is
 
-  shown-heads : Heads (shown l t) (width_in l) t (first_at l t) still
-  shown-heads = heads_headed l t (first_at l t) still s.fits
+  shown_heads : Heads (shown l t) (width_in l) t (first_at l t) still
+  shown_heads = heads_headed l t (first_at l t) still s.fits
 
-  shown-follows : (board_in (shown l t) ≡ (keeps (board_in l) t []).board) × (is_board (shown l t) ≡ true)
+  shown_follows : (board_in (shown l t) ≡ (keeps (board_in l) t []).board) × (is_board (shown l t) ≡ true)
   unfolding board_in
-  shown-follows = (
-    heads-in shown-heads ∙ ap (board_of (get_or l width_index 0) t) (shown-ring ∙ sym (append-nil _)),
-    heads-board shown-heads first-still,
+  shown_follows = (
+    heads_in shown_heads ∙ ap (board_of (get_or l width_index 0) t) (shown_ring ∙ sym (append-nil _)),
+    heads_board shown_heads first_still,
   )
 
   -- with room for one more, the ring after an adding
@@ -136,29 +136,29 @@ module _ (l : List ℕ) (t : ℕ) (s : SoundNumbers l) where
     entry = entry_with t p wait
 
     -- the new entry takes the place of none that counts
-    added-same : (i : ℕ) → i < still → entry_at (added l t p wait) (wrapped (first_at l t + i)) ≡ entry_at l (wrapped (first_at l t + i))
-    added-same i b =
-        placed-elsewhere header (next_at l) entry (wrapped (first_at l t + i))
-        (λ e. wrapped_apart (first_at l t) i still first-still b (omega (arith, still-fits)) (e ∙ sym (next_is l t s)))
-        ∙ headed-entry l t (first_at l t) (still + 1) (wrapped (first_at l t + i))
+    added_same : (i : ℕ) → i < still → entry_at (added l t p wait) (wrapped (first_at l t + i)) ≡ entry_at l (wrapped (first_at l t + i))
+    added_same i b =
+        placed_elsewhere header (next_at l) entry (wrapped (first_at l t + i))
+        (λ e. wrapped_apart (first_at l t) i still first_still b (omega (arith, still_fits)) (e ∙ sym (next_is l t s)))
+        ∙ headed_entry l t (first_at l t) (still + 1) (wrapped (first_at l t + i))
 
-    added-there : entry_at (added l t p wait) (next_at l) ≡ entry
-    added-there = placed_there header (next_at l) entry (omega (arith, next_fits, s.fits, headed-length l t (first_at l t) (still + 1)))
+    added_there : entry_at (added l t p wait) (next_at l) ≡ entry
+    added_there = placed_there header (next_at l) entry (omega (arith, next_fits, s.fits, headed_length l t (first_at l t) (still + 1)))
 
-    added-ring : ring_from (added l t p wait) (first_at l t) (still + 1) ≡ counting_at (board_in l).width t (board_in l).kept ++ (entry ∷ [])
-    added-ring =
-        let most : still + 1 ≤ most_kept = omega (arith, still-fits) in
-        ring_snoc (added l t p wait) (first_at l t) still first-still most
-        ∙ rw (next_is l t s, added-there, ring_same (added l t p wait) l (first_at l t) still first-still still-fits added-same, rest-is)
+    added_ring : ring_from (added l t p wait) (first_at l t) (still + 1) ≡ counting_at (board_in l).width t (board_in l).kept ++ (entry ∷ [])
+    added_ring =
+        let most : still + 1 ≤ most_kept = omega (arith, still_fits) in
+        ring_snoc (added l t p wait) (first_at l t) still first_still most
+        ∙ rw (next_is l t s, added_there, ring_same (added l t p wait) l (first_at l t) still first_still still_fits added_same, rest_is)
 
-    added-heads : Heads (added l t p wait) (width_in l) t (first_at l t) (still + 1)
-    added-heads = heads-placed (heads_headed l t (first_at l t) (still + 1) s.fits) (next_at l) entry
+    added_heads : Heads (added l t p wait) (width_in l) t (first_at l t) (still + 1)
+    added_heads = heads_placed (heads_headed l t (first_at l t) (still + 1) s.fits) (next_at l) entry
 
-    added-follows : (board_in (added l t p wait) ≡ (keeps (board_in l) t (entry ∷ [])).board) × (is_board (added l t p wait) ≡ true)
+    added_follows : (board_in (added l t p wait) ≡ (keeps (board_in l) t (entry ∷ [])).board) × (is_board (added l t p wait) ≡ true)
     unfolding board_in
-    added-follows = (
-      heads-in added-heads ∙ ap (board_of (get_or l width_index 0) t) added-ring,
-      heads-board added-heads first-still,
+    added_follows = (
+      heads_in added_heads ∙ ap (board_of (get_or l width_index 0) t) added_ring,
+      heads_board added_heads first_still,
     )
 
 -- The calls
@@ -166,12 +166,12 @@ module _ (l : List ℕ) (t : ℕ) (s : SoundNumbers l) where
 show_agrees : (l : List ℕ) (t : ℕ) → is_board l ≡ true → Agrees (show_of (board_in l) t) (lent_show l t)
 unfolding lent_show
 show_agrees l t board =
-    agrees l (shown l t) board refl (show-came (board_in l) t) (λ g. shown-follows l t (sound_numbers l board g.0))
+    agrees l (shown l t) board refl (show_came (board_in l) t) (λ g. shown_follows l t (sound_numbers l board g.0))
 
 add_agrees : (l : List ℕ) (t p wait : ℕ) → is_board l ≡ true → Agrees (add_of (board_in l) t p wait) (lent_add l t p wait)
 unfolding lent_add
 add_agrees l t p wait board =
-    agrees l (added l t p wait) board refl (add-came (board_in l) t p wait) (λ g. added-follows l t (sound_numbers l board g.0) p wait g.1.room)
+    agrees l (added l t p wait) board refl (add_came (board_in l) t p wait) (λ g. added_follows l t (sound_numbers l board g.0) p wait g.1.room)
 
 heads_emptied : (w : ℕ) (l : List ℕ) → board_length ≤ length l → Heads (emptied w l) w 0 0 0
 heads_emptied w l fits = record {
@@ -185,8 +185,8 @@ heads_emptied w l fits = record {
 empty_agrees : (r : Answer) (w : ℕ) (l : List ℕ) → board_length ≤ length l → Agrees (outcome_with r (board_of w 0 [])) (board_gave r (emptied w l))
 empty_agrees r w l fits = record {
   answer = refl;
-  board = heads-in (heads_emptied w l fits) ∙ ap (board_of w 0) (ring_none (emptied w l) 0 (omega arith));
-  tells = heads-board (heads_emptied w l fits) (omega arith);
+  board = heads_in (heads_emptied w l fits) ∙ ap (board_of w 0) (ring_none (emptied w l) 0 (omega arith));
+  tells = heads_board (heads_emptied w l fits) (omega arith);
 }
 
 set_up_agrees : (w : ℕ) (l : List ℕ) → board_length ≤ length l → Agrees (set_up_of w) (lent_set_up w l)

@@ -16,8 +16,8 @@ use Rattle.recent.specs.Boards.{entry_with, Board, board_sound, BoardOutcome, ke
 use Rattle.recent.specs.Encodings.{board_in, is_board, LentBoard, lent_add}
 use Rattle.recent.specs.Lists.{lent_board_call}
 use Rattle.recent.specs.Tellings.{LentTold, told_gave, entered, left_alone, lent_tell, Tells, TellIsPlain}
-use Rattle.recent.proofs.Figures.{figures-snoc}
-use Rattle.recent.proofs.Outcomes.{Came, add-came}
+use Rattle.recent.proofs.Figures.{figures_snoc}
+use Rattle.recent.proofs.Outcomes.{Came, add_came}
 use Rattle.recent.proofs.Soundness.{sound_parts}
 use Rattle.recent.proofs.Writes.{refused_board_stays, board_writes_its_own}
 use Rattle.recent.proofs.Numbers.{numbers_follow}
@@ -27,23 +27,23 @@ use Rattle.recent.proofs.Lists.{unsound_call}
 
 module _ (t p wait : ℕ) where
   -- a success tells how many count, the new entry among them
-  came-counts : {b : Board} {Good : Type 0} {r : BoardOutcome} → Came b ((board_sound b ≡ true) × Good) (keeps b t (entry_with t p wait ∷ [])) r
+  came_counts : {b : Board} {Good : Type 0} {r : BoardOutcome} → Came b ((board_sound b ≡ true) × Good) (keeps b t (entry_with t p wait ∷ [])) r
       → r.answer.code ≡ 0 → 1 ≤ r.answer.process
-  came-counts (Came.refused n) e = absurd (n e)
-  came-counts {b} (Came.accepted (s, _)) e =
-      omega (arith, ap (λ (r : Answer). r.process) (figures-snoc b.width t p wait (sound_parts b s).width.least b.kept))
+  came_counts (Came.refused n) e = absurd (n e)
+  came_counts {b} (Came.accepted (s, _)) e =
+      omega (arith, ap (λ (r : Answer). r.process) (figures_snoc b.width t p wait (sound_parts b s).width.least b.kept))
 
   -- so it is not the answer of a step that tells no entry
-  added-seen : (l : List ℕ) → (lent_add l t p wait).answer ≢ answer_of 0 0 0
+  added_seen : (l : List ℕ) → (lent_add l t p wait).answer ≢ answer_of 0 0 0
   unfolding lent_board_call
-  added-seen l e =
+  added_seen l e =
       by_test (is_board l)
       (λ b. let f = numbers_follow.add l t p wait b in
       let g : (add_of (board_in l) t p wait).answer ≡ answer_of 0 0 0 = sym f.0 ∙ e in
       omega (
         arith,
         ap (λ (r : Answer). r.process) g,
-        came-counts (add-came (board_in l) t p wait) (ap (λ (r : Answer). r.code) g),
+        came_counts (add_came (board_in l) t p wait) (ap (λ (r : Answer). r.code) g),
       ))
       (λ b. let f = unsound_call l (rw b) (record { adds = true; time = t; process = p; wait = wait }) in
       omega (arith, ap (λ (r : LentBoard). r.answer.code) f, ap (λ (r : Answer). r.code) e))
@@ -59,9 +59,9 @@ module _ (table summary board : List ℕ) (act p m : ℕ) where
     alone : entered step.answer.code act ≡ false → TellGiven (told_gave step (left_alone board))
     told : entered step.answer.code act ≡ true → TellGiven (told_gave step (lent_add board m p (wait_of (table_in table) (summary_in summary) p m)))
 
-  pub tell-given : TellGiven (lent_tell table summary board act p m)
+  pub tell_given : TellGiven (lent_tell table summary board act p m)
   unfolding lent_tell
-  tell-given = by_cond (λ (b : LentBoard). TellGiven (told_gave step b)) (entered step.answer.code act) told alone
+  tell_given = by_cond (λ (b : LentBoard). TellGiven (told_gave step b)) (entered step.answer.code act) told alone
 
   tells : {r : LentTold} → TellGiven r → Tells table summary board act p m r
   tells (TellGiven.alone e) = record {
@@ -70,7 +70,7 @@ module _ (table summary board : List ℕ) (act p m : ℕ) where
     told = λ f. clash f e;
     seen = λ f. clash f e;
     refused_stays = λ _. refl;
-    length-stays = refl;
+    length_stays = refl;
   }
   tells (TellGiven.told e) =
       let wait = wait_of (table_in table) (summary_in summary) p m in
@@ -78,10 +78,10 @@ module _ (table summary board : List ℕ) (act p m : ℕ) where
         step = refl;
         alone = λ f. clash e f;
         told = λ _. refl;
-        seen = λ _. added-seen m p wait board;
+        seen = λ _. added_seen m p wait board;
         refused_stays = refused_board_stays.add board m p wait;
-        length-stays = board_writes_its_own.add-length board m p wait;
+        length_stays = board_writes_its_own.add_length board m p wait;
       }
 
 pub tell_is_plain : TellIsPlain
-tell_is_plain table summary board act p m = tells table summary board act p m (tell-given table summary board act p m)
+tell_is_plain table summary board act p m = tells table summary board act p m (tell_given table summary board act p m)

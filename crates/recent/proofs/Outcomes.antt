@@ -38,14 +38,14 @@ in-time b t P untimely timely =
 
 module _ (b : Board) (t : ℕ) where
   -- what holds of each refusal, and of what is accepted, holds of a showing
-  pub show-cases : (P : BoardOutcome → Type 0) → ((r : Answer) → r.code ≢ 0 → Shows b t r.code r.process r.time b → P (outcome_with r b))
+  pub show_cases : (P : BoardOutcome → Type 0) → ((r : Answer) → r.code ≢ 0 → Shows b t r.code r.process r.time b → P (outcome_with r b))
       → (InTime b t → P (keeps b t [])) → P (show_of b t)
   unfolding show_of
-  show-cases P refusal success = in-time b t P (λ r n u. refusal r n (Shows.barred u)) success
+  show_cases P refusal success = in-time b t P (λ r n u. refusal r n (Shows.barred u)) success
 
-  pub show-came : Came b ((board_sound b ≡ true) × InTime b t) (keeps b t []) (show_of b t)
-  show-came =
-      show-cases (Came b ((board_sound b ≡ true) × InTime b t) (keeps b t [])) (λ r n _. Came.refused n)
+  pub show_came : Came b ((board_sound b ≡ true) × InTime b t) (keeps b t []) (show_of b t)
+  show_came =
+      show_cases (Came b ((board_sound b ≡ true) × InTime b t) (keeps b t [])) (λ r n _. Came.refused n)
       (λ h. Came.accepted ((board_sound_iff_plain b).1 h.sound, h))
 
 pub is_process_iff : (p : ℕ) → (is_process p ≡ true) ↔ IsProcess p
@@ -65,10 +65,10 @@ module _ (b : Board) (t p wait : ℕ) where
   many = how_many b.width t b.kept
 
   -- what holds of each refusal, and of what is accepted, holds of an adding
-  pub add-cases : (P : BoardOutcome → Type 0) → ((r : Answer) → r.code ≢ 0 → Adds b t p wait r.code r.process r.time b → P (outcome_with r b))
+  pub add_cases : (P : BoardOutcome → Type 0) → ((r : Answer) → r.code ≢ 0 → Adds b t p wait r.code r.process r.time b → P (outcome_with r b))
       → (Addable b t p → P (keeps b t (entry_with t p wait ∷ []))) → P (add_of b t p wait)
   unfolding add_of
-  add-cases P refusal success =
+  add_cases P refusal success =
       in-time b t P (λ r n u. refusal r n (Adds.barred u))
       (λ timely. by_cond P (not (is_process p))
       (λ e. refusal _ (λ z. omega arith) (Adds.misnamed timely (λ h. clash ((is_process_iff p).1 h) (not-true _ e))))
@@ -79,9 +79,9 @@ module _ (b : Board) (t p wait : ℕ) where
       refusal _ (λ z. omega arith) (Adds.full _ _ timely process left))
       (λ f. success (record { timely = timely; process = process; room = eqb-false _ _ f }))))
 
-  pub add-came : Came b ((board_sound b ≡ true) × Addable b t p) (keeps b t (entry_with t p wait ∷ [])) (add_of b t p wait)
-  add-came =
-      add-cases (Came b ((board_sound b ≡ true) × Addable b t p) (keeps b t (entry_with t p wait ∷ []))) (λ r n _. Came.refused n)
+  pub add_came : Came b ((board_sound b ≡ true) × Addable b t p) (keeps b t (entry_with t p wait ∷ [])) (add_of b t p wait)
+  add_came =
+      add_cases (Came b ((board_sound b ≡ true) × Addable b t p) (keeps b t (entry_with t p wait ∷ []))) (λ r n _. Came.refused n)
       (λ h. Came.accepted ((board_sound_iff_plain b).1 h.timely.sound, h))
 
 -- Setting up

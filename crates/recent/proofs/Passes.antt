@@ -88,19 +88,19 @@ figures_after w clock same h = record { many = simp (le-ltb _ _ h) at same.many;
 
 -- all count where they are in order from a time on that counts
 module _ (w clock : ℕ) where
-  pub all-count : (t : ℕ) (es : List Entry) → clock < t + w → in_order t es ≡ true → how_many w clock es ≡ length es
+  pub all_count : (t : ℕ) (es : List Entry) → clock < t + w → in_order t es ≡ true → how_many w clock es ≡ length es
   unfolding how_many
-  all-count t [] h o = refl
-  all-count t (e ∷ es) h o =
+  all_count t [] h o = refl
+  all_count t (e ∷ es) h o =
       let head = order_head t e es o in
       let here : clock < e.time + w = omega (arith, head.0) in
-      simp (lt-ltb _ _ here) (rw (all-count e.time es here head.1) (add-one (length es)))
+      simp (lt-ltb _ _ here) (rw (all_count e.time es here head.1) (add-one (length es)))
 
-  pub all-longest : (t longest : ℕ) (es : List Entry) → clock < t + w → in_order t es ≡ true
+  pub all_longest : (t longest : ℕ) (es : List Entry) → clock < t + w → in_order t es ≡ true
       → longest_over longest es ≡ max longest (longest_at w clock es)
   unfolding longest_over longest_at
-  all-longest t longest [] h o = omega arith
-  all-longest t longest (e ∷ es) h o =
+  all_longest t longest [] h o = omega arith
+  all_longest t longest (e ∷ es) h o =
       let head = order_head t e es o in
       let here : clock < e.time + w = omega (arith, head.0) in
-      simp (lt-ltb _ _ here) (all-longest e.time (max longest e.wait) es here head.1 ∙ omega arith)
+      simp (lt-ltb _ _ here) (all_longest e.time (max longest e.wait) es here head.1 ∙ omega arith)

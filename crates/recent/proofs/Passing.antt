@@ -12,25 +12,25 @@ use Rattle.recent.proofs.Passes.{order_next, order_falls, order_append, latest_a
 -- of the entries `all` those in `left` are left, after the time and the longest wait so far; the pass began with time₀ and longest₀
 pub record Passing (all : List Entry) (time₀ longest₀ : ℕ) (left : List Entry) (time longest : ℕ) : Type 0 where
   pub order : in_order time₀ all ≡ in_order time left
-  pub latest-is : latest time₀ all ≡ latest time left
-  pub longest-is : longest_over longest₀ all ≡ longest_over longest left
+  pub latest_is : latest time₀ all ≡ latest time left
+  pub longest_is : longest_over longest₀ all ≡ longest_over longest left
 
 -- at first all are left
 pub passing_start : {all : List Entry} {time longest : ℕ} → Passing all time longest all time longest
-passing_start = record { order = refl; latest-is = refl; longest-is = refl }
+passing_start = record { order = refl; latest_is = refl; longest_is = refl }
 
 module _ {all : List Entry} {time₀ longest₀ : ℕ} {left : List Entry} {time longest : ℕ} (so_far : Passing all time₀ longest₀ left time longest) where
   module _ {e : Entry} {es : List Entry} (first : left ≡ e ∷ es) where
-    pub passing-falls : e.time < time → in_order time₀ all ≡ false
-    passing-falls h = so_far.order ∙ ap (in_order time) first ∙ order_falls time e es h
+    pub passing_falls : e.time < time → in_order time₀ all ≡ false
+    passing_falls h = so_far.order ∙ ap (in_order time) first ∙ order_falls time e es h
 
-    pub passing-next : time ≤ e.time → Passing all time₀ longest₀ es e.time (max longest e.wait)
+    pub passing_next : time ≤ e.time → Passing all time₀ longest₀ es e.time (max longest e.wait)
     unfolding latest longest_over
-    passing-next h =
+    passing_next h =
         record {
           order = so_far.order ∙ ap (in_order time) first ∙ order_next time e es h;
-          latest-is = so_far.latest-is ∙ ap (latest time) first;
-          longest-is = so_far.longest-is ∙ ap (longest_over longest) first;
+          latest_is = so_far.latest_is ∙ ap (latest time) first;
+          longest_is = so_far.longest_is ∙ ap (longest_over longest) first;
         }
 
 -- none is left
@@ -40,32 +40,32 @@ unfolding in_order latest longest_over
 passing_end {r = r} so_far none =
     record {
       order = so_far.order ∙ ap (in_order r.time) none;
-      latest-is = sym (so_far.latest-is ∙ ap (latest r.time) none);
-      longest-is = sym (so_far.longest-is ∙ ap (longest_over r.longest) none);
+      latest_is = sym (so_far.latest_is ∙ ap (latest r.time) none);
+      longest_is = sym (so_far.longest_is ∙ ap (longest_over r.longest) none);
     }
 
 -- One pass after another
 
 module _ {es : List Entry} (ds : List Entry) {pass mid : Pass} where
   -- what falls in the first
-  pub passes-fell : Passes es pass mid → mid.falls ≡ true → Passes (es ++ ds) pass mid
-  passes-fell p f =
+  pub passes_fell : Passes es pass mid → mid.falls ≡ true → Passes (es ++ ds) pass mid
+  passes_fell p f =
       record {
         falls = λ _. order_append pass.time es ds ∙ rw (p.falls f);
         passed = λ e. clash f e;
       }
 
-  order-both : Passed es pass mid → in_order pass.time (es ++ ds) ≡ in_order mid.time ds
-  order-both first = order_append pass.time es ds ∙ rw (first.order, first.latest-is)
+  order_both : Passed es pass mid → in_order pass.time (es ++ ds) ≡ in_order mid.time ds
+  order_both first = order_append pass.time es ds ∙ rw (first.order, first.latest_is)
 
-  pub passes-both : {r : Pass} → Passes es pass mid → mid.falls ≡ false → Passes ds mid r → Passes (es ++ ds) pass r
-  passes-both p f q =
+  pub passes_both : {r : Pass} → Passes es pass mid → mid.falls ≡ false → Passes ds mid r → Passes (es ++ ds) pass r
+  passes_both p f q =
       let first = p.passed f in
       record {
-        falls = λ e. order-both first ∙ q.falls e;
+        falls = λ e. order_both first ∙ q.falls e;
         passed = λ e. record {
-          order = order-both first ∙ (q.passed e).order;
-          latest-is = (q.passed e).latest-is ∙ rw first.latest-is (sym (latest_append pass.time es ds));
-          longest-is = (q.passed e).longest-is ∙ rw first.longest-is (sym (over_append pass.longest es ds));
+          order = order_both first ∙ (q.passed e).order;
+          latest_is = (q.passed e).latest_is ∙ rw first.latest_is (sym (latest_append pass.time es ds));
+          longest_is = (q.passed e).longest_is ∙ rw first.longest_is (sym (over_append pass.longest es ds));
         };
       }

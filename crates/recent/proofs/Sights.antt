@@ -17,8 +17,8 @@ use Rattle.recent.specs.Encodings.{width_index, last_index, first_index, count_i
 use Rattle.recent.specs.Encodings.{board_in, is_board}
 use Rattle.recent.specs.Looking.{latest, Rested, Passed, Passes, Looked, Looks}
 use Rattle.recent.proofs.Places.{wrapped_inside, wrapped_below, ring_none, ring_length, ring_same}
-use Rattle.recent.proofs.Passes.{order_from, none_after, some_after, all-count, all-longest}
-use Rattle.recent.proofs.Resting.{ring-left}
+use Rattle.recent.proofs.Passes.{order_from, none_after, some_after, all_count, all_longest}
+use Rattle.recent.proofs.Resting.{ring_left}
 use Rattle.recent.proofs.Soundness.{SoundParts, sound_parts, parts_sound}
 use Rattle.recent.proofs.Outcomes.{width_stands_iff}
 
@@ -58,13 +58,13 @@ sound_numbers l b s =
     }
 
 module _ (l : List ℕ) (s : SoundNumbers l) where
-  numbers-board : is_board l ≡ true
+  numbers_board : is_board l ≡ true
   unfolding is_board
-  numbers-board = simp (le-leb _ _ s.fits, lt-ltb _ _ s.inside)
+  numbers_board = simp (le-leb _ _ s.fits, lt-ltb _ _ s.inside)
 
-  numbers-sound : board_sound (board_in l) ≡ true
+  numbers_sound : board_sound (board_in l) ≡ true
   unfolding board_in
-  numbers-sound = parts_sound (board_in l) s.parts
+  numbers_sound = parts_sound (board_in l) s.parts
 
   pub width-in : width_stands (width_in l) ≡ true
   width-in = (width_stands_iff (width_in l)).1 s.parts.width
@@ -101,11 +101,11 @@ empty_seen l t none fits inside stands =
       };
     } in
     record {
-      board = numbers-board l s;
-      sound = numbers-sound l s;
+      board = numbers_board l s;
+      sound = numbers_sound l s;
       first_is = rw (empty, none) (omega (arith, wrapped_inside (first_in l + 0) (omega arith)));
-      count-is = rw empty;
-      longest-is = rw empty;
+      count_is = rw empty;
+      longest_is = rw empty;
     }
 
 -- The passes over the ring of a list
@@ -124,16 +124,16 @@ since_in l t = t + 1 - width_in l
 
 module _ (l : List ℕ) (t : ℕ) {rest : Rest} (gone : Rested l (first_in l) (count_in l) (since_in l t) rest) where
   -- a time that falls among the entries that are left
-  pub fall-seen : {pass : Pass} → Passes (left_of l rest) (start_of rest) pass → pass.falls ≡ true → SoundNumbers l → ⊥
-  fall-seen passes e s = clash s.parts.order (gone.resting.order ∙ passes.falls e)
+  pub fall_seen : {pass : Pass} → Passes (left_of l rest) (start_of rest) pass → pass.falls ≡ true → SoundNumbers l → ⊥
+  fall_seen passes e s = clash s.parts.order (gone.resting.order ∙ passes.falls e)
 
   module _ {pass : Pass} (passed : Passed (left_of l rest) (start_of rest) pass) where
-    latest-seen : latest 0 (ring_in l) ≡ pass.time
-    latest-seen = gone.resting.latest-is ∙ sym passed.latest-is
+    latest_seen : latest 0 (ring_in l) ≡ pass.time
+    latest_seen = gone.resting.latest_is ∙ sym passed.latest_is
 
     -- a last time past the one told
-    pub late-seen : last_in l < pass.time → SoundNumbers l → ⊥
-    late-seen h s = clash s.parts.none_after (some_after 0 (last_in l) (ring_in l) (omega arith) (omega (arith, latest-seen)))
+    pub late_seen : last_in l < pass.time → SoundNumbers l → ⊥
+    late_seen h s = clash s.parts.none_after (some_after 0 (last_in l) (ring_in l) (omega arith) (omega (arith, latest_seen)))
 
     module _ (few : count_in l ≤ most_kept) where
       -- what is left is in order from the first time on that counts
@@ -141,26 +141,26 @@ module _ (l : List ℕ) (t : ℕ) {rest : Rest} (gone : Rested l (first_in l) (c
       unfolding in_order
       left-counts =
           if_lt 0 rest.count
-          (λ h. let some = ring-left gone.resting h few in
+          (λ h. let some = ring_left gone.resting h few in
           rw some
           (order_from (since_in l t) rest.time (entry_at l rest.first) (ring_from l (wrapped (rest.first + 1)) (rest.count - 1))
-          (gone.counts-first h) (rw some at passed.order)))
+          (gone.counts_first h) (rw some at passed.order)))
           (λ h. let none : rest.count ≡ 0 = omega arith in
           rw (none, ring_none l rest.first (omega (arith, gone.resting.inside))))
 
-      many-seen : rest.count ≡ how_many (width_in l) t (ring_in l)
-      many-seen =
+      many_seen : rest.count ≡ how_many (width_in l) t (ring_in l)
+      many_seen =
           sym ((gone.resting.figures (width_in l) t refl).many
-          ∙ all-count (width_in l) t (since_in l t) (left_of l rest) (omega arith) left-counts
+          ∙ all_count (width_in l) t (since_in l t) (left_of l rest) (omega arith) left-counts
           ∙ ring_length l rest.first rest.count)
 
-      longest-seen : pass.longest ≡ longest_at (width_in l) t (ring_in l)
-      longest-seen =
-          let over = all-longest (width_in l) t (since_in l t) 0 (left_of l rest) (omega arith) left-counts in
-          omega (arith, passed.longest-is, over, (gone.resting.figures (width_in l) t refl).longest)
+      longest_seen : pass.longest ≡ longest_at (width_in l) t (ring_in l)
+      longest_seen =
+          let over = all_longest (width_in l) t (since_in l t) 0 (left_of l rest) (omega arith) left-counts in
+          omega (arith, passed.longest_is, over, (gone.resting.figures (width_in l) t refl).longest)
 
-      sound-seen : board_length ≤ length l → first_in l < most_kept → width_stands (width_in l) ≡ true → pass.time ≤ last_in l → SoundNumbers l
-      sound-seen fits inside stands h =
+      sound_seen : board_length ≤ length l → first_in l < most_kept → width_stands (width_in l) ≡ true → pass.time ≤ last_in l → SoundNumbers l
+      sound_seen fits inside stands h =
           let order = gone.resting.order ∙ passed.order in
           let size = ring_length l (first_in l) (count_in l) in
           record {
@@ -171,7 +171,7 @@ module _ (l : List ℕ) (t : ℕ) {rest : Rest} (gone : Rested l (first_in l) (c
               width = (width_stands_iff (width_in l)).0 stands;
               room = omega arith;
               order = order;
-              none_after = none_after 0 (last_in l) (ring_in l) order (omega (arith, latest-seen));
+              none_after = none_after 0 (last_in l) (ring_in l) order (omega (arith, latest_seen));
             };
           }
 
@@ -180,13 +180,13 @@ module _ (l : List ℕ) (t : ℕ) {rest : Rest} (gone : Rested l (first_in l) (c
           → Looked l t (record { sound = true; first = rest.first; count = rest.count; longest = pass.longest })
       unfolding board_in
       seen fits inside stands h =
-          let s = sound-seen fits inside stands h in
+          let s = sound_seen fits inside stands h in
           record {
-            board = numbers-board l s;
-            sound = numbers-sound l s;
-            first_is = gone.resting.first_is ∙ ap (λ (n : ℕ). wrapped (first_in l + (count_in l - n))) many-seen;
-            count-is = many-seen;
-            longest-is = longest-seen;
+            board = numbers_board l s;
+            sound = numbers_sound l s;
+            first_is = gone.resting.first_is ∙ ap (λ (n : ℕ). wrapped (first_in l + (count_in l - n))) many_seen;
+            count_is = many_seen;
+            longest_is = longest_seen;
           }
 
 -- A list that is longer tells the same as the numbers of a board at its front
@@ -199,49 +199,49 @@ module _ (l : List ℕ) (long : board_length ≤ length l) where
   front_at : (i : ℕ) → i < board_length → get_or front i 0 ≡ get_or l i 0
   front_at i h = get_or-take board_length l i 0 h
 
-  front-entry : (p : ℕ) → p < most_kept → entry_at front p ≡ entry_at l p
-  front-entry p h =
+  front_entry : (p : ℕ) → p < most_kept → entry_at front p ≡ entry_at l p
+  front_entry p h =
       rw (front_at (entry_index p) (omega arith), front_at (entry_index p + 1) (omega arith), front_at (entry_index p + 2) (omega arith))
 
-  front-ring : (k n : ℕ) → k < most_kept → n ≤ most_kept → ring_from front k n ≡ ring_from l k n
-  front-ring k n h g = ring_same front l k n h g (λ i b. front-entry (wrapped (k + i)) (wrapped_below (k + i) (omega arith)))
+  front_ring : (k n : ℕ) → k < most_kept → n ≤ most_kept → ring_from front k n ≡ ring_from l k n
+  front_ring k n h g = ring_same front l k n h g (λ i b. front_entry (wrapped (k + i)) (wrapped_below (k + i) (omega arith)))
 
-  front-board : first_in l < most_kept → count_in l ≤ most_kept → board_in front ≡ board_in l
+  front_board : first_in l < most_kept → count_in l ≤ most_kept → board_in front ≡ board_in l
   unfolding board_in
-  front-board h g =
+  front_board h g =
       rw (
         front_at first_index (omega arith),
         front_at count_index (omega arith),
         front_at width_index (omega arith),
         front_at last_index (omega arith),
-        front-ring (first_in l) (count_in l) h g,
+        front_ring (first_in l) (count_in l) h g,
       )
 
-  front-sound : SoundNumbers l → is_board front && board_sound (board_in front) ≡ true
+  front_sound : SoundNumbers l → is_board front && board_sound (board_in front) ≡ true
   unfolding is_board
-  front-sound s =
+  front_sound s =
       let size = length-take-le board_length l long in
       let fits : board_length ≤ length front = omega arith in
       let inside : first_in front < most_kept = rw (front_at first_index (omega arith)) s.inside in
-      simp (le-leb _ _ fits, lt-ltb _ _ inside) (rw (front-board s.inside s.room) (numbers-sound l s))
+      simp (le-leb _ _ fits, lt-ltb _ _ inside) (rw (front_board s.inside s.room) (numbers_sound l s))
 
-  front-seen : (t : ℕ) {r : Look} → Looked front t r → Looked l t r
+  front_seen : (t : ℕ) {r : Look} → Looked front t r → Looked l t r
   unfolding is_board
-  front-seen t seen =
+  front_seen t seen =
       let s = sound_numbers front seen.board seen.sound in
       let inside = rw (front_at first_index (omega arith)) at s.inside in
       let room = rw (front_at count_index (omega arith)) at s.room in
-      let same = front-board inside room in
+      let same = front_board inside room in
       record {
         board = simp (le-leb _ _ long, lt-ltb _ _ inside);
         sound = rw same at seen.sound;
         first_is = rw (same, front_at first_index (omega arith), front_at count_index (omega arith)) at seen.first_is;
-        count-is = rw same at seen.count-is;
-        longest-is = rw same at seen.longest-is;
+        count_is = rw same at seen.count_is;
+        longest_is = rw same at seen.longest_is;
       }
 
-  pub front-looks : (t : ℕ) {r : Look} → Looks front t r → Looks l t r
-  front-looks t {r} looks =
+  pub front_looks : (t : ℕ) {r : Look} → Looks front t r → Looks l t r
+  front_looks t {r} looks =
       by_test r.sound
-      (λ e. sight l t e (front-seen t (looks.looked e)))
-      (λ e. no_sight l t e (λ s. clash (front-sound s) (looks.unsound e)))
+      (λ e. sight l t e (front_seen t (looks.looked e)))
+      (λ e. no_sight l t e (λ s. clash (front_sound s) (looks.unsound e)))

@@ -62,7 +62,7 @@ every_ring l told = record {
   width = refl;
   last = refl;
   count = ring_length l (get_or l first_index 0) (get_or l count_index 0);
-  before-the-end = λ i k b e h. ring_stands l (get_or l first_index 0) (get_or l count_index 0) i k b e h;
-  around-the-end = λ i k b e.
+  before_the_end = λ i k b e h. ring_stands l (get_or l first_index 0) (get_or l count_index 0) i k b e h;
+  around_the_end = λ i k b e.
       ring_stands_around l (get_or l first_index 0) (get_or l count_index 0) i k ((board_told_iff l).0 told).1 b e;
 }

@@ -20,37 +20,37 @@ use Rattle.recent.proofs.Lists.{LentFollows}
 -- One call more in a log
 
 module _ (d : TellCall) (r : LentTold) (log : List Noted) where
-  pub attempts-shown : d.shows ≡ true → attempts_in (noted d r ∷ log) ≡ attempts_in log
+  pub attempts_shown : d.shows ≡ true → attempts_in (noted d r ∷ log) ≡ attempts_in log
   unfolding attempts_in
-  attempts-shown y = rw y
+  attempts_shown y = rw y
 
-  pub attempts-taken : d.shows ≡ false
+  pub attempts_taken : d.shows ≡ false
       → attempts_in (noted d r ∷ log) ≡ attempt d.action d.process d.time r.answer.code ∷ attempts_in log
   unfolding attempts_in
-  attempts-taken n = rw n
+  attempts_taken n = rw n
 
-  pub tellings-shown : d.shows ≡ true → tellings_in (noted d r ∷ log) ≡ asked (showing d.time) r.told.code ∷ tellings_in log
+  pub tellings_shown : d.shows ≡ true → tellings_in (noted d r ∷ log) ≡ asked (showing d.time) r.told.code ∷ tellings_in log
   unfolding tellings_in
-  tellings-shown y = rw y
+  tellings_shown y = rw y
 
-  pub tellings-told : d.shows ≡ false → entered r.answer.code d.action ≡ true
+  pub tellings_told : d.shows ≡ false → entered r.answer.code d.action ≡ true
       → tellings_in (noted d r ∷ log) ≡ asked (adding log d) r.told.code ∷ tellings_in log
   unfolding tellings_in
-  tellings-told n e = rw (n, e)
+  tellings_told n e = rw (n, e)
 
-  pub tellings-alone : d.shows ≡ false → entered r.answer.code d.action ≡ false → tellings_in (noted d r ∷ log) ≡ tellings_in log
+  pub tellings_alone : d.shows ≡ false → entered r.answer.code d.action ≡ false → tellings_in (noted d r ∷ log) ≡ tellings_in log
   unfolding tellings_in
-  tellings-alone n e = rw (n, e)
+  tellings_alone n e = rw (n, e)
 
 -- A time that the board was told: an adding's, which is not past the clock, or a showing's
 
 pub data ToldBy (t clock : ℕ) (log : List Noted) : Type 0 where
-  by-step : t ≤ clock → ToldBy t clock log
-  by-showing : ShownAt t log → ToldBy t clock log
+  by_step : t ≤ clock → ToldBy t clock log
+  by_showing : ShownAt t log → ToldBy t clock log
 
 pub told_before : {t clock next : ℕ} {log : List Noted} (k : Noted) → clock ≤ next → ToldBy t clock log → ToldBy t next (k ∷ log)
-told_before k h (ToldBy.by-step e) = ToldBy.by-step (omega arith)
-told_before k h (ToldBy.by-showing e) = ToldBy.by-showing (ShownAt.before e)
+told_before k h (ToldBy.by_step e) = ToldBy.by_step (omega arith)
+told_before k h (ToldBy.by_showing e) = ToldBy.by_showing (ShownAt.before e)
 
 -- the last time of a log that is one call longer
 pub told_last : {clock next : ℕ} {log : List Noted} (k : Noted) (c : BoardCall) (code : ℕ) → clock ≤ next

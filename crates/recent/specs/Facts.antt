@@ -133,9 +133,9 @@ pub record RingIsPlain (l : List ℕ) : Type 0 where
   pub width : (board_in l).width ≡ get_or l 0 0
   pub last : (board_in l).last ≡ get_or l 1 0
   pub count : length (board_in l).kept ≡ get_or l 3 0
-  pub before-the-end : (i k : ℕ) → i < get_or l 3 0 → k ≡ get_or l 2 0 + i → k < 1_024
+  pub before_the_end : (i k : ℕ) → i < get_or l 3 0 → k ≡ get_or l 2 0 + i → k < 1_024
       → IsAt (entry_with (get_or l (4 + 3 * k) 0) (get_or l (4 + 3 * k + 1) 0) (get_or l (4 + 3 * k + 2) 0)) i (board_in l).kept
-  pub around-the-end : (i k : ℕ) → i < get_or l 3 0 → k + 1_024 ≡ get_or l 2 0 + i
+  pub around_the_end : (i k : ℕ) → i < get_or l 3 0 → k + 1_024 ≡ get_or l 2 0 + i
       → IsAt (entry_with (get_or l (4 + 3 * k) 0) (get_or l (4 + 3 * k + 1) 0) (get_or l (4 + 3 * k + 2) 0)) i (board_in l).kept
 
 -- [10.110] [10.115]
@@ -150,7 +150,7 @@ pub record NoBoard : Type 0 where
 -- [10.130] [4.16] [4.17] the answers of setting up on a list
 pub record LentSetUps : Type 0 where
   pub accepted : (w : ℕ) (l : List ℕ) → ((lent_set_up w l).answer.code ≡ 0) ↔ (WidthStands w × (board_length ≤ length l))
-  pub no-width : (w : ℕ) (l : List ℕ) → (WidthStands w → ⊥) → (lent_set_up w l).answer ≡ answer_of 17 0 0
+  pub no_width : (w : ℕ) (l : List ℕ) → (WidthStands w → ⊥) → (lent_set_up w l).answer ≡ answer_of 17 0 0
   pub short : (w : ℕ) (l : List ℕ) → WidthStands w → length l < board_length → (lent_set_up w l).answer ≡ answer_of 16 0 0
   pub first : (w : ℕ) (l : List ℕ) → board_length ≤ length l → get_or (lent_set_up w l).board 2 0 ≡ 0
 
@@ -177,19 +177,19 @@ pub record RefusedBoardStays : Type 0 where
 pub record NotHead (i : ℕ) : Type 0 where
   pub not_last : i ≢ last_index
   pub not_first : i ≢ first_index
-  pub not-count : i ≢ count_index
+  pub not_count : i ≢ count_index
 
 -- [10.140] i is none of the three numbers of the entry at place k
 pub record NotEntry (k i : ℕ) : Type 0 where
-  pub not-time : i ≢ entry_index k
-  pub not-process : i ≢ entry_index k + 1
-  pub not-wait : i ≢ entry_index k + 2
+  pub not_time : i ≢ entry_index k
+  pub not_process : i ≢ entry_index k + 1
+  pub not_wait : i ≢ entry_index k + 2
 
 -- [10.130] [10.140]
 pub record BoardWritesItsOwn : Type 0 where
   pub add : (l : List ℕ) (t p wait i : ℕ) → NotHead i → NotEntry (next_at l) i → get_or (lent_add l t p wait).board i 0 ≡ get_or l i 0
-  pub add-length : (l : List ℕ) (t p wait : ℕ) → length (lent_add l t p wait).board ≡ length l
+  pub add_length : (l : List ℕ) (t p wait : ℕ) → length (lent_add l t p wait).board ≡ length l
   pub show : (l : List ℕ) (t i : ℕ) → NotHead i → get_or (lent_show l t).board i 0 ≡ get_or l i 0
-  pub show-length : (l : List ℕ) (t : ℕ) → length (lent_show l t).board ≡ length l
+  pub show_length : (l : List ℕ) (t : ℕ) → length (lent_show l t).board ≡ length l
   pub set-up : (w : ℕ) (l : List ℕ) (i : ℕ) → board_header ≤ i → get_or (lent_set_up w l).board i 0 ≡ get_or l i 0
-  pub set-up-length : (w : ℕ) (l : List ℕ) → length (lent_set_up w l).board ≡ length l
+  pub set_up_length : (w : ℕ) (l : List ℕ) → length (lent_set_up w l).board ≡ length l

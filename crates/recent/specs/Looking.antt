@@ -30,13 +30,13 @@ pub record Resting (l : List ℕ) (k n since first count time : ℕ) : Type 0 wh
   pub fewer : count ≤ n
   pub first_is : first ≡ wrapped (k + (n - count))
   pub order : in_order 0 (ring_from l k n) ≡ in_order time (ring_from l first count)
-  pub latest-is : latest 0 (ring_from l k n) ≡ latest time (ring_from l first count)
+  pub latest_is : latest 0 (ring_from l k n) ≡ latest time (ring_from l first count)
   pub figures : (w clock : ℕ) → clock + 1 - w ≡ since → SameFigures w clock (ring_from l k n) (ring_from l first count)
 
 -- they are all that are before `since`, where none is before the one ahead of it
 pub record Rested (l : List ℕ) (k n since : ℕ) (r : Rest) : Type 0 where
   pub resting : Resting l k n since r.first r.count r.time
-  pub counts-first : 0 < r.count → since ≤ (entry_at l r.first).time
+  pub counts_first : 0 < r.count → since ≤ (entry_at l r.first).time
 
 pub record Rests (l : List ℕ) (k n since : ℕ) (r : Rest) : Type 0 where
   pub falls : r.falls ≡ true → in_order 0 (ring_from l k n) ≡ false
@@ -45,8 +45,8 @@ pub record Rests (l : List ℕ) (k n since : ℕ) (r : Rest) : Type 0 where
 -- a pass over these entries, after what `pass` tells of those before them
 pub record Passed (es : List Entry) (pass r : Pass) : Type 0 where
   pub order : in_order pass.time es ≡ true
-  pub latest-is : r.time ≡ latest pass.time es
-  pub longest-is : r.longest ≡ longest_over pass.longest es
+  pub latest_is : r.time ≡ latest pass.time es
+  pub longest_is : r.longest ≡ longest_over pass.longest es
 
 pub record Passes (es : List Entry) (pass r : Pass) : Type 0 where
   pub falls : r.falls ≡ true → in_order pass.time es ≡ false
@@ -63,8 +63,8 @@ pub record Looked (l : List ℕ) (t : ℕ) (r : Look) : Type 0 where
   pub board : is_board l ≡ true
   pub sound : board_sound (board_in l) ≡ true
   pub first_is : r.first ≡ first_at l t
-  pub count-is : r.count ≡ still_at l t
-  pub longest-is : r.longest ≡ longest_at (board_in l).width t (board_in l).kept
+  pub count_is : r.count ≡ still_at l t
+  pub longest_is : r.longest ≡ longest_at (board_in l).width t (board_in l).kept
 
 pub record Looks (l : List ℕ) (t : ℕ) (r : Look) : Type 0 where
   pub looked : r.sound ≡ true → Looked l t r

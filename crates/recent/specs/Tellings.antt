@@ -58,7 +58,7 @@ pub record Tells (table summary board : List ℕ) (act p m : ℕ) (r : LentTold)
   pub seen : entered r.answer.code act ≡ true → r.told ≢ answer_of 0 0 0
   -- [10.100]
   pub refused_stays : r.told.code ≢ 0 → r.board ≡ board
-  pub length-stays : length r.board ≡ length board
+  pub length_stays : length r.board ≡ length board
 
 -- [10.200] [10.205]
 abbrev pub TellIsPlain : Type 0
@@ -87,12 +87,12 @@ lent_tell_call r d =
 -- [10.220] a call, with the codes of the step's answer and of the board's
 pub record Noted : Type 0 where
   pub call : TellCall
-  pub step-code : ℕ
-  pub board-code : ℕ
+  pub step_code : ℕ
+  pub board_code : ℕ
 
 -- helper: of a call and what it gave back
 abbrev pub noted : TellCall → LentTold → Noted
-noted d r = record { call = d; step-code = r.answer.code; board-code = r.told.code }
+noted d r = record { call = d; step_code = r.answer.code; board_code = r.told.code }
 
 -- [10.220] the log of a list of calls, the last first
 abbrev pub noted_of : List TellCall → List LentTold → List Noted
@@ -103,7 +103,7 @@ unfoldable pub attempts_in : List Noted → List Attempt
 attempts_in [] = []
 attempts_in (k ∷ log) =
     cond k.call.shows (attempts_in log)
-    (attempt k.call.action k.call.process k.call.time k.step-code ∷ attempts_in log)
+    (attempt k.call.action k.call.process k.call.time k.step_code ∷ attempts_in log)
 
 -- [10.220] a showing
 abbrev pub showing : ℕ → BoardCall
@@ -117,8 +117,8 @@ adding log d = record { adds = true; time = d.time; process = d.process; wait = 
 unfoldable pub tellings_in : List Noted → List Asked
 tellings_in [] = []
 tellings_in (k ∷ log) =
-    cond k.call.shows (asked (showing k.call.time) k.board-code ∷ tellings_in log)
-    (cond (entered k.step-code k.call.action) (asked (adding log k.call) k.board-code ∷ tellings_in log)
+    cond k.call.shows (asked (showing k.call.time) k.board_code ∷ tellings_in log)
+    (cond (entered k.step_code k.call.action) (asked (adding log k.call) k.board_code ∷ tellings_in log)
     (tellings_in log))
 
 -- [10.220] the entries of the log that the board accepted, the last first
@@ -127,13 +127,13 @@ entries_in log = accepted_in (tellings_in log)
 
 -- [10.230] the board was shown at the time t with success, by a call of the log
 pub data ShownAt (t : ℕ) : List Noted → Type 0 where
-  here : {k : Noted} {log : List Noted} → k.call.shows ≡ true → k.board-code ≡ 0 → k.call.time ≡ t → ShownAt t (k ∷ log)
+  here : {k : Noted} {log : List Noted} → k.call.shows ≡ true → k.board_code ≡ 0 → k.call.time ≡ t → ShownAt t (k ∷ log)
   before : {k : Noted} {log : List Noted} → ShownAt t log → ShownAt t (k ∷ log)
 
 -- [10.230] the code with which the board answers to an accepted crit at the time t
 pub data CritCode (w : ℕ) (log : List Noted) (t : ℕ) : ℕ → Type 0 where
   accepted : CritCode w log t 0
-  shown-past : (s : ℕ) → ShownAt s log → t < s → CritCode w log t 4
+  shown_past : (s : ℕ) → ShownAt s log → t < s → CritCode w log t 4
   full : how_many w t (entries_in log) ≡ most_kept → CritCode w log t 18
 
 -- [10.220] [10.230] the call d after the calls of a log gave back r; W is the width of the board
@@ -141,7 +141,7 @@ pub record ToldFigures (w : ℕ) (log : List Noted) (d : TellCall) (r : LentTold
   -- [10.220] the board's answer to an accepted crit
   pub told : d.shows ≡ false → entered r.answer.code d.action ≡ true → r.told ≡ worked_out w (tellings_in log) (adding log d)
   -- [10.230] its code
-  pub told-code : d.shows ≡ false → entered r.answer.code d.action ≡ true → CritCode w log d.time r.told.code
+  pub told_code : d.shows ≡ false → entered r.answer.code d.action ≡ true → CritCode w log d.time r.told.code
   -- [10.220] its answer to a showing
   pub shown : d.shows ≡ true → r.told ≡ worked_out w (tellings_in log) (showing d.time)
   -- [10.220] both figures of a success of the board, by the entries of the log and, where an entry was told, that one
@@ -189,7 +189,7 @@ pub record ToldHolds (k : Parameters) (w : ℕ) (table summary board : List ℕ)
   pub table_is : (tell_all (tell_start k w table summary board) ds).table
       ≡ lent_run (lent_fresh k table).table (steps_told (tell_start k w table summary board) ds)
   pub tally : LentTally k table summary (acts_told ds)
-  pub summary-is : (tell_all (tell_start k w table summary board) ds).summary ≡ (lent_all (lent_start k table summary) (acts_told ds)).summary
+  pub summary_is : (tell_all (tell_start k w table summary board) ds).summary ≡ (lent_all (lent_start k table summary) (acts_told ds)).summary
 
 -- [10.225]
 abbrev pub EveryToldSteps : Type 0

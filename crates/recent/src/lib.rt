@@ -1,5 +1,7 @@
 // The board of recent entries, in numbers that are lent and changed in place: `set_up`, `add` and `show` take any numbers at all and give back
 // what their definitions say.
+#![tactic(auto)]
+
 mod rings;
 
 ghost use Rattle.std.specs.Prelude.{◌≡◌};

@@ -3,6 +3,8 @@
 //
 // What cannot be read or written is told on standard error. A program of this language has no exit status to choose, so
 // a failed run is known by that message; a failed reading prints no report at all, not even the names line.
+#![tactic(auto)]
+
 mod reports;
 
 use crate::reports::print_report;

@@ -1,5 +1,7 @@
 // The whole text that `replay` prints, as a function from bytes to bytes: a recording is run, and there is a line for each of its
 // steps, or one for what is at fault.
+#![tactic(auto)]
+
 ghost use Rattle.std.specs.Prelude.{◌≡◌, ◌*◌, ◌≤◌, length};
 ghost use Rattle.model.specs.Texts.{numbers_text};
 ghost use Rattle.model.specs.Readings.{lent};

@@ -46,13 +46,13 @@ pub held : (text : List ℕ) (l : Lists) {r : Read} → r ≡ read_of text l →
 held text l e = subst ReadHeld (sym e) (λ z. let r = (read_iff text l).0 z in held_of text l r.0 r.1 r.2 r.3 z)
 
 module _ (r : Read) (out : List ℕ) where
-  pub rewrite-refused : r.reading.answer.code ≢ 0 → rewrite_of r out ≡ write_gave r.reading.answer out
+  pub rewrite_refused : r.reading.answer.code ≢ 0 → rewrite_of r out ≡ write_gave r.reading.answer out
   unfolding rewrite_of
-  rewrite-refused z = rw (ne_eqb _ _ z)
+  rewrite_refused z = rw (ne_eqb _ _ z)
 
-  pub rewrite-done : r.reading.answer.code ≡ 0 → rewrite_of r out ≡ rewritten r out
+  pub rewrite_done : r.reading.answer.code ≡ 0 → rewrite_of r out ≡ rewritten r out
   unfolding rewrite_of
-  rewrite-done z = rw (eq-eqb _ _ z)
+  rewrite_done z = rw (eq-eqb _ _ z)
 
 -- a recording that is read comes back
 pub rewrite_same : (text : List ℕ) (l : Lists) (out : List ℕ) → ComesBack text l out (rewrite_of (read_of text l) out).out
@@ -93,13 +93,13 @@ pub written_held : (k : Parameters) (events : List Event) (out : List ℕ) {w : 
 written_held k events out e = subst WriteHeld (sym e) (write_held k events out)
 
 module _ (w : Written) (l : Lists) where
-  pub reread-refused : w.answer.code ≢ 0 → reread_of w l ≡ read_gave (not_read w.answer) l
+  pub reread_refused : w.answer.code ≢ 0 → reread_of w l ≡ read_gave (not_read w.answer) l
   unfolding reread_of
-  reread-refused z = rw (ne_eqb _ _ z)
+  reread_refused z = rw (ne_eqb _ _ z)
 
-  pub reread-done : w.answer.code ≡ 0 → reread_of w l ≡ rereading w l
+  pub reread_done : w.answer.code ≡ 0 → reread_of w l ≡ rereading w l
   unfolding reread_of
-  reread-done z = rw (eq-eqb _ _ z)
+  reread_done z = rw (eq-eqb _ _ z)
 
 -- steps that are written come back
 pub reread_same : (k : Parameters) (l : Lists) (out : List ℕ) (m : Lists)

@@ -1,5 +1,7 @@
 // Reading a recording and writing it again, and writing steps and reading them again: the calls of `read` and `write` that
 // the theorems of `grammar` speak of, each round trip as the contract of one function.
+#![tactic(auto)]
+
 ghost use Rattle.std.specs.Prelude.{◌≡◌};
 ghost use Rattle.model.specs.Readings.{lent, read_gave, read_of};
 ghost use Rattle.model.specs.Writings.{events_of, write_gave, write_of};

@@ -59,19 +59,19 @@ others_low acting k (q ∷ qs) n =
 
 module _ (acting k others : ℕ) (to : Location) where
   -- the acting process is the first of the list
-  lowest-first : acting ≡ k → (others ≢ 0 → k + 1 ≤ others) → cond (eqb (stage_of to) critical) k others ≡ lowest_of others acting to
+  lowest_first : acting ≡ k → (others ≢ 0 → k + 1 ≤ others) → cond (eqb (stage_of to) critical) k others ≡ lowest_of others acting to
   unfolding lowest_of
-  lowest-first e h =
+  lowest_first e h =
       by_test (eqb (stage_of to) critical)
       (λ c. if_eq others 0 (λ z. simp (c, eq-eqb others 0 z) (sym e))
       (λ n. simp (c, ne_eqb others 0 n, le-ltb others acting (omega (arith, h n))) (sym e)))
       (λ c. simp c)
 
   -- the acting process comes after process k, which is critical or not
-  lowest-later : (t : Bool) → 1 ≤ k → k < acting → cond t k (lowest_of others acting to) ≡ lowest_of (cond t k others) acting to
+  lowest_later : (t : Bool) → 1 ≤ k → k < acting → cond t k (lowest_of others acting to) ≡ lowest_of (cond t k others) acting to
   unfolding lowest_of
-  lowest-later false h g = refl
-  lowest-later true h g =
+  lowest_later false h g = refl
+  lowest_later true h g =
       by_test (eqb (stage_of to) critical)
       (λ c. simp (c, ne_eqb k 0 (λ e. omega arith), lt-ltb k acting g)) (λ c. simp c)
 
@@ -82,10 +82,10 @@ unfolding critical_by others_from
 others_moved acting k [] i to e h z = absurd (omega arith)
 others_moved acting k (q ∷ qs) zero to e h z =
     rw (own_not_other acting k q (omega arith), others_all acting (k + 1) qs (omega arith))
-    (lowest-first acting k (others_from acting (k + 1) qs) to (omega arith) (others_low acting (k + 1) qs))
+    (lowest_first acting k (others_from acting (k + 1) qs) to (omega arith) (others_low acting (k + 1) qs))
 others_moved acting k (q ∷ qs) (suc i) to e h z =
     rw (other_is_critical acting k q (λ f. omega arith), others_moved acting (k + 1) qs i to (omega arith) (omega arith) (omega arith))
-    (lowest-later acting k (others_from acting (k + 1) qs) to (eqb (stage_of q.location) critical) z (omega arith))
+    (lowest_later acting k (others_from acting (k + 1) qs) to (eqb (stage_of q.location) critical) z (omega arith))
 
 -- where none of them comes before the acting process, they are the critical ones past it, whatever stands in its place
 pub others_past : (acting k : ℕ) (l : List Process) (i : ℕ) (q : Process) → acting ≡ k + i → 1 ≤ k

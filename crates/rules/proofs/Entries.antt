@@ -15,17 +15,17 @@ stay_of s k l = stay (limit_of s k) s.parameters.c l
 
 module _ (s : State) (k : ℕ) where
   -- in the remainder, whichever process has it
-  pub idle-sound : entry_sound s k idle ≡ true
-  idle-sound = by_test (leb k s.parameters.n) (λ e. simp (e, le-leb 0 s.clock (omega arith))) (λ e. simp e)
+  pub idle_sound : entry_sound s k idle ≡ true
+  idle_sound = by_test (leb k s.parameters.n) (λ e. simp (e, le-leb 0 s.clock (omega arith))) (λ e. simp e)
 
   -- past n, outside the remainder
-  pub past-unsound : (l : Location) → eqb (stage_of l) remainder ≡ false → s.parameters.n < k → entry_sound s k (entry l) ≡ false
-  past-unsound l away h = simp (lt-leb k s.parameters.n h, away)
+  pub past_unsound : (l : Location) → eqb (stage_of l) remainder ≡ false → s.parameters.n < k → entry_sound s k (entry l) ≡ false
+  past_unsound l away h = simp (lt-leb k s.parameters.n h, away)
 
   module _ (h : k ≤ s.parameters.n) where
-    pub critical-sound : entry_sound s k (entry Critical) ≡ true
-    critical-sound = simp (le-leb k s.parameters.n h, le-leb 0 s.clock (omega arith))
+    pub critical_sound : entry_sound s k (entry Critical) ≡ true
+    critical_sound = simp (le-leb k s.parameters.n h, le-leb 0 s.clock (omega arith))
 
-    pub timed-sound : (l : Location) → timed l ≡ true
+    pub timed_sound : (l : Location) → timed l ≡ true
         → entry_sound s k (entry l) ≡ leb (since_of l) s.clock && not (ltb (since_of l + stay_of s k l) s.clock)
-    timed-sound l t = simp (le-leb k s.parameters.n h, t)
+    timed_sound l t = simp (le-leb k s.parameters.n h, t)

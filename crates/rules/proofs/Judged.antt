@@ -53,14 +53,14 @@ module _ (s : State) (m : ℕ) (f : Survey) (from : s.clock ≤ m) where
       if_lt (s.clock + f.left) m (λ h. lt-ltb _ _ h ∙ sym (lt-ltb f.left (m - s.clock) (omega arith)))
       (λ h. le-ltb _ _ h ∙ sym (le-ltb f.left (m - s.clock) (omega arith)))
 
-  missed-is : {d : Due} → Finds s f.process f.left d → missed d m ≡ overdue f s.clock m
-  missed-is (none z e) = simp (eq-eqb f.process 0 z)
-  missed-is (one n w) = rw past_is
+  missed_is : {d : Due} → Finds s f.process f.left d → missed d m ≡ overdue f s.clock m
+  missed_is (none z e) = simp (eq-eqb f.process 0 z)
+  missed_is (one n w) = rw past_is
 
-  missed-goes : s.clock + s.parameters.c < 2 ^ 64 → {act p : ℕ} {d : Due} → Finds s f.process f.left d → overdue f s.clock m ≡ true
+  missed_goes : s.clock + s.parameters.c < 2 ^ 64 → {act p : ℕ} {d : Due} → Finds s f.process f.left d → overdue f s.clock m ≡ true
       → Goes s act p m (answers 8 d.process d.time s) (answer_of 8 f.process (due_so_far s.clock f))
-  missed-goes fit (none z e) late = absurd ((simp tests at late).0 z)
-  missed-goes fit (one n w) late = rw (so_far_is s.clock f (omega arith)) (refusal (λ z. omega arith))
+  missed_goes fit (none z e) late = absurd ((simp tests at late).0 z)
+  missed_goes fit (one n w) late = rw (so_far_is s.clock f (omega arith)) (refusal (λ z. omega arith))
 
 -- A sound state
 
@@ -68,60 +68,60 @@ module _ (s : State) (act p m : ℕ) (f : Survey) (found : Whole s p f) (size : 
   abbrev scene : Scene
   scene = scene_of s.parameters s.clock p
 
-  wait-goes : act ≡ wait_act → p ≡ 0 → Goes s act p m (accepts (effect s act p m)) (answer_of 0 f.critical m)
+  wait_goes : act ≡ wait_act → p ≡ 0 → Goes s act p m (accepts (effect s act p m)) (answer_of 0 f.critical m)
   unfolding effect critical_of
-  wait-goes e z = rw (eq-eqb act wait_act e) (waits e z (rw (others_all p 1 s.processes (omega arith), found.critical)) refl)
+  wait_goes e z = rw (eq-eqb act wait_act e) (waits e z (rw (others_all p 1 s.processes (omega arith), found.critical)) refl)
 
   -- an action of a process from 1 to 96 that nobody is late for
   module _ (some : act ≢ wait_act) (known : act ≤ last_act) (from : 1 ≤ p) (to : p ≤ 96) where
-    moves-on : Goes s act p m (accepts (effect s act p m)) (answer_of 0 (lowest_of f.critical p (transition_of s.word act p m).to) m)
+    moves_on : Goes s act p m (accepts (effect s act p m)) (answer_of 0 (lowest_of f.critical p (transition_of s.word act p m).to) m)
     unfolding effect critical_of
-    moves-on = rw (ne_eqb act wait_act some)
+    moves_on = rw (ne_eqb act wait_act some)
         (moves some known from to
         (rw (others_moved p 1 s.processes (p - 1) (transition_of s.word act p m).to (omega arith) (omega arith) (omega arith), found.critical))
         refl)
 
     -- in a sound state the sum of an arrival and b fits
-    abbrev own-release : ℕ
-    own-release = check_from (entry_of s p).location s.parameters.b
+    abbrev own_release : ℕ
+    own_release = check_from (entry_of s p).location s.parameters.b
 
-    release-fits : own-release ≡ since_of (entry_of s p).location + s.parameters.b
+    release_fits : own_release ≡ since_of (entry_of s p).location + s.parameters.b
     unfolding entry_of
-    release-fits = mod-eq_of_lt (omega (arith, sound_past s found.sound (p - 1), sound_numbers s found.sound))
+    release_fits = mod-eq_of_lt (omega (arith, sound_past s found.sound (p - 1), sound_numbers s found.sound))
 
     -- a check leaves checking, and there its release is b after its arrival
-    check-leaves : act ≡ check_act → leaves act ≡ checking
+    check_leaves : act ≡ check_act → leaves act ≡ checking
     unfolding leaves
-    check-leaves e = rw e
+    check_leaves e = rw e
 
     module _ (placed : stage_of (entry_of s p).location ≡ leaves act) where
-      check-release : act ≡ check_act → release s (entry_of s p) ≡ own-release
-      check-release e = simp (eq-eqb (stage_of (entry_of s p).location) checking (placed ∙ check-leaves e)) (sym release-fits)
+      check_release : act ≡ check_act → release s (entry_of s p) ≡ own_release
+      check_release e = simp (eq-eqb (stage_of (entry_of s p).location) checking (placed ∙ check_leaves e)) (sym release_fits)
 
-      early-is : early (release s (entry_of s p)) act m ≡ eqb act check_act && ltb m own-release
-      early-is = by_test (eqb act check_act) (λ e. rw (check-release (eqb-true act check_act e))) (λ e. simp e)
+      early_is : early (release s (entry_of s p)) act m ≡ eqb act check_act && ltb m own_release
+      early_is = by_test (eqb act check_act) (λ e. rw (check_release (eqb-true act check_act e))) (λ e. simp e)
 
-    turn-goes : Goes s act p m (turn_of s act p m)
-        (turn_judged f.critical p (stage_of (entry_of s p).location) own-release (transition_of s.word act p m) act m)
+    turn_goes : Goes s act p m (turn_of s act p m)
+        (turn_judged f.critical p (stage_of (entry_of s p).location) own_release (transition_of s.word act p m) act m)
     unfolding turn_judged
-    turn-goes =
+    turn_goes =
         by_both (misplaced (stage_of (entry_of s p).location) act) _
         (rw (row_leaves s.word act p m) (simp (ne_eqb act wait_act some))) (λ _. refusal (λ z. omega arith))
         (λ e. let placed : stage_of (entry_of s p).location ≡ leaves act = eqb-true _ _ (not-false _ e) ∙ row_leaves s.word act p m in
-        by_both (early (release s (entry_of s p)) act m) _ (early-is placed)
-        (λ h. rw (check-release placed (simp tests at h).0) (refusal (λ z. omega arith)))
-        (λ _. moves-on))
+        by_both (early (release s (entry_of s p)) act m) _ (early_is placed)
+        (λ h. rw (check_release placed (simp tests at h).0) (refusal (λ z. omega arith)))
+        (λ _. moves_on))
 
   module _ (own : Location) (t : Transition)
       (own_is : 1 ≤ p → p ≤ 96 → own ≡ (entry_of s p).location)
       (t-is : act ≢ wait_act → act ≤ last_act → t ≡ transition_of s.word act p m)
       (few : s.parameters.n ≤ 96) where
     -- past the refusals up to 8: a wait, or an action of a process
-    past-late : act ≤ last_act → misnamed s.parameters.n act p ≡ false → Goes s act p m (turn_of s act p m)
+    past_late : act ≤ last_act → misnamed s.parameters.n act p ≡ false → Goes s act p m (turn_of s act p m)
         (cond (eqb act wait_act) (answer_of 0 f.critical m) (turn_judged f.critical p (stage_of own) (check_from own s.parameters.b) t act m))
-    past-late known named = if_eq act wait_act
+    past_late known named = if_eq act wait_act
         (λ e. rw (eq-eqb act wait_act e, ne_eqb act check_act (λ (q : act ≡ check_act). omega arith))
-        (wait-goes e (eqb-true p 0 (not-false (eqb p 0) (rw (eq-eqb act wait_act e) at named)))))
+        (wait_goes e (eqb-true p 0 (not-false (eqb p 0) (rw (eq-eqb act wait_act e) at named)))))
         (λ n. acts n (rw (ne_eqb act wait_act n) at named))
       where
         acts : act ≢ wait_act → eqb p 0 || ltb s.parameters.n p ≡ false → Goes s act p m (turn_of s act p m)
@@ -129,12 +129,12 @@ module _ (s : State) (act p m : ℕ) (f : Survey) (found : Whole s p f) (size : 
         acts some h =
             let range : (1 ≤ p) × (p ≤ 96) = omega (arith, simp tests at h) in
             rw (ne_eqb act wait_act some, own_is range.0 range.1, t-is some known)
-            (rw (ne_eqb act wait_act some) at (turn-goes some known range.0 range.1))
+            (rw (ne_eqb act wait_act some) at (turn_goes some known range.0 range.1))
 
     -- the answers table, row by row
-    sound-goes : Goes s act p m (step_of s act p m) (judged f scene (stage_of own) (check_from own s.parameters.b) t act m)
+    sound_goes : Goes s act p m (step_of s act p m) (judged f scene (stage_of own) (check_from own s.parameters.b) t act m)
     unfolding step_of judged
-    sound-goes =
+    sound_goes =
         by_both (not (sound_of s)) (not (eqb f.faulty 0)) (ap not (found.sound ∙ sym (eq-eqb _ 0 found.faultless)))
         (λ _. refusal (λ z. omega arith))
         (λ _. by_both (backward s.clock m) _ refl (λ _. refusal (λ z. omega arith))
@@ -142,9 +142,9 @@ module _ (s : State) (act p m : ℕ) (f : Survey) (found : Whole s p f) (size : 
         by_both (beyond m) _ refl (λ _. refusal (λ z. omega arith))
         (λ _. by_both (unknown act) _ refl (λ _. refusal (λ z. omega arith))
         (λ known. by_both (misnamed s.parameters.n act p) _ refl (λ _. refusal (λ z. omega arith))
-        (λ named. by_both (missed (first_deadline s) m) _ (missed-is s m f from found.finds)
-        (missed-goes s m f from (omega (arith, sound_numbers s found.sound)) found.finds)
-        (λ _. past-late (ltb-false last_act act known) named))))))
+        (λ named. by_both (missed (first_deadline s) m) _ (missed_is s m f from found.finds)
+        (missed_goes s m f from (omega (arith, sound_numbers s found.sound)) found.finds)
+        (λ _. past_late (ltb-false last_act act known) named))))))
 
 -- Any state
 
@@ -163,7 +163,7 @@ pub goes : (s : State) (act p m : ℕ) (f : Survey) (own : Location) (t : Transi
     → (1 ≤ p → p ≤ 96 → own ≡ (entry_of s p).location) → (act ≢ wait_act → act ≤ last_act → t ≡ transition_of s.word act p m)
     → Goes s act p m (step_of s act p m) (judged f (scene_of s.parameters s.clock p) (stage_of own) (check_from own s.parameters.b) t act m)
 goes s act p m f own t (faulty e n) size own_is t-is = unsound_goes s act p m f own t e n
-goes s act p m f own t (whole w) size own_is t-is = sound-goes s act p m f w size own t own_is t-is (sound_numbers s w.sound).count
+goes s act p m f own t (whole w) size own_is t-is = sound_goes s act p m f w size own t own_is t-is (sound_numbers s w.sound).count
 
 -- The exits of the function
 

@@ -13,7 +13,7 @@ use Rattle.rules.specs.declared.survey.Survey.{Survey}
 use Rattle.rules.specs.Survey.{scene_of, endless, faulted, critical_at, first_at, due_from, due_so_far, due_noted, timed_noted, critical_noted, noted}
 use Rattle.model.proofs.Tests.{by_cond}
 use Rattle.rules.specs.Judging.{other_critical}
-use Rattle.rules.proofs.Entries.{stay_of, idle-sound, past-unsound, critical-sound, timed-sound}
+use Rattle.rules.proofs.Entries.{stay_of, idle_sound, past_unsound, critical_sound, timed_sound}
 
 -- the first deadline so far, where its sum does not wrap
 pub so_far_is : (clock : ℕ) (f : Survey) → clock + f.left < 2 ^ 64 → due_so_far clock f ≡ clock + f.left
@@ -39,9 +39,9 @@ pub record Turn (s : State) (acting k : ℕ) (q : Process) (f g : Survey) : Type
   pub faultless : g.faulty ≡ 0
   pub sound : entry_sound s k q ≡ true
   pub narrow : g.left ≤ endless
-  pub due-next : {d : Due} → Finds s f.process f.left d
+  pub due_next : {d : Due} → Finds s f.process f.left d
       → Finds s g.process g.left (cond (sooner (bounded s q) (deadline s k q) d) (due k (deadline s k q)) d)
-  pub critical-next : (rest : ℕ) → first f.critical (cond (other_critical acting k q) k rest) ≡ first g.critical rest
+  pub critical_next : (rest : ℕ) → first f.critical (cond (other_critical acting k q) k rest) ≡ first g.critical rest
 
 pub data Noted (s : State) (acting k : ℕ) (q : Process) (f g : Survey) : Type 0 where
   fault : entry_sound s k q ≡ false → g.faulty ≢ 0 → Noted s acting k q f g
@@ -59,47 +59,47 @@ module _ (s : State) (acting k : ℕ) (f : Survey) (so_far : f.faulty ≡ 0) (na
 
     -- of a process up to n that came at no time after the clock
     module _ (h : k ≤ s.parameters.n) (came : since_of l ≤ s.clock) where
-      ends-within : time ≤ s.clock + s.parameters.c
-      ends-within =
+      ends_within : time ≤ s.clock + s.parameters.c
+      ends_within =
           let e : stay_of s k l ≤ s.parameters.c =
           by_cond (λ (x : ℕ). x ≤ s.parameters.c) (eqb (stage_of l) checking) (λ _. omega arith) (λ _. ends.limit) in
           omega arith
 
       fits : due_from (since_of l) (stay_of s k l) ≡ time
-      fits = mod-eq_of_lt (omega (arith, ends-within, ends.clock, ends.check))
+      fits = mod-eq_of_lt (omega (arith, ends_within, ends.clock, ends.check))
 
-      on-time : s.clock ≤ time → entry_sound s k (entry l) ≡ true
-      on-time a = timed-sound s k h l t ∙ simp (le-leb (since_of l) s.clock came, le-ltb time s.clock a)
+      on_time : s.clock ≤ time → entry_sound s k (entry l) ≡ true
+      on_time a = timed_sound s k h l t ∙ simp (le-leb (since_of l) s.clock came, le-ltb time s.clock a)
 
       -- its deadline is not sooner than the first so far
       later : s.clock + f.left ≤ time → NotedAs l f
       later a = fine (record {
         faultless = so_far;
-        sound = on-time (omega arith);
+        sound = on_time (omega arith);
         narrow = narrow;
-        due-next = next;
-        critical-next = λ rest. rw out;
+        due_next = next;
+        critical_next = λ rest. rw out;
       })
         where
           next : {d : Due} → Finds s f.process f.left d
               → Finds s f.process f.left (cond (sooner (bounded s (entry l)) (deadline s k (entry l)) d) (due k time) d)
-          next (none z e) = absurd (omega (arith, e, ends-within, ends.check))
+          next (none z e) = absurd (omega (arith, e, ends_within, ends.check))
           next (one n w) = rw (t, ne_eqb f.process 0 n, le-ltb time (s.clock + f.left) a) (one n w)
 
       -- it is, and it is not past
-      first-so-far : time < s.clock + f.left → s.clock ≤ time → NotedAs l (first_at k (time - s.clock) f)
-      first-so-far a b = fine (record {
+      first_so_far : time < s.clock + f.left → s.clock ≤ time → NotedAs l (first_at k (time - s.clock) f)
+      first_so_far a b = fine (record {
         faultless = so_far;
-        sound = on-time b;
+        sound = on_time b;
         narrow = omega (arith, narrow);
-        due-next = next;
-        critical-next = λ rest. rw out;
+        due_next = next;
+        critical_next = λ rest. rw out;
       })
         where
           found : Finds s k (time - s.clock) (due k time)
           found =
               let e : s.clock + (time - s.clock) ≡ time = omega arith in
-              let g : Finds s k (time - s.clock) (due k (s.clock + (time - s.clock))) = one (λ z. omega arith) (omega (arith, ends-within)) in
+              let g : Finds s k (time - s.clock) (due k (s.clock + (time - s.clock))) = one (λ z. omega arith) (omega (arith, ends_within)) in
               rw e at g
 
           next : {d : Due} → Finds s f.process f.left d
@@ -107,63 +107,63 @@ module _ (s : State) (acting k : ℕ) (f : Survey) (so_far : f.faulty ≡ 0) (na
           next (none z e) = rw t found
           next (one n w) = rw (t, ne_eqb f.process 0 n, lt-ltb time (s.clock + f.left) a) found
 
-      came-noted : NotedAs l (due_noted s.clock k time f)
-      came-noted =
+      came_noted : NotedAs l (due_noted s.clock k time f)
+      came_noted =
           rw (so_far_is s.clock f (omega (arith, ends.clock)))
           (by_cond (NotedAs l) (leb (s.clock + f.left) time)
           (λ a. later (leb-true (s.clock + f.left) time a))
           (λ a. by_cond (NotedAs l) (ltb time s.clock)
-          (λ b. fault (timed-sound s k h l t ∙ simp (le-leb (since_of l) s.clock came, b)) (λ z. omega arith))
-          (λ b. first-so-far (leb-false (s.clock + f.left) time a) (ltb-false time s.clock b))))
+          (λ b. fault (timed_sound s k h l t ∙ simp (le-leb (since_of l) s.clock came, b)) (λ z. omega arith))
+          (λ b. first_so_far (leb-false (s.clock + f.left) time a) (ltb-false time s.clock b))))
 
     timed-noted : NotedAs l (cond (ltb s.parameters.n k) (faulted f) (timed_noted s.clock k (since_of l) (stay_of s k l) f))
     timed-noted =
         by_cond (NotedAs l) (ltb s.parameters.n k)
-        (λ e. fault (past-unsound s k l away (ltb-true s.parameters.n k e)) (λ z. omega arith))
+        (λ e. fault (past_unsound s k l away (ltb-true s.parameters.n k e)) (λ z. omega arith))
         (λ e. let h : k ≤ s.parameters.n = ltb-false s.parameters.n k e in
         by_cond (NotedAs l) (ltb s.clock (since_of l))
-        (λ a. fault (timed-sound s k h l t ∙ simp (lt-leb (since_of l) s.clock (ltb-true s.clock (since_of l) a))) (λ z. omega arith))
-        (λ a. let came : since_of l ≤ s.clock = ltb-false s.clock (since_of l) a in rw (fits h came) (came-noted h came)))
+        (λ a. fault (timed_sound s k h l t ∙ simp (lt-leb (since_of l) s.clock (ltb-true s.clock (since_of l) a))) (λ z. omega arith))
+        (λ a. let came : since_of l ≤ s.clock = ltb-false s.clock (since_of l) a in rw (fits h came) (came_noted h came)))
 
   -- An untimed location, which leaves the first deadline as it is
 
-  remainder-noted : NotedAs Remainder f
-  remainder-noted = fine (record {
+  remainder_noted : NotedAs Remainder f
+  remainder_noted = fine (record {
     faultless = so_far;
-    sound = idle-sound s k;
+    sound = idle_sound s k;
     narrow = narrow;
-    due-next = λ d. d;
-    critical-next = λ rest. refl;
+    due_next = λ d. d;
+    critical_next = λ rest. refl;
   })
 
   -- x is the lowest critical process with it
-  critical-turn : k ≤ s.parameters.n → (x : ℕ)
+  critical_turn : k ≤ s.parameters.n → (x : ℕ)
       → ((rest : ℕ) → first f.critical (cond (other_critical acting k (entry Critical)) k rest) ≡ first x rest)
       → NotedAs Critical (critical_at x f)
-  critical-turn h x next = fine (record {
+  critical_turn h x next = fine (record {
     faultless = so_far;
-    sound = critical-sound s k h;
+    sound = critical_sound s k h;
     narrow = narrow;
-    due-next = λ d. d;
-    critical-next = next;
+    due_next = λ d. d;
+    critical_next = next;
   })
 
   critical-noted : NotedAs Critical (cond (ltb s.parameters.n k) (faulted f) (critical_noted acting k f))
   critical-noted =
       by_cond (NotedAs Critical) (ltb s.parameters.n k)
-      (λ e. fault (past-unsound s k Critical refl (ltb-true s.parameters.n k e)) (λ z. omega arith))
+      (λ e. fault (past_unsound s k Critical refl (ltb-true s.parameters.n k e)) (λ z. omega arith))
       (λ e. let h : k ≤ s.parameters.n = ltb-false s.parameters.n k e in
       by_cond (NotedAs Critical) (eqb k acting)
-      (λ a. critical-turn h f.critical (λ rest. simp a))
+      (λ a. critical_turn h f.critical (λ rest. simp a))
       (λ a. by_cond (NotedAs Critical) (not (eqb f.critical 0))
-      (λ b. critical-turn h f.critical (λ rest. simp (a, not-true (eqb f.critical 0) b)))
-      (λ b. critical-turn h k (λ rest. simp (a, not-false (eqb f.critical 0) b, ne_eqb k 0 (λ z. omega arith))))))
+      (λ b. critical_turn h f.critical (λ rest. simp (a, not-true (eqb f.critical 0) b)))
+      (λ b. critical_turn h k (λ rest. simp (a, not-false (eqb f.critical 0) b, ne_eqb k 0 (λ z. omega arith))))))
 
   -- Each location
 
   pub note-at : (l : Location) → NotedAs l (noted (scene_of s.parameters s.clock acting) k l (limit_of s k) f)
   unfolding noted
-  note-at Remainder = remainder-noted
+  note-at Remainder = remainder_noted
   note-at (Testing t) = timed-noted (Testing t) refl refl refl
   note-at (Setting t) = timed-noted (Setting t) refl refl refl
   note-at (Checking t) = timed-noted (Checking t) refl refl refl

@@ -9,7 +9,7 @@ use Rattle.rules.specs.declared.survey.Survey.{Survey}
 use Rattle.rules.specs.Survey.{scene_of, numbers_stand, endless, nothing, noted}
 use Rattle.model.proofs.Tests.{by_test, tests}
 use Rattle.model.proofs.Lists.{drop_at, drop_end}
-use Rattle.model.proofs.OwnLimits.{limit-held, limits_parts}
+use Rattle.model.proofs.OwnLimits.{limit_held, limits_parts}
 use Rattle.rules.specs.Judging.{other_critical, others_from}
 use Rattle.rules.proofs.Notes.{Finds, none, Ends, first, Noted, fault, fine, note-at}
 
@@ -30,7 +30,7 @@ pub numbers_end : (s : State) → standing s ≡ true → (k : ℕ) → Ends s k
 unfolding numbers_stand
 numbers_end s e k =
     let h = simp tests at e in
-    omega (arith, h, limit-held s.parameters h.0.0.1 k, (limits_parts s.parameters h.0.0.1).most)
+    omega (arith, h, limit_held s.parameters h.0.0.1 k, (limits_parts s.parameters h.0.0.1).most)
 
 -- The pass
 
@@ -41,10 +41,10 @@ pub record Passed (s : State) (acting i : ℕ) (f : Survey) : Type 0 where
   pub faultless : f.faulty ≡ 0
   pub stand : standing s ≡ true
   pub sound : entries_sound s (i + 1) (drop i s.processes) ≡ entries_sound s 1 s.processes
-  pub due-yet : Due
+  pub due_yet : Due
   pub narrow : f.left ≤ endless
-  pub finds : Finds s f.process f.left due-yet
-  pub due-left : first_from s (i + 1) due-yet (drop i s.processes) ≡ first_deadline s
+  pub finds : Finds s f.process f.left due_yet
+  pub due_left : first_from s (i + 1) due_yet (drop i s.processes) ≡ first_deadline s
   pub critical : first f.critical (others_from acting (i + 1) (drop i s.processes)) ≡ others_from acting 1 s.processes
 
 -- what the pass tells: a fault, or what the model's searches give
@@ -67,10 +67,10 @@ nothing_passed s acting stand size = record {
   faultless = refl;
   stand = stand;
   sound = refl;
-  due-yet = none_due;
+  due_yet = none_due;
   narrow = omega arith;
   finds = none refl refl;
-  due-left = refl;
+  due_left = refl;
   critical = refl;
 }
 
@@ -81,40 +81,40 @@ module _ (s : State) (acting i k : ℕ) (f : Survey) (passed : Passed s acting i
   q = get_or s.processes i d
 
   -- entry i is the next one of what is left
-  next-entry : drop i s.processes ≡ q ∷ drop (i + 1) s.processes
-  next-entry = drop_at s.processes i d (omega (arith, passed.size))
+  next_entry : drop i s.processes ≡ q ∷ drop (i + 1) s.processes
+  next_entry = drop_at s.processes i d (omega (arith, passed.size))
 
-  is-noted : Noted s acting (i + 1) q f g
-  is-noted =
+  is_noted : Noted s acting (i + 1) q f g
+  is_noted =
       rw (e, next)
       (note-at s acting (i + 1) f passed.faultless passed.narrow (numbers_end s passed.stand (i + 1)) (omega arith) q.location)
 
-  sound-left : entry_sound s (i + 1) q && entries_sound s (i + 1 + 1) (drop (i + 1) s.processes) ≡ entries_sound s 1 s.processes
+  sound_left : entry_sound s (i + 1) q && entries_sound s (i + 1 + 1) (drop (i + 1) s.processes) ≡ entries_sound s 1 s.processes
   unfolding entries_sound
-  sound-left = rw next-entry at passed.sound
+  sound_left = rw next_entry at passed.sound
 
-  abbrev due-next : Due
-  due-next = cond (sooner (bounded s q) (deadline s (i + 1) q) passed.due-yet) (due (i + 1) (deadline s (i + 1) q)) passed.due-yet
+  abbrev due_next : Due
+  due_next = cond (sooner (bounded s q) (deadline s (i + 1) q) passed.due_yet) (due (i + 1) (deadline s (i + 1) q)) passed.due_yet
 
-  due-left : first_from s (i + 1 + 1) due-next (drop (i + 1) s.processes) ≡ first_deadline s
+  due_left : first_from s (i + 1 + 1) due_next (drop (i + 1) s.processes) ≡ first_deadline s
   unfolding first_by
-  due-left = rw next-entry at passed.due-left
+  due_left = rw next_entry at passed.due_left
 
-  critical-left :
+  critical_left :
       first f.critical (cond (other_critical acting (i + 1) q) (i + 1) (others_from acting (i + 1 + 1) (drop (i + 1) s.processes)))
       ≡ others_from acting 1 s.processes
   unfolding others_from
-  critical-left = rw next-entry at passed.critical
+  critical_left = rw next_entry at passed.critical
 
-  pub turn-fault : g.faulty ≢ 0 → sound_of s ≡ false
-  turn-fault n = go is-noted
+  pub turn_fault : g.faulty ≢ 0 → sound_of s ≡ false
+  turn_fault n = go is_noted
     where
       go : Noted s acting (i + 1) q f g → sound_of s ≡ false
-      go (fault t z) = sound_parts s ∙ rw passed.stand (sym sound-left ∙ rw t)
+      go (fault t z) = sound_parts s ∙ rw passed.stand (sym sound_left ∙ rw t)
       go (fine t) = absurd (n t.faultless)
 
-  pub turn-passed : g.faulty ≡ 0 → Passed s acting (i + 1) g
-  turn-passed n = go is-noted
+  pub turn_passed : g.faulty ≡ 0 → Passed s acting (i + 1) g
+  turn_passed n = go is_noted
     where
       go : Noted s acting (i + 1) q f g → Passed s acting (i + 1) g
       go (fault t z) = absurd (z n)
@@ -123,12 +123,12 @@ module _ (s : State) (acting i k : ℕ) (f : Survey) (passed : Passed s acting i
         size = passed.size;
         faultless = n;
         stand = passed.stand;
-        sound = rw t.sound at sound-left;
-        due-yet = due-next;
+        sound = rw t.sound at sound_left;
+        due_yet = due_next;
         narrow = t.narrow;
-        finds = t.due-next passed.finds;
-        due-left = due-left;
-        critical = sym (t.critical-next _) ∙ critical-left;
+        finds = t.due_next passed.finds;
+        due_left = due_left;
+        critical = sym (t.critical_next _) ∙ critical_left;
       }
 
 -- nothing is left after 96 entries
@@ -139,6 +139,6 @@ passed_whole s acting i f passed h =
     record {
       faultless = passed.faultless;
       sound = sound_parts s ∙ rw (passed.stand, ← rw e at passed.sound);
-      finds = rw (← rw e at passed.due-left) passed.finds;
+      finds = rw (← rw e at passed.due_left) passed.finds;
       critical = sym (rw e at passed.critical) ∙ by_test (eqb f.critical 0) (λ z. rw z (sym (eqb-true _ _ z))) (λ z. rw z);
     }

@@ -16,13 +16,13 @@ use Rattle.rules.proofs.Notes.{Finds, none, one, Turn, Noted, fault, fine, note-
 use Rattle.rules.proofs.Pass.{standing, sound_parts, numbers_end, Whole}
 
 module _ (s : State) (few : s.parameters.c ≤ 10_000_000) where
-  finds-tells : (f : Survey) {d : Due} → f.faulty ≡ 0 → Finds s f.process f.left d → TellsFirst s.clock s.parameters.c d f
-  finds-tells f z (none p e) =
+  finds_tells : (f : Survey) {d : Due} → f.faulty ≡ 0 → Finds s f.process f.left d → TellsFirst s.clock s.parameters.c d f
+  finds_tells f z (none p e) =
       record { faultless = z; same = simp (eq-eqb f.process 0 p); narrow = omega (arith, e); within = λ n. absurd (n p) }
-  finds-tells f z (one n w) = record { faultless = z; same = simp (ne_eqb f.process 0 n); narrow = omega (arith, w); within = λ _. w }
+  finds_tells f z (one n w) = record { faultless = z; same = simp (ne_eqb f.process 0 n); narrow = omega (arith, w); within = λ _. w }
 
 pub whole_tells : (s : State) (acting : ℕ) (f : Survey) → Whole s acting f → TellsFirst s.clock s.parameters.c (first_deadline s) f
-whole_tells s acting f w = finds-tells s (sound_numbers s w.sound).check f w.faultless w.finds
+whole_tells s acting f w = finds_tells s (sound_numbers s w.sound).check f w.faultless w.finds
 
 -- The search over the entries
 
@@ -32,27 +32,27 @@ noted_fine (fine t) e = t
 
 module _ (s : State) (acting : ℕ) (stand : standing s ≡ true) where
   -- what is left fits after a look too
-  pub noted-narrow : (k : ℕ) (f : Survey) → 1 ≤ k → f.faulty ≡ 0 → f.left ≤ endless → (l : Location) (g : Survey)
+  pub noted_narrow : (k : ℕ) (f : Survey) → 1 ≤ k → f.faulty ≡ 0 → f.left ≤ endless → (l : Location) (g : Survey)
       → g ≡ noted (scene_of s.parameters s.clock acting) k l (limit_of s k) f → g.faulty ≡ 0 → g.left ≤ endless
-  noted-narrow k f some z narrow l g e faultless = go (rw (← e) at (note-at s acting k f z narrow (numbers_end s stand k) some l))
+  noted_narrow k f some z narrow l g e faultless = go (rw (← e) at (note-at s acting k f z narrow (numbers_end s stand k) some l))
     where
       go : Noted s acting k (entry l) f g → g.left ≤ endless
       go (fault t n) = absurd (n faultless)
       go (fine t) = t.narrow
 
   -- from process k on, where d is the first deadline of those before it
-  searched-tells : (qs : List Process) (k : ℕ) (f : Survey) (d : Due) → 1 ≤ k → f.faulty ≡ 0 → f.left ≤ endless
+  searched_tells : (qs : List Process) (k : ℕ) (f : Survey) (d : Due) → 1 ≤ k → f.faulty ≡ 0 → f.left ≤ endless
       → entries_sound s k qs ≡ true → Finds s f.process f.left d
       → TellsFirst s.clock s.parameters.c (first_from s k d qs) (searched s acting k qs f)
   unfolding searched first_by entries_sound
-  searched-tells [] k f d some z narrow e finds = finds-tells s (numbers_end s stand k).check f z finds
-  searched-tells (q ∷ qs) k f d some z narrow e finds =
+  searched_tells [] k f d some z narrow e finds = finds_tells s (numbers_end s stand k).check f z finds
+  searched_tells (q ∷ qs) k f d some z narrow e finds =
       let both = (and_true_iff (entry_sound s k q) _).0 e in
       let t = noted_fine (note-at s acting k f z narrow (numbers_end s stand k) some q.location) both.0 in
-      searched-tells qs (k + 1) _ _ (omega arith) t.faultless t.narrow both.1 (t.due-next finds)
+      searched_tells qs (k + 1) _ _ (omega arith) t.faultless t.narrow both.1 (t.due_next finds)
 
 pub search_tells_first : SearchTellsFirst
 unfolding first_deadline
 search_tells_first s acting sound =
     let both = (and_true_iff (standing s) _).0 (sym (sound_parts s) ∙ sound) in
-    searched-tells s acting both.0 s.processes 1 nothing _ (omega arith) refl (omega arith) both.1 (none refl refl)
+    searched_tells s acting both.0 s.processes 1 nothing _ (omega arith) refl (omega arith) both.1 (none refl refl)

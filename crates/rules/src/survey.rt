@@ -9,7 +9,7 @@ use model::Location;
 use std::num::wrapping_add_u64;
 
 // What a look at an entry, and the judgement after all of them, need besides: the numbers that all entries share, and who acts.
-#[derive(Drop)]
+#[derive(Clone, Copy)]
 pub struct Scene {
     pub n: u64,
     pub c: u64,
@@ -30,7 +30,7 @@ pub fn scene_of(n: u64, c: u64, clock: u64, acting: u64) -> Scene
 
 // The two numbers of 32 bits stand side by side, before those of 64: with padding between fields the struct goes from turn to turn by way of
 // memory, and a busy entry takes half as much again.
-#[derive(Drop)]
+#[derive(Clone, Copy)]
 pub struct Survey {
     // 0 where the entries up to here are sound, else 1
     pub faulty: u32,

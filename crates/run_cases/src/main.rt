@@ -1,5 +1,7 @@
 // Runs the table of cases, each call at the state that the one before it gave back, and prints what came of each row:
 // the answer, then the clock, the word, and place and arrival of windows 1 and 2 of the table given back.
+#![tactic(auto)]
+
 mod rows;
 
 use crate::rows::{FRESH, Row, call, table};

@@ -1,6 +1,8 @@
 // Runs lists of calls, whose files its arguments name. Each call's table is the last table of a shorter list: so the first calls of a list
 // are run, then one more, and so on, and each time what came of the last is printed, with the summary that it was lent and with one summary
 // for all. The stored output is what the reference prints.
+#![tactic(auto)]
+
 mod lines;
 mod prints;
 mod reads;

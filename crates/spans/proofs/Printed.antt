@@ -27,14 +27,14 @@ module _ (text out : List ℕ) where
   unfolding write_intervals_of printed_text
   written = written_of (trace_of text) (trace_tells text)
 
-  refused-of : 65536 ≤ length out → (t : Trace) → TraceTells text t → (intervals_into out t).answer.code ≢ 0
+  refused_of : 65536 ≤ length out → (t : Trace) → TraceTells text t → (intervals_into out t).answer.code ≢ 0
       → printed_for text t ≡ report_text text
-  refused-of wide (refused code line) told = λ _. refl
-  refused-of wide (trace line k events) told =
+  refused_of wide (refused code line) told = λ _. refl
+  refused_of wide (trace line k events) told =
       let fits : length (intervals_text (trace_intervals k events)) ≤ length out =
       omega (arith, intervals_short text line k events told, told.short) in
       rw (fitted_is (intervals_text (trace_intervals k events)) out fits) (λ z. absurd (z refl))
 
   pub reported : 65536 ≤ length out → (write_intervals_of text out).answer.code ≢ 0 → printed_text text ≡ report_text text
   unfolding write_intervals_of printed_text
-  reported wide = refused-of wide (trace_of text) (trace_tells text)
+  reported wide = refused_of wide (trace_of text) (trace_tells text)

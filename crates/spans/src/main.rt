@@ -1,5 +1,7 @@
 // Reads a recording on standard input and prints the spans in which windows sold on standard output, or what `replay` prints where the
 // recording is faulty. It reads as much as `replay` does, and tells on standard error what it cannot read or write.
+#![tactic(auto)]
+
 mod prints;
 
 use crate::prints::print_intervals;

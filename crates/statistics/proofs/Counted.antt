@@ -16,7 +16,7 @@ use Rattle.theory.proofs.Acceptance.{accepted_iff_allowed, next_is_changed}
 use Rattle.theory.proofs.Entries.{entry_at}
 use Rattle.theory.proofs.Soundness.{sound_iff_plain}
 use Rattle.theory.proofs.StaysSound.{sound_kept}
-use Rattle.theory.proofs.Waits.{unused-fits, waited_on_zero, waited-after-act}
+use Rattle.theory.proofs.Waits.{unused_fits, waited_on_zero, waited_after_act}
 use Rattle.statistics.specs.Waitings.{unused_beside, others_before, longer_by, stage_at}
 use Rattle.statistics.proofs.Laws.{not_one_sound}
 use Rattle.statistics.proofs.Waits.{unused-beside, others-before}
@@ -41,70 +41,70 @@ module _ (s : State) (size : length s.processes ≡ 96) (x : Statistics) (room :
 
   -- What going over the waits so far asks for
 
-  pub sound-after : Sound s'
-  sound-after = (sound_iff_plain s').0 (sound_kept s size act p m sound accepted)
+  pub sound_after : Sound s'
+  sound_after = (sound_iff_plain s').0 (sound_kept s size act p m sound accepted)
 
-  pub few-after : s'.parameters.n ≤ 96
-  few-after = sound-after.parameters.count.most
+  pub few_after : s'.parameters.n ≤ 96
+  few_after = sound_after.parameters.count.most
 
-  pub waits-fit : (i : ℕ) → get_or x.waited i 0 + (s'.clock - s.clock) < 2 ^ 64
-  waits-fit i = omega (arith, room.sound.waited i, changed.clock-is, allowed.forward, allowed.within)
+  pub waits_fit : (i : ℕ) → get_or x.waited i 0 + (s'.clock - s.clock) < 2 ^ 64
+  waits_fit i = omega (arith, room.sound.waited i, changed.clock_is, allowed.forward, allowed.within)
 
-  wait-fits : waited_by x p + unused_time s m < 2 ^ 64
-  wait-fits = omega (arith, room.sound.waited (p - 1), unused-fits s m allowed.forward, allowed.within)
+  wait_fits : waited_by x p + unused_time s m < 2 ^ 64
+  wait_fits = omega (arith, room.sound.waited (p - 1), unused_fits s m allowed.forward, allowed.within)
 
   -- The unused time by what the step gives back
 
-  pub unused-told : {u : ℕ} → u ≡ unused_beside (others_before (step_of s act p m).answer.process s'.processes act p) act s.clock s'.clock
+  pub unused_told : {u : ℕ} → u ≡ unused_beside (others_before (step_of s act p m).answer.process s'.processes act p) act s.clock s'.clock
       → u ≡ unused_time s m
-  unused-told e =
+  unused_told e =
       e
-      ∙ (λ i. unused_beside (others-before s size act p m accepted i) act s.clock (changed.clock-is i))
+      ∙ (λ i. unused_beside (others-before s size act p m accepted i) act s.clock (changed.clock_is i))
       ∙ unused-beside s allowed
 
   -- The summary
 
   -- the waits so far gone over, over the entries after the act
-  pub counted-after : {u : ℕ} {ws : List ℕ} → u ≡ unused_time s m → ws ≡ waited_on u s'.processes x.waited
+  pub counted_after : {u : ℕ} {ws : List ℕ} → u ≡ unused_time s m → ws ≡ waited_on u s'.processes x.waited
       → statistics_of (counts_after x.counts act (waited_by x p + u)) (cleared_by act p ws) ≡ accepted_counted s x act p m
   unfolding accepted_counted
-  counted-after u-is ws-is =
+  counted_after u-is ws-is =
       let waits = ap (cleared_by act p) (ws-is ∙ ap (λ (d : ℕ). waited_on d s'.processes x.waited) u-is)
-      ∙ waited-after-act allowed changed (unused_time s m) x.waited in
+      ∙ waited_after_act allowed changed (unused_time s m) x.waited in
       λ i. statistics_of (counts_after x.counts act (waited_by x p + u-is i)) (waits i)
 
   -- as `record` has it
   module _ {u wait slot : ℕ} {k : Counts} {ws : List ℕ} (u-is : u ≡ unused_time s m) (slot_is : slot ≡ p - 1)
-      (wait-is : wait ≡ longer_by u (get_or x.waited slot 0)) (k-is : k ≡ counts_after x.counts act wait)
+      (wait_is : wait ≡ longer_by u (get_or x.waited slot 0)) (k-is : k ≡ counts_after x.counts act wait)
       (ws-is : ws ≡ waited_on u s'.processes x.waited) where
-    wait-exact : wait ≡ waited_by x p + u
-    wait-exact =
-        wait-is ∙ ap (λ (i : ℕ). longer_by u (get_or x.waited i 0)) slot_is ∙ mod-eq_of_lt (omega (arith, wait-fits, u-is))
+    wait_exact : wait ≡ waited_by x p + u
+    wait_exact =
+        wait_is ∙ ap (λ (i : ℕ). longer_by u (get_or x.waited i 0)) slot_is ∙ mod-eq_of_lt (omega (arith, wait_fits, u-is))
 
-    both-are : statistics_of k (cleared_by act p ws) ≡ accepted_counted s x act p m
-    both-are =
-        ap (λ (c : Counts). statistics_of c (cleared_by act p ws)) (k-is ∙ ap (counts_after x.counts act) wait-exact) ∙ counted-after u-is ws-is
+    both_are : statistics_of k (cleared_by act p ws) ≡ accepted_counted s x act p m
+    both_are =
+        ap (λ (c : Counts). statistics_of c (cleared_by act p ws)) (k-is ∙ ap (counts_after x.counts act) wait_exact) ∙ counted_after u-is ws-is
 
-    pub counted-cleared : clears act ≡ true → statistics_of k (set ws slot 0) ≡ accepted_counted s x act p m
-    counted-cleared e = ap (λ (i : ℕ). statistics_of k (set ws i 0)) slot_is ∙ sym (rw e) ∙ both-are
+    pub counted_cleared : clears act ≡ true → statistics_of k (set ws slot 0) ≡ accepted_counted s x act p m
+    counted_cleared e = ap (λ (i : ℕ). statistics_of k (set ws i 0)) slot_is ∙ sym (rw e) ∙ both_are
 
-    pub counted-kept : clears act ≡ false → statistics_of k ws ≡ accepted_counted s x act p m
-    counted-kept e = sym (rw e) ∙ both-are
+    pub counted_kept : clears act ≡ false → statistics_of k ws ≡ accepted_counted s x act p m
+    counted_kept e = sym (rw e) ∙ both_are
 
   -- no time is unused
-  pub rest-wait : {slot : ℕ} → slot ≡ p - 1 → get_or x.waited slot 0 ≡ longer_by 0 (get_or x.waited slot 0)
-  rest-wait {slot} e =
+  pub rest_wait : {slot : ℕ} → slot ≡ p - 1 → get_or x.waited slot 0 ≡ longer_by 0 (get_or x.waited slot 0)
+  rest_wait {slot} e =
       let w = get_or x.waited slot 0 in
       let fits : w + 0 < 2 ^ 64 = omega (arith, room.sound.waited slot, allowed.forward, allowed.within) in
       let same : w ≡ w + 0 = omega arith in
       same ∙ sym (mod-eq_of_lt fits)
 
-  pub rest-waits : x.waited ≡ waited_on 0 s'.processes x.waited
-  rest-waits = sym (waited_on_zero s'.processes x.waited)
+  pub rest_waits : x.waited ≡ waited_on 0 s'.processes x.waited
+  rest_waits = sym (waited_on_zero s'.processes x.waited)
 
 -- once the waits so far are gone over, in y, and `wait` is the one that a crit ends
 pub record Grown (s s' : State) (x : Statistics) (m slot : ℕ) (y : Statistics) (wait : ℕ) : Type 0 where
   pub unused : ℕ
-  pub unused-is : unused ≡ unused_time s m
-  pub wait-is : wait ≡ longer_by unused (get_or x.waited slot 0)
+  pub unused_is : unused ≡ unused_time s m
+  pub wait_is : wait ≡ longer_by unused (get_or x.waited slot 0)
   pub waits : y.waited ≡ waited_on unused s'.processes x.waited

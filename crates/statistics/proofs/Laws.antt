@@ -18,7 +18,7 @@ use Rattle.model.proofs.Soundness.{sound_numbers}
 use Rattle.model.proofs.Tests.{by_test}
 use Rattle.theory.proofs.Conditions.{turn_named}
 use Rattle.theory.proofs.Acceptance.{accepted_iff_allowed}
-use Rattle.theory.proofs.Steps.{unsound_iff_one, step-refuses}
+use Rattle.theory.proofs.Steps.{unsound_iff_one, step_refuses}
 use Rattle.theory.proofs.RecordedSteps.{judged, accepted-counted, refused-counted}
 use Rattle.theory.proofs.Summaries.{summary_sound_iff_plain, recorded_is_plain}
 
@@ -26,18 +26,18 @@ use Rattle.theory.proofs.Summaries.{summary_sound_iff_plain, recorded_is_plain}
 
 module _ (clock : ℕ) (l : List ℕ) (i : ℕ) where
   -- those from place i on: that at i, and those from i + 1 on
-  pub waits-at : i < length l → waited_sound clock (drop i l) ≡ leb (get_or l i 0) clock && waited_sound clock (drop (i + 1) l)
+  pub waits_at : i < length l → waited_sound clock (drop i l) ≡ leb (get_or l i 0) clock && waited_sound clock (drop (i + 1) l)
   unfolding waited_sound
-  waits-at h = rw (drop_at l i 0 h)
+  waits_at h = rw (drop_at l i 0 h)
 
   -- those from place i on are sound just where all are: by where a pass over them ends
-  pub all-stand : i ≡ length l → waited_sound clock (drop i l) ≡ waited_sound clock l → eqb i (length l) ≡ waited_sound clock l
+  pub all_stand : i ≡ length l → waited_sound clock (drop i l) ≡ waited_sound clock l → eqb i (length l) ≡ waited_sound clock l
   unfolding waited_sound
-  all-stand e inv = eq-eqb i (length l) e ∙ rw (drop_end l i (omega arith) (omega arith)) at inv
+  all_stand e inv = eq-eqb i (length l) e ∙ rw (drop_end l i (omega arith) (omega arith)) at inv
 
-  pub one-late : i < length l → clock < get_or l i 0 → waited_sound clock (drop i l) ≡ waited_sound clock l
+  pub one_late : i < length l → clock < get_or l i 0 → waited_sound clock (drop i l) ≡ waited_sound clock l
       → eqb i (length l) ≡ waited_sound clock l
-  one-late h late inv = ne_eqb i (length l) (omega arith) ∙ simp (lt-leb _ _ late) at (sym (waits-at h)) ∙ inv
+  one_late h late inv = ne_eqb i (length l) (omega arith) ∙ simp (lt-leb _ _ late) at (sym (waits_at h)) ∙ inv
 
 -- none is past the clock
 pub all_few : (clock : ℕ) (l : List ℕ) → ((k : ℕ) → get_or l k 0 ≤ clock) → waited_sound clock l ≡ true
@@ -51,17 +51,17 @@ abbrev pub fault_of : ℕ → Statistics → ℕ
 fault_of clock x = fault_by x.counts (waited_sound clock x.waited)
 
 module _ (clock : ℕ) (x : Statistics) where
-  pub no-fault-room : fault_of clock x ≡ 0 → HasRoom clock x
+  pub no_fault_room : fault_of clock x ≡ 0 → HasRoom clock x
   unfolding statistics_sound
-  no-fault-room h =
+  no_fault_room h =
       by_test (counts_sound x.counts && waited_sound clock x.waited)
       (λ e. by_test (full x.counts)
       (λ f. absurd (omega (arith, simp (e, f) at h)))
       (λ f. record { sound = (summary_sound_iff_plain clock x).0 e; not_full = eqb-false _ _ f }))
       (λ e. absurd (omega (arith, simp e at h)))
 
-  pub counts-room : HasRoom clock x → Room x.counts
-  counts-room h = omega (arith, h.sound.counts, h.not_full)
+  pub counts_room : HasRoom clock x → Room x.counts
+  counts_room h = omega (arith, h.sound.counts, h.not_full)
 
 -- Where there is room no count wraps
 
@@ -89,10 +89,10 @@ accepted_named s act p m a =
 
 module _ (s : State) (x : Statistics) (act p m : ℕ) where
   -- where 2 or 3 applies, unless 1 does
-  pub recorded-fault : fault_of s.clock x ≢ 0
+  pub recorded_fault : fault_of s.clock x ≢ 0
       → recorded_of s x act p m ≡ beside x (cond (sound_of s) (answers (fault_of s.clock x) 0 0 s) (answers 1 0 0 s))
   unfolding recorded_of statistics_sound
-  recorded-fault n = by_test (sound_of s)
+  recorded_fault n = by_test (sound_of s)
       (λ e. by_test (counts_sound x.counts && waited_sound s.clock x.waited)
       (λ f. by_test (full x.counts) (λ g. simp (e, f, g)) (λ g. absurd (n (simp (f, g)))))
       (λ f. simp (e, f)))
@@ -110,14 +110,14 @@ module _ (s : State) (x : Statistics) (act p m : ℕ) where
       gives : {y : Statistics} → (recorded_of s x act p m).statistics ≡ y → beside y o ≡ recorded_of s x act p m
       gives f = λ i. beside (sym f i) (same i)
 
-      pub gives-unsound : o.answer.code ≡ 1 → beside x o ≡ recorded_of s x act p m
-      gives-unsound k = gives (tells.unchanged (omega (arith, rw same at k)) (omega (arith, rw same at k))).2
+      pub gives_unsound : o.answer.code ≡ 1 → beside x o ≡ recorded_of s x act p m
+      gives_unsound k = gives (tells.unchanged (omega (arith, rw same at k)) (omega (arith, rw same at k))).2
 
-      pub gives-accepted : Accepted o → {y : Statistics} → y ≡ accepted_counted s x act p m → beside y o ≡ recorded_of s x act p m
-      gives-accepted k f = gives (accepted-counted s x act p m (judged s x act p m) (rw same at k) ∙ sym f)
+      pub gives_accepted : Accepted o → {y : Statistics} → y ≡ accepted_counted s x act p m → beside y o ≡ recorded_of s x act p m
+      gives_accepted k f = gives (accepted-counted s x act p m (judged s x act p m) (rw same at k) ∙ sym f)
 
-      pub gives-refused : o.answer.code ≢ 0 → o.answer.code ≢ 1 → {y : Statistics} → y ≡ refused_counted x
+      pub gives_refused : o.answer.code ≢ 0 → o.answer.code ≢ 1 → {y : Statistics} → y ≡ refused_counted x
           → beside y o ≡ recorded_of s x act p m
-      gives-refused n k f =
-          let h = step-refuses s act p m (not_one_sound s act p m (rw e at k)) (rw e at n) in
+      gives_refused n k f =
+          let h = step_refuses s act p m (not_one_sound s act p m (rw e at k)) (rw e at n) in
           gives (refused-counted s x act p m (judged s x act p m) (rw (tells.step room) h.some) ∙ sym f)

@@ -1,5 +1,7 @@
 // The running summary: `record` takes one action and counts it, by value; `record_step` is lent the summary.
 // Both take any state and any summary, and answer what `recorded_of` of the model says.
+#![tactic(auto)]
+
 pub mod counting;
 pub mod soundness;
 pub mod waiting;

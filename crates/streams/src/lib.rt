@@ -1,5 +1,7 @@
 // What the programs share: opening a file that an argument names, reading a text, and room for what is printed.
 // Whether a read fails is told apart from the end of the input.
+#![tactic(auto)]
+
 ghost use Rattle.std.specs.Prelude.{true, ◌≡◌, ◌-◌, ◌≤◌, length, take, replicate};
 ghost use Rattle.io.specs.Counts.{IsPrefixLen};
 ghost use Rattle.libc.specs.Io.{Moved};

@@ -27,30 +27,30 @@ use Rattle.tallies.proofs.CountLaws.{weight, count_set}
 
 -- an act that changes no count but that of the accepted acts, and that neither starts nor ends a wait
 pub record Plain (act : ℕ) : Type 0 where
-  pub not-try : act ≢ try_act
-  pub not-crit : act ≢ crit_act
-  pub not-exit : act ≢ exit_act
-  pub not-withdraw : act ≢ withdraw_act
+  pub not_try : act ≢ try_act
+  pub not_crit : act ≢ crit_act
+  pub not_exit : act ≢ exit_act
+  pub not_withdraw : act ≢ withdraw_act
 
 -- the tests of such an act
 pub record PlainTests (act : ℕ) : Type 0 where
-  pub no-try : eqb act try_act ≡ false
-  pub no-crit : eqb act crit_act ≡ false
-  pub no-exit : eqb act exit_act ≡ false
-  pub no-withdraw : eqb act withdraw_act ≡ false
+  pub no_try : eqb act try_act ≡ false
+  pub no_crit : eqb act crit_act ≡ false
+  pub no_exit : eqb act exit_act ≡ false
+  pub no_withdraw : eqb act withdraw_act ≡ false
 
 pub plain_tests : {act : ℕ} → Plain act → PlainTests act
 plain_tests h = record {
-  no-try = ne_eqb _ try_act h.not-try;
-  no-crit = ne_eqb _ crit_act h.not-crit;
-  no-exit = ne_eqb _ exit_act h.not-exit;
-  no-withdraw = ne_eqb _ withdraw_act h.not-withdraw;
+  no_try = ne_eqb _ try_act h.not_try;
+  no_crit = ne_eqb _ crit_act h.not_crit;
+  no_exit = ne_eqb _ exit_act h.not_exit;
+  no_withdraw = ne_eqb _ withdraw_act h.not_withdraw;
 }
 
 pub plain_clears : {act : ℕ} → Plain act → Clears act → ⊥
-plain_clears h Clears.try = h.not-try refl
-plain_clears h Clears.crit = h.not-crit refl
-plain_clears h Clears.withdraw = h.not-withdraw refl
+plain_clears h Clears.try = h.not_try refl
+plain_clears h Clears.crit = h.not_crit refl
+plain_clears h Clears.withdraw = h.not_withdraw refl
 
 -- a move that does not lead into trying or out of it, nor into critical or out of it
 pub record Alike (l l' : Location) : Type 0 where
@@ -67,11 +67,11 @@ pub data Kind (m : ℕ) : ℕ → Location → Location → Type 0 where
 
 act_kind : {b p m act w w' : ℕ} {l l' : Location} → From b m act l → Effect p m act w l' w' → Kind m act l l'
 act_kind From.try Effect.try = try
-act_kind From.test Effect.test-free = other {act = test_act} (omega arith) (record { weighs = refl; tries = refl })
-act_kind From.test (Effect.test-taken _) = other {act = test_act} (omega arith) (record { weighs = refl; tries = refl })
+act_kind From.test Effect.test_free = other {act = test_act} (omega arith) (record { weighs = refl; tries = refl })
+act_kind From.test (Effect.test_taken _) = other {act = test_act} (omega arith) (record { weighs = refl; tries = refl })
 act_kind From.set Effect.set = other {act = set_act} (omega arith) (record { weighs = refl; tries = refl })
-act_kind (From.check _) Effect.check-own = other {act = check_act} (omega arith) (record { weighs = refl; tries = refl })
-act_kind (From.check _) (Effect.check-other _) = other {act = check_act} (omega arith) (record { weighs = refl; tries = refl })
+act_kind (From.check _) Effect.check_own = other {act = check_act} (omega arith) (record { weighs = refl; tries = refl })
+act_kind (From.check _) (Effect.check_other _) = other {act = check_act} (omega arith) (record { weighs = refl; tries = refl })
 act_kind From.crit Effect.crit = crit
 act_kind From.exit Effect.exit = exit
 act_kind From.reset Effect.reset = other {act = reset_act} (omega arith) (record { weighs = refl; tries = refl })
@@ -84,7 +84,7 @@ crit_tries try e = absurd (omega arith)
 crit_tries crit e = refl
 crit_tries exit e = absurd (omega arith)
 crit_tries withdraw e = absurd (omega arith)
-crit_tries (other h _) e = absurd (h.not-crit e)
+crit_tries (other h _) e = absurd (h.not_crit e)
 
 -- Whose act it is
 
@@ -99,22 +99,22 @@ stays_kind {act = act} h e = rw e (other {act = act} h (record { weighs = refl; 
 
 module _ {s s' : State} {act p m : ℕ} (changed : Changed s act p m s') where
   -- a wait is told as an act of process 0; `entry_of` gives 0, which is no process, the entry of process 1, and that stays
-  pub turn-kind : Waits act p ⊎ Acts s act p m → Kind m act (entry_of s p).location (entry_of s' p).location
+  pub turn_kind : Waits act p ⊎ Acts s act p m → Kind m act (entry_of s p).location (entry_of s' p).location
   unfolding entry_of
-  turn-kind (inl w) = stays_kind (omega arith) (rw w.nobody (changed.others-stay 1 (omega arith) (omega arith)))
-  turn-kind (inr a) = act_kind a.from (changed.effect (from_ready a.from).not-wait)
+  turn_kind (inl w) = stays_kind (omega arith) (rw w.nobody (changed.others_stay 1 (omega arith) (omega arith)))
+  turn_kind (inr a) = act_kind a.from (changed.effect (from_ready a.from).not_wait)
 
   -- one entry takes the place of another
-  next-entries : p - 1 < length s.processes → s'.processes ≡ set s.processes (p - 1) (entry_of s' p)
+  next_entries : p - 1 < length s.processes → s'.processes ≡ set s.processes (p - 1) (entry_of s' p)
   unfolding entry_of
-  next-entries h = ext_get_or idle _ _ (changed.size-stays ∙ simp length-set)
+  next_entries h = ext_get_or idle _ _ (changed.size_stays ∙ simp length-set)
       (λ i _. if_eq i (p - 1)
       (λ e. rw e (sym (get_or-set_same s.processes (p - 1) _ idle h)))
       (λ n. rw (get_or-set_other s.processes (p - 1) i _ idle n)
-      (sym (entry_at s' i) ∙ changed.others-stay (i + 1) (omega arith) (omega arith) ∙ entry_at s i)))
+      (sym (entry_at s' i) ∙ changed.others_stay (i + 1) (omega arith) (omega arith) ∙ entry_at s i)))
 
-  pub next-count : p - 1 < length s.processes
+  pub next_count : p - 1 < length s.processes
       → critical_count s'.processes + weight (entry_of s p).location
       ≡ critical_count s.processes + weight (entry_of s' p).location
   unfolding entry_of
-  next-count h = omega (arith, ap critical_count (next-entries h), count_set s.processes (p - 1) (entry_of s' p) h)
+  next_count h = omega (arith, ap critical_count (next_entries h), count_set s.processes (p - 1) (entry_of s' p) h)

@@ -22,7 +22,7 @@ use Rattle.model.proofs.Tests.{by_cond, clash}
 use Rattle.theory.proofs.RecordedSteps.{Judged, judged}
 use Rattle.theory.proofs.Summaries.{summary_sound_iff_plain}
 use Rattle.tallies.specs.Tallies.{record_next, records_of}
-use Rattle.tallies.proofs.Tallies.{Along, along-judged}
+use Rattle.tallies.proofs.Tallies.{Along, along_judged}
 
 -- how many acts a summary has counted
 abbrev acts : Statistics → ℕ
@@ -38,12 +38,12 @@ one_act s x code act p m =
 
 -- a recorded step that finds room is the step, and counts one act more
 module _ {log : List Attempt} {s : State} {x : Statistics} (h : Along log s x) (act p m : ℕ) where
-  with-room : {r : Recorded} → acts x + 1 ≤ most_acts → Judged s x act p m r
+  with_room : {r : Recorded} → acts x + 1 ≤ most_acts → Judged s x act p m r
       → (r.outcome ≡ step_of s act p m) × (acts r.statistics ≡ acts x + 1)
-  with-room room (Judged.no_table e) = clash h.sound e
-  with-room room (Judged.no-summary _ e) = clash ((summary_sound_iff_plain s.clock x).1 h.summary) e
-  with-room room (Judged.filled _ _ e) = absurd (omega (arith, e))
-  with-room room (Judged.counted _) = (refl, one_act s x (step_of s act p m).answer.code act p m)
+  with_room room (Judged.no_table e) = clash h.sound e
+  with_room room (Judged.no-summary _ e) = clash ((summary_sound_iff_plain s.clock x).1 h.summary) e
+  with_room room (Judged.filled _ _ e) = absurd (omega (arith, e))
+  with_room room (Judged.counted _) = (refl, one_act s x (step_of s act p m).answer.code act p m)
 
 pub same_codes : (log : List Attempt) (r : Recorded) (es : List Event) → Along log r.outcome.state r.statistics
     → acts r.statistics + length es ≤ most_acts → map code_of (records_of r es) ≡ codes_from r.outcome.state es
@@ -51,6 +51,6 @@ unfolding results_by
 same_codes log r [] h room = refl
 same_codes log r (e ∷ es) h room =
     let j = judged r.outcome.state r.statistics e.action e.process e.time in
-    let is = with-room h e.action e.process e.time (omega arith) j in
-    let rest = same_codes _ (record_next r e) es (along-judged h e.action e.process e.time j) (omega (arith, is.1)) in
+    let is = with_room h e.action e.process e.time (omega arith) j in
+    let rest = same_codes _ (record_next r e) es (along_judged h e.action e.process e.time j) (omega (arith, is.1)) in
     λ i. (is.0 i).answer.code ∷ (rest ∙ ap (λ (o : Outcome). codes_from o.state es) is.0) i

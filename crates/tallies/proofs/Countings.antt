@@ -51,19 +51,19 @@ refused-counted {log} act p m {code} h c =
 -- An accepted act
 
 plain_unmarked : (p m : ℕ) {act : ℕ} → Plain act → Unmarked (attempt act p m 0)
-plain_unmarked p m h = let t = plain_tests h in record { no_entry = t.no-crit; no-exit = t.no-exit }
+plain_unmarked p m h = let t = plain_tests h in record { no_entry = t.no_crit; no_exit = t.no_exit }
 
 module _ (s : State) (x : Statistics) (p m : ℕ) where
   -- entries are exits and critical processes, `count` before the act and `count'` after it
-  pub accepted-balance : {act : ℕ} {l l' : Location} (count count' : ℕ) → Kind m act l l'
+  pub accepted_balance : {act : ℕ} {l l' : Location} (count count' : ℕ) → Kind m act l l'
       → count' + weight l ≡ count + weight l' → x.counts.entries ≡ x.counts.exits + count
       → (accepted_counted s x act p m).counts.entries ≡ (accepted_counted s x act p m).counts.exits + count'
   unfolding accepted_counted
-  accepted-balance count count' Kind.try e b = omega arith
-  accepted-balance count count' Kind.crit e b = omega arith
-  accepted-balance count count' Kind.exit e b = omega arith
-  accepted-balance count count' Kind.withdraw e b = omega arith
-  accepted-balance count count' (Kind.other k a) e b = let t = plain_tests k in rw (t.no-crit, t.no-exit) (omega arith)
+  accepted_balance count count' Kind.try e b = omega arith
+  accepted_balance count count' Kind.crit e b = omega arith
+  accepted_balance count count' Kind.exit e b = omega arith
+  accepted_balance count count' Kind.withdraw e b = omega arith
+  accepted_balance count count' (Kind.other k a) e b = let t = plain_tests k in rw (t.no_crit, t.no_exit) (omega arith)
 
   -- a crit ends the wait that the log tells, and that is no more than the time since the try
   pub accepted-counted : (log : List Attempt) {act : ℕ} {l l' : Location} → Kind m act l l'
@@ -76,4 +76,4 @@ module _ (s : State) (x : Statistics) (p m : ℕ) where
   accepted-counted log Kind.withdraw wait c = omega arith
   accepted-counted log {act} (Kind.other k _) wait c =
       let t = plain_tests k in
-      rw (t.no-crit, t.no-exit) (omega (arith, skipped (attempt act p m 0) log (plain_unmarked p m k)))
+      rw (t.no_crit, t.no_exit) (omega (arith, skipped (attempt act p m 0) log (plain_unmarked p m k)))

@@ -17,14 +17,14 @@ use Rattle.model.specs.Answers.{critical_of}
 use Rattle.model.specs.Facts.{IsCritical}
 use Rattle.lists.specs.Demand3.{OneCritical}
 use Rattle.model.proofs.Tests.{if_eq}
-use Rattle.theory.proofs.Lowest.{nobody-critical, somebody-critical}
+use Rattle.theory.proofs.Lowest.{nobody_critical, somebody_critical}
 use Rattle.tallies.proofs.CountLaws.{weight, weight_critical}
 use Rattle.tallies.proofs.ActKinds.{Kind}
 
 -- One table
 
 pub the_critical : {s : State} → OneCritical s → (i : ℕ) → IsCritical s i → critical_of s ≡ i
-the_critical {s} one i c = one (critical_of s) i (somebody-critical s (λ e. (nobody-critical s).0 e i c)).critical c
+the_critical {s} one i c = one (critical_of s) i (somebody_critical s (λ e. (nobody_critical s).0 e i c)).critical c
 
 -- Two tables
 
@@ -34,19 +34,19 @@ Same s s' = (i : ℕ) → IsCritical s' i ↔ IsCritical s i
 
 critical_same : {s s' : State} → OneCritical s' → Same s s' → critical_of s' ≡ critical_of s
 critical_same {s} {s'} one same = if_eq (critical_of s) 0
-    (λ e. (nobody-critical s').1 (λ i c. (nobody-critical s).0 e i ((same i).0 c)) ∙ sym e)
-    (λ n. the_critical one (critical_of s) ((same (critical_of s)).1 (somebody-critical s n).critical))
+    (λ e. (nobody_critical s').1 (λ i c. (nobody_critical s).0 e i ((same i).0 c)) ∙ sym e)
+    (λ n. the_critical one (critical_of s) ((same (critical_of s)).1 (somebody_critical s n).critical))
 
 -- An act of process p leaves the entries of the others
 
 module _ (s s' : State) (p : ℕ) (others : (i : ℕ) → 1 ≤ i → i ≢ p → entry_of s' i ≡ entry_of s i) where
-  other-stays : (i : ℕ) → 1 ≤ i → i ≢ p → (entry_of s' i).location ≡ (entry_of s i).location
-  other-stays i some n = ap (λ (q : Process). q.location) (others i some n)
+  other_stays : (i : ℕ) → 1 ≤ i → i ≢ p → (entry_of s' i).location ≡ (entry_of s i).location
+  other_stays i some n = ap (λ (q : Process). q.location) (others i some n)
 
-  other-same : (i : ℕ) → i ≢ p → IsCritical s' i ↔ IsCritical s i
-  other-same i n = (
-    λ c. record { from = c.from; at = sym (other-stays i c.from n) ∙ c.at },
-    λ c. record { from = c.from; at = other-stays i c.from n ∙ c.at },
+  other_same : (i : ℕ) → i ≢ p → IsCritical s' i ↔ IsCritical s i
+  other_same i n = (
+    λ c. record { from = c.from; at = sym (other_stays i c.from n) ∙ c.at },
+    λ c. record { from = c.from; at = other_stays i c.from n ∙ c.at },
   )
 
   all_same : weight (entry_of s' p).location ≡ weight (entry_of s p).location → Same s s'
@@ -55,35 +55,35 @@ module _ (s s' : State) (p : ℕ) (others : (i : ℕ) → 1 ≤ i → i ≢ p �
         λ c. record { from = c.from; at = rw e (weight_critical _ (sym w ∙ ap weight (rw e at c.at))) },
         λ c. record { from = c.from; at = rw e (weight_critical _ (w ∙ ap weight (rw e at c.at))) },
       ))
-      (other-same i)
+      (other_same i)
 
   none_critical : OneCritical s → IsCritical s p → (entry_of s' p).location ≢ Critical → (i : ℕ) → IsCritical s' i → ⊥
-  none_critical one c out i h = if_eq i p (λ e. out (rw e at h.at)) (λ n. n (one i p ((other-same i n).0 h) c))
+  none_critical one c out i h = if_eq i p (λ e. out (rw e at h.at)) (λ n. n (one i p ((other_same i n).0 h) c))
 
   none_before : OneCritical s' → IsCritical s' p → (entry_of s p).location ≢ Critical → (i : ℕ) → IsCritical s i → ⊥
-  none_before one' c out i h = if_eq i p (λ e. out (rw e at h.at)) (λ n. n (one' i p ((other-same i n).1 h) c))
+  none_before one' c out i h = if_eq i p (λ e. out (rw e at h.at)) (λ n. n (one' i p ((other_same i n).1 h) c))
 
-  pub critical-before : {act m : ℕ} {l l' : Location} → Kind m act l l' → (entry_of s p).location ≡ l → (entry_of s' p).location ≡ l'
+  pub critical_before : {act m : ℕ} {l l' : Location} → Kind m act l l' → (entry_of s p).location ≡ l → (entry_of s' p).location ≡ l'
       → (act ≢ wait_act → 1 ≤ p) → OneCritical s → OneCritical s'
       → (act ≡ crit_act → critical_of s ≡ 0) × (act ≡ exit_act → critical_of s ≡ p)
-  critical-before Kind.try e e' some one one' = (λ q. absurd (omega arith), λ q. absurd (omega arith))
-  critical-before Kind.crit e e' some one one' = (
-    λ _. (nobody-critical s).1
+  critical_before Kind.try e e' some one one' = (λ q. absurd (omega arith), λ q. absurd (omega arith))
+  critical_before Kind.crit e e' some one one' = (
+    λ _. (nobody_critical s).1
         (none_before one' (record { from = some (omega arith); at = e' }) (λ c. omega (arith, ap stage_of (sym e ∙ c)))),
     λ q. absurd (omega arith),
   )
-  critical-before Kind.exit e e' some one one' =
+  critical_before Kind.exit e e' some one one' =
       (λ q. absurd (omega arith), λ _. the_critical one p (record { from = some (omega arith); at = e }))
-  critical-before Kind.withdraw e e' some one one' = (λ q. absurd (omega arith), λ q. absurd (omega arith))
-  critical-before (Kind.other k a) e e' some one one' = (λ q. absurd (k.not-crit q), λ q. absurd (k.not-exit q))
+  critical_before Kind.withdraw e e' some one one' = (λ q. absurd (omega arith), λ q. absurd (omega arith))
+  critical_before (Kind.other k a) e e' some one one' = (λ q. absurd (k.not_crit q), λ q. absurd (k.not_exit q))
 
   pub critical-after : {act m : ℕ} {l l' : Location} → Kind m act l l' → (entry_of s p).location ≡ l → (entry_of s' p).location ≡ l'
       → (act ≢ wait_act → 1 ≤ p) → OneCritical s → OneCritical s'
       → critical_of s' ≡ cond (eqb act crit_act) p (cond (eqb act exit_act) 0 (critical_of s))
   critical-after Kind.try e e' some one one' = critical_same one' (all_same (rw (e, e')))
   critical-after Kind.crit e e' some one one' = the_critical one' p (record { from = some (omega arith); at = e' })
-  critical-after Kind.exit e e' some one one' = (nobody-critical s').1
+  critical-after Kind.exit e e' some one one' = (nobody_critical s').1
       (none_critical one (record { from = some (omega arith); at = e }) (λ c. omega (arith, ap stage_of (sym e' ∙ c))))
   critical-after Kind.withdraw e e' some one one' = critical_same one' (all_same (rw (e, e')))
   critical-after {act} (Kind.other k a) e e' some one one' =
-      rw (ne_eqb act crit_act k.not-crit, ne_eqb act exit_act k.not-exit) (critical_same one' (all_same (rw (e, e') a.weighs)))
+      rw (ne_eqb act crit_act k.not_crit, ne_eqb act exit_act k.not_exit) (critical_same one' (all_same (rw (e, e') a.weighs)))

@@ -15,7 +15,7 @@ use Rattle.model.proofs.Tests.{by_test}
 -- an attempt that is no accepted crit or exit
 pub record Unmarked (e : Attempt) : Type 0 where
   pub no_entry : is_entry e ≡ false
-  pub no-exit : is_exit e ≡ false
+  pub no_exit : is_exit e ≡ false
 
 -- what it leaves as it was
 pub record Skipped (e : Attempt) (log : List Attempt) : Type 0 where
@@ -29,8 +29,8 @@ pub skipped : (e : Attempt) (log : List Attempt) → Unmarked e → Skipped e lo
 unfolding count_of critical_after longest_wait longest_passage
 skipped e log u = record {
   entries = rw u.no_entry (omega arith);
-  exits = rw u.no-exit (omega arith);
-  critical = rw (u.no_entry, u.no-exit);
+  exits = rw u.no_exit (omega arith);
+  critical = rw (u.no_entry, u.no_exit);
   longest = rw u.no_entry;
   passage = rw u.no_entry;
 }
@@ -38,7 +38,7 @@ skipped e log u = record {
 -- Not accepted
 
 pub refused_unmarked : {e : Attempt} → is_accepted e ≡ false → Unmarked e
-refused_unmarked f = record { no_entry = rw f; no-exit = rw f }
+refused_unmarked f = record { no_entry = rw f; no_exit = rw f }
 
 -- what an attempt that was not accepted leaves as it was, beside what is skipped
 pub record Unheard (e : Attempt) (log : List Attempt) : Type 0 where
@@ -55,27 +55,27 @@ unheard e log f = record { clock = rw f; trying = λ i. rw f; since = λ i. rw f
 
 -- what a log tells of it
 pub record LogTells (log : List Attempt) (i : ℕ) (trying : Bool) (since last : ℕ) : Type 0 where
-  pub trying-is : trying_after i log ≡ trying
-  pub since-is : unused_since i log ≡ since
-  pub last-is : last_try i log ≡ last
+  pub trying_is : trying_after i log ≡ trying
+  pub since_is : unused_since i log ≡ since
+  pub last_is : last_try i log ≡ last
 
 module _ (act p m : ℕ) (log : List Attempt) (i : ℕ) where
   abbrev this : Attempt
   this = attempt act p m 0
 
-  pub try-tells : is_try i this ≡ true → LogTells (this ∷ log) i true 0 m
+  pub try_tells : is_try i this ≡ true → LogTells (this ∷ log) i true 0 m
   unfolding trying_after unused_since last_try
-  try-tells e = record { trying-is = rw e; since-is = rw e; last-is = rw e }
+  try_tells e = record { trying_is = rw e; since_is = rw e; last_is = rw e }
 
-  pub out-tells : is_try i this ≡ false → is_tried_out i this ≡ true
+  pub out_tells : is_try i this ≡ false → is_tried_out i this ≡ true
       → LogTells (this ∷ log) i false (unused_since i log + unused_after log m) (last_try i log)
   unfolding trying_after unused_since last_try
-  out-tells e f = record { trying-is = rw (e, f); since-is = rw e; last-is = rw e }
+  out_tells e f = record { trying_is = rw (e, f); since_is = rw e; last_is = rw e }
 
-  pub other-tells : is_try i this ≡ false → is_tried_out i this ≡ false
+  pub other_tells : is_try i this ≡ false → is_tried_out i this ≡ false
       → LogTells (this ∷ log) i (trying_after i log) (unused_since i log + unused_after log m) (last_try i log)
   unfolding trying_after unused_since last_try
-  other-tells e f = record { trying-is = rw (e, f); since-is = rw e; last-is = rw e }
+  other_tells e f = record { trying_is = rw (e, f); since_is = rw e; last_is = rw e }
 
 -- A log without what was not accepted
 

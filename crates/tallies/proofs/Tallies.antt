@@ -29,17 +29,17 @@ use Rattle.theory.proofs.StaysSound.{sound_kept}
 use Rattle.theory.proofs.Acceptance.{accepted_iff_allowed, next_is_changed, refused_stays}
 use Rattle.theory.proofs.Entries.{same_at, entry_at}
 use Rattle.theory.proofs.Conditions.{turn_named}
-use Rattle.theory.proofs.Steps.{Refuses, step-refuses}
-use Rattle.theory.proofs.RecordedSteps.{Judged, judged, answer-accepted, answer-refused}
+use Rattle.theory.proofs.Steps.{Refuses, step_refuses}
+use Rattle.theory.proofs.RecordedSteps.{Judged, judged, answer_accepted, answer_refused}
 use Rattle.theory.proofs.Summaries.{summary_sound_iff_plain}
-use Rattle.theory.proofs.SoundSummaries.{refused-sound, accepted_sound}
-use Rattle.lists.proofs.Reached.{fresh-plain}
+use Rattle.theory.proofs.SoundSummaries.{refused_sound, accepted_sound}
+use Rattle.lists.proofs.Reached.{fresh_plain}
 use Rattle.tallies.proofs.CountLaws.{count_idle}
-use Rattle.tallies.proofs.ActKinds.{turn-kind, next-count}
-use Rattle.tallies.proofs.States.{StateAlong, state_start, state-refused, state-accepted}
-use Rattle.tallies.proofs.Waits.{told-waited, told-rested, now-told, at_entry}
-use Rattle.tallies.proofs.Waits.{WaitsAlong, waits_start, waits-refused, waits-accepted, wait-before}
-use Rattle.tallies.proofs.Countings.{Counted, filled_counted, refused-counted, accepted-balance, accepted-counted}
+use Rattle.tallies.proofs.ActKinds.{turn_kind, next_count}
+use Rattle.tallies.proofs.States.{StateAlong, state_start, state_refused, state_accepted}
+use Rattle.tallies.proofs.Waits.{told_waited, told_rested, now_told, at_entry}
+use Rattle.tallies.proofs.Waits.{WaitsAlong, waits_start, waits_refused, waits_accepted, wait_before}
+use Rattle.tallies.proofs.Countings.{Counted, filled_counted, refused-counted, accepted_balance, accepted-counted}
 
 -- The invariant
 
@@ -55,100 +55,100 @@ pub record Along (log : List Attempt) (s : State) (x : Statistics) : Type 0 wher
 -- A step of the list
 
 module _ {log : List Attempt} {s : State} {x : Statistics} (along : Along log s x) (act p m : ℕ) where
-  along-filled : Along (attempt act p m 3 ∷ log) s x
-  along-filled = record {
+  along_filled : Along (attempt act p m 3 ∷ log) s x
+  along_filled = record {
     sound = along.sound;
     summary = along.summary;
-    state = state-refused along.state (attempt act p m 3) refl;
-    waits = waits-refused along.waits (attempt act p m 3) refl x refl;
+    state = state_refused along.state (attempt act p m 3) refl;
+    waits = waits_refused along.waits (attempt act p m 3) refl x refl;
     counted = filled_counted act p m along.counted;
     balance = along.balance;
   }
 
-  along-refused : (code : ℕ) → NotFull x → Refuses code → Along (attempt act p m code ∷ log) s (refused_counted x)
-  along-refused code room h =
+  along_refused : (code : ℕ) → NotFull x → Refuses code → Along (attempt act p m code ∷ log) s (refused_counted x)
+  along_refused code room h =
       let f = ne_eqb code 0 (omega arith) in
       record {
         sound = along.sound;
-        summary = refused-sound s x act p m room along.summary;
-        state = state-refused along.state (attempt act p m code) f;
-        waits = waits-refused along.waits (attempt act p m code) f (refused_counted x) refl;
+        summary = refused_sound s x act p m room along.summary;
+        state = state_refused along.state (attempt act p m code) f;
+        waits = waits_refused along.waits (attempt act p m code) f (refused_counted x) refl;
         counted = refused-counted act p m h along.counted;
         balance = along.balance;
       }
 
   module _ {s' : State} (allowed : Allowed s act p m) (changed : Changed s act p m s') where
     -- the process has an entry
-    has-place : p - 1 < length s.processes
-    has-place =
+    has_place : p - 1 < length s.processes
+    has_place =
         let r = along.state.guarded.reached in
         omega (arith, r.size, r.sound.parameters.count.most, turn_named allowed.turn)
 
-    crit-wait : act ≡ crit_act → (wait_of s x p m ≡ wait_after log p m) × (last_try p log + wait_after log p m ≤ m)
-    crit-wait = wait-before along.waits along.state allowed changed
+    crit_wait : act ≡ crit_act → (wait_of s x p m ≡ wait_after log p m) × (last_try p log + wait_after log p m ≤ m)
+    crit_wait = wait_before along.waits along.state allowed changed
 
-    along-accepted : NotFull x → sound_of s' ≡ true → Along (attempt act p m 0 ∷ log) s' (accepted_counted s x act p m)
-    along-accepted room sound =
-        let kind = turn-kind changed allowed.turn in
+    along_accepted : NotFull x → sound_of s' ≡ true → Along (attempt act p m 0 ∷ log) s' (accepted_counted s x act p m)
+    along_accepted room sound =
+        let kind = turn_kind changed allowed.turn in
         record {
           sound = sound;
-          summary = rw changed.clock-is (accepted_sound s x act p m allowed room along.summary);
-          state = state-accepted along.state allowed changed;
-          waits = waits-accepted along.waits along.state allowed changed;
-          counted = accepted-counted s x p m log kind crit-wait along.counted;
-          balance = accepted-balance s x p m _ _ kind (next-count changed has-place) along.balance;
+          summary = rw changed.clock_is (accepted_sound s x act p m allowed room along.summary);
+          state = state_accepted along.state allowed changed;
+          waits = waits_accepted along.waits along.state allowed changed;
+          counted = accepted-counted s x p m log kind crit_wait along.counted;
+          balance = accepted_balance s x p m _ _ kind (next_count changed has_place) along.balance;
         }
 
   -- after a step with the outcome o and the summary y
   abbrev pub Step : Statistics → Outcome → Type 0
   Step y o = Along (attempt act p m o.answer.code ∷ log) o.state y
 
-  along-step : NotFull x → Step (answer_counted s x (step_of s act p m).answer.code act p m) (step_of s act p m)
-  along-step room = if_eq (step_of s act p m).answer.code 0
+  along_step : NotFull x → Step (answer_counted s x (step_of s act p m).answer.code act p m) (step_of s act p m)
+  along_step room = if_eq (step_of s act p m).answer.code 0
       (λ e. let size = along.state.guarded.reached.size in
-      rw (answer-accepted s x act p m e)
+      rw (answer_accepted s x act p m e)
       (subst (λ (code : ℕ). Along (attempt act p m code ∷ log) (step_of s act p m).state (accepted_counted s x act p m)) (sym e)
-      (along-accepted ((accepted_iff_allowed s along.sound act p m).0 e) (next_is_changed s size act p m e)
+      (along_accepted ((accepted_iff_allowed s along.sound act p m).0 e) (next_is_changed s size act p m e)
       room (sound_kept s size act p m along.sound e))))
-      (λ n. rw (answer-refused s x act p m n, refused_stays s act p m n)
-      (along-refused _ room (step-refuses s act p m along.sound n)))
+      (λ n. rw (answer_refused s x act p m n, refused_stays s act p m n)
+      (along_refused _ room (step_refuses s act p m along.sound n)))
 
-  pub along-judged : {r : Recorded} → Judged s x act p m r → Step r.statistics r.outcome
-  along-judged (Judged.no_table e) = clash along.sound e
-  along-judged (Judged.no-summary _ e) = clash ((summary_sound_iff_plain s.clock x).1 along.summary) e
-  along-judged (Judged.filled _ _ _) = along-filled
-  along-judged (Judged.counted o) = along-step o.not_full
+  pub along_judged : {r : Recorded} → Judged s x act p m r → Step r.statistics r.outcome
+  along_judged (Judged.no_table e) = clash along.sound e
+  along_judged (Judged.no-summary _ e) = clash ((summary_sound_iff_plain s.clock x).1 along.summary) e
+  along_judged (Judged.filled _ _ _) = along_filled
+  along_judged (Judged.counted o) = along_step o.not_full
 
   -- What a recorded step that is accepted was
 
-  pub recorded-allowed : {r : Recorded} → Judged s x act p m r → r.outcome.answer.code ≡ 0 → Allowed s act p m
-  recorded-allowed (Judged.no_table _) e = absurd (omega arith)
-  recorded-allowed (Judged.no-summary _ _) e = absurd (omega arith)
-  recorded-allowed (Judged.filled _ _ _) e = absurd (omega arith)
-  recorded-allowed (Judged.counted _) e = (accepted_iff_allowed s along.sound act p m).0 e
+  pub recorded_allowed : {r : Recorded} → Judged s x act p m r → r.outcome.answer.code ≡ 0 → Allowed s act p m
+  recorded_allowed (Judged.no_table _) e = absurd (omega arith)
+  recorded_allowed (Judged.no-summary _ _) e = absurd (omega arith)
+  recorded_allowed (Judged.filled _ _ _) e = absurd (omega arith)
+  recorded_allowed (Judged.counted _) e = (accepted_iff_allowed s along.sound act p m).0 e
 
-  pub recorded-wait : {r : Recorded} → Judged s x act p m r → r.outcome.answer.code ≡ 0 → act ≡ crit_act
+  pub recorded_wait : {r : Recorded} → Judged s x act p m r → r.outcome.answer.code ≡ 0 → act ≡ crit_act
       → wait_of s x p m ≡ wait_after log p m
-  recorded-wait (Judged.no_table _) e crit = absurd (omega arith)
-  recorded-wait (Judged.no-summary _ _) e crit = absurd (omega arith)
-  recorded-wait (Judged.filled _ _ _) e crit = absurd (omega arith)
-  recorded-wait (Judged.counted _) e crit =
-      (crit-wait ((accepted_iff_allowed s along.sound act p m).0 e) (next_is_changed s along.state.guarded.reached.size act p m e) crit).0
+  recorded_wait (Judged.no_table _) e crit = absurd (omega arith)
+  recorded_wait (Judged.no-summary _ _) e crit = absurd (omega arith)
+  recorded_wait (Judged.filled _ _ _) e crit = absurd (omega arith)
+  recorded_wait (Judged.counted _) e crit =
+      (crit_wait ((accepted_iff_allowed s along.sound act p m).0 e) (next_is_changed s along.state.guarded.reached.size act p m e) crit).0
 
   -- Its clock
 
-  pub recorded-clock : {r : Recorded} → Judged s x act p m r → r.outcome.answer.code ≡ 0 → r.outcome.state.clock ≡ m
-  recorded-clock (Judged.no_table _) e = absurd (omega arith)
-  recorded-clock (Judged.no-summary _ _) e = absurd (omega arith)
-  recorded-clock (Judged.filled _ _ _) e = absurd (omega arith)
-  recorded-clock (Judged.counted _) e = (next_is_changed s along.state.guarded.reached.size act p m e).clock-is
+  pub recorded_clock : {r : Recorded} → Judged s x act p m r → r.outcome.answer.code ≡ 0 → r.outcome.state.clock ≡ m
+  recorded_clock (Judged.no_table _) e = absurd (omega arith)
+  recorded_clock (Judged.no-summary _ _) e = absurd (omega arith)
+  recorded_clock (Judged.filled _ _ _) e = absurd (omega arith)
+  recorded_clock (Judged.counted _) e = (next_is_changed s along.state.guarded.reached.size act p m e).clock_is
 
-  pub recorded-later : {r : Recorded} → Judged s x act p m r → s.clock ≤ r.outcome.state.clock
-  recorded-later (Judged.no_table _) = omega arith
-  recorded-later (Judged.no-summary _ _) = omega arith
-  recorded-later (Judged.filled _ _ _) = omega arith
-  recorded-later (Judged.counted o) = if_eq (step_of s act p m).answer.code 0
-      (λ e. rw (recorded-clock (Judged.counted o) e) (recorded-allowed (Judged.counted o) e).forward)
+  pub recorded_later : {r : Recorded} → Judged s x act p m r → s.clock ≤ r.outcome.state.clock
+  recorded_later (Judged.no_table _) = omega arith
+  recorded_later (Judged.no-summary _ _) = omega arith
+  recorded_later (Judged.filled _ _ _) = omega arith
+  recorded_later (Judged.counted o) = if_eq (step_of s act p m).answer.code 0
+      (λ e. rw (recorded_clock (Judged.counted o) e) (recorded_allowed (Judged.counted o) e).forward)
       (λ n. rw (refused_stays s act p m n) (omega arith))
 
 -- The list
@@ -158,7 +158,7 @@ along_all : (log : List Attempt) (r : Recorded) (es : List Event) → Along log 
 unfolding log_by results_by end_by
 along_all log r [] h = h
 along_all log r (e ∷ es) h = along_all _ (record_next r e) es
-    (along-judged h e.action e.process e.time
+    (along_judged h e.action e.process e.time
     (judged r.outcome.state r.statistics e.action e.process e.time))
 
 pub along_start : {s : State} → IsFresh s → Along [] s new_statistics
@@ -173,26 +173,26 @@ along_start {s} f =
       counted = omega arith;
       balance = omega (
         arith,
-        count_idle s.processes (λ i. ap (λ (q : Process). q.location) (sym (entry_at s i)) ∙ (fresh-plain f).all (i + 1)),
+        count_idle s.processes (λ i. ap (λ (q : Process). q.location) (sym (entry_at s i)) ∙ (fresh_plain f).all (i + 1)),
       );
     }
 
 -- What it tells
 
 module _ {log : List Attempt} {s : State} {x : Statistics} (h : Along log s x) where
-  along-state : StateTold log s
-  along-state = record {
+  along_state : StateTold log s
+  along_state = record {
     clock = h.state.clock;
     critical = h.state.critical;
-    trying = λ i some. let told = h.waits.each i some in (now-told told, λ e. (told-waited told e).now);
+    trying = λ i some. let told = h.waits.each i some in (now_told told, λ e. (told_waited told e).now);
   }
 
-  along-waits : WaitsTold log x
-  along-waits = record {
-    trying = λ i some e. (told-waited (h.waits.each i some) e).is;
-    others = λ i some e. (told-rested (h.waits.each i some) e).is;
-    so_far = λ i some e. rw (← h.state.clock) (told-waited (h.waits.each i some) e).within;
-    at_entry = λ i m some e forward. at_entry h.state (told-waited (h.waits.each i some) e) m (rw h.state.clock forward);
+  along_waits : WaitsTold log x
+  along_waits = record {
+    trying = λ i some e. (told_waited (h.waits.each i some) e).is;
+    others = λ i some e. (told_rested (h.waits.each i some) e).is;
+    so_far = λ i some e. rw (← h.state.clock) (told_waited (h.waits.each i some) e).within;
+    at_entry = λ i m some e forward. at_entry h.state (told_waited (h.waits.each i some) e) m (rw h.state.clock forward);
     longest = h.counted.within;
   }
 
@@ -205,8 +205,8 @@ along_tallied h = record {
     exits = h.counted.exits i;
     longest = h.counted.longest i;
   };
-  state = along-state h;
-  waits = along-waits h;
+  state = along_state h;
+  waits = along_waits h;
   sound = h.summary;
   balance = h.balance;
 }

@@ -113,8 +113,8 @@ module _ (ws : List ℕ) (i : ℕ) where
   pub tail_at : i < length ws → tail_text (drop i ws) ≡ (comma ∷ []) ++ (decimal (get_or ws i 0) ++ tail_text (drop (i + 1) ws))
   tail_at h = rw (drop_at ws i 0 h, digits_first (get_or ws i 0) (drop (i + 1) ws))
 
-  pub tail-end : length ws ≤ i → i ≤ length ws → tail_text (drop i ws) ≡ newline ∷ []
-  tail-end h g = rw (drop_end ws i h g)
+  pub tail_end : length ws ≤ i → i ≤ length ws → tail_text (drop i ws) ≡ newline ∷ []
+  tail_end h g = rw (drop_end ws i h g)
 
 -- Widths
 

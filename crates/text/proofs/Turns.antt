@@ -15,13 +15,13 @@ use Rattle.model.proofs.Lists.{drop_at, drop_end}
 use Rattle.model.proofs.Tests.{by_test}
 
 module _ (w s : List ℕ) (i : ℕ) (hw : i < length w) where
-  pub starts-short : length s ≤ i → i ≤ length s → starts_with (drop i w) (drop i s) ≡ false
+  pub starts_short : length s ≤ i → i ≤ length s → starts_with (drop i w) (drop i s) ≡ false
   unfolding starts_with
-  starts-short g h = rw (drop_at w i 0 hw, drop_end s i g h)
+  starts_short g h = rw (drop_at w i 0 hw, drop_end s i g h)
 
-  pub starts-at : i < length s → starts_with (drop i w) (drop i s) ≡ eqb (get_or s i 0) (get_or w i 0) && starts_with (drop (i + 1) w) (drop (i + 1) s)
+  pub starts_at : i < length s → starts_with (drop i w) (drop i s) ≡ eqb (get_or s i 0) (get_or w i 0) && starts_with (drop (i + 1) w) (drop (i + 1) s)
   unfolding starts_with
-  starts-at hs = rw (drop_at w i 0 hw, drop_at s i 0 hs)
+  starts_at hs = rw (drop_at w i 0 hw, drop_at s i 0 hs)
 
 -- a text starts with two texts, one after the other
 pub starts_append : (w v s : List ℕ) → starts_with (w ++ v) s ≡ starts_with w s && starts_with v (drop (length w) s)
@@ -32,13 +32,13 @@ starts_append (x ∷ w) v (y ∷ s) = by_test (eqb y x) (λ e. rw e (starts_appe
 
 -- the end of a line after the first i bytes
 module _ (s : List ℕ) (i : ℕ) where
-  pub line-short : length s ≤ i → starts_with (newline ∷ []) (drop i s) ≡ false
+  pub line_short : length s ≤ i → starts_with (newline ∷ []) (drop i s) ≡ false
   unfolding starts_with
-  line-short h = rw (drop_of_length-le s {i = i} h)
+  line_short h = rw (drop_of_length-le s {i = i} h)
 
-  pub line-ends : i < length s → starts_with (newline ∷ []) (drop i s) ≡ eqb (get_or s i 0) newline
+  pub line_ends : i < length s → starts_with (newline ∷ []) (drop i s) ≡ eqb (get_or s i 0) newline
   unfolding starts_with
-  line-ends h = rw (drop_at s i 0 h) (by_test (eqb (get_or s i 0) newline) (λ e. rw e) (λ e. rw e))
+  line_ends h = rw (drop_at s i 0 h) (by_test (eqb (get_or s i 0) newline) (λ e. rw e) (λ e. rw e))
 
 -- a number at the byte x, of which k digits made v
 abbrev pub number_turn : ℕ → ℕ → ℕ → ℕ → ℕ → List ℕ → Field
@@ -64,23 +64,23 @@ word-at a s h = rw (drop_at words a [] h)
 -- A line of numbers, of which `got` has the first i: they took the first `at` bytes of s, and `more` end with a comma
 
 module _ (line more i at : ℕ) (got s : List ℕ) where
-  pub numbers-next : (v k : ℕ) → i < more → number_at number_bound comma (drop at s) ≡ Value v k
+  pub numbers_next : (v k : ℕ) → i < more → number_at number_bound comma (drop at s) ≡ Value v k
       → numbers_from line (more - i) i at got (drop at s) ≡ numbers_from line (more - (i + 1)) (i + 1) (at + k) (set got i v) (drop (at + k) s)
   unfolding numbers_from
-  numbers-next v k h e = let q : more - i ≡ suc (more - (i + 1)) = omega arith in rw (q, e, ← drop-drop k at s)
+  numbers_next v k h e = let q : more - i ≡ suc (more - (i + 1)) = omega arith in rw (q, e, ← drop-drop k at s)
 
-  pub numbers-bad : i < more → number_at number_bound comma (drop at s) ≡ Bad
+  pub numbers_bad : i < more → number_at number_bound comma (drop at s) ≡ Bad
       → numbers_from line (more - i) i at got (drop at s) ≡ line_fails line
   unfolding numbers_from
-  numbers-bad h e = let q : more - i ≡ suc (more - (i + 1)) = omega arith in rw (q, e)
+  numbers_bad h e = let q : more - i ≡ suc (more - (i + 1)) = omega arith in rw (q, e)
 
   module _ (h : more ≤ i) where
-    pub numbers-last : (v k : ℕ) → number_at number_bound newline (drop at s) ≡ Value v k
+    pub numbers_last : (v k : ℕ) → number_at number_bound newline (drop at s) ≡ Value v k
         → numbers_from line (more - i) i at got (drop at s) ≡ line_of line (set got i v) (at + k)
     unfolding numbers_from
-    numbers-last v k e = let q : more - i ≡ 0 = omega arith in rw (q, e)
+    numbers_last v k e = let q : more - i ≡ 0 = omega arith in rw (q, e)
 
-    pub numbers-none : number_at number_bound newline (drop at s) ≡ Bad
+    pub numbers_none : number_at number_bound newline (drop at s) ≡ Bad
         → numbers_from line (more - i) i at got (drop at s) ≡ line_fails line
     unfolding numbers_from
-    numbers-none e = let q : more - i ≡ 0 = omega arith in rw (q, e)
+    numbers_none e = let q : more - i ≡ 0 = omega arith in rw (q, e)

@@ -15,9 +15,9 @@ use Rattle.text.specs.Puts.{Put}
 use Rattle.text.proofs.Putting.{sets_over, put_first}
 
 -- the lines of a text after its names line of n bytes
-pub after-names : {old mid new names text : List ℕ} {i j n : ℕ}
+pub after_names : {old mid new names text : List ℕ} {i j n : ℕ}
     → Put old mid 0 names i → length names ≡ n → Put mid new n text j → Put old new 0 (names ++ text) (i + j)
-after-names {mid = mid} {new = new} {text = text} {i = i} {j = j} {n = n} p e q =
+after_names {mid = mid} {new = new} {text = text} {i = i} {j = j} {n = n} p e q =
     let at : n ≡ i = omega (arith, p.wide) in
     put_first p (subst (λ (k : ℕ). Put mid new k text j) at q)
 

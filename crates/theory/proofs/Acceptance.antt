@@ -14,45 +14,45 @@ use Rattle.model.specs.Actions.{transition_of, effect}
 use Rattle.theory.specs.Soundness.{Sound}
 use Rattle.theory.specs.Acceptance.{Acts, Allowed, Changed}
 use Rattle.theory.specs.Acceptance.{AcceptedIffAllowed, NextIsChanged, RefusedStays, WaitNowChangesNothing}
-use Rattle.theory.proofs.Entries.{moved-own, moved_other}
+use Rattle.theory.proofs.Entries.{moved_own, moved_other}
 use Rattle.theory.proofs.Rows.{from_ready, row_effect}
 use Rattle.theory.proofs.Soundness.{sound_iff_plain}
-use Rattle.theory.proofs.Steps.{Stepped, stepped, allowed-step, accepted-is}
+use Rattle.theory.proofs.Steps.{Stepped, stepped, allowed_step, accepted_is}
 
 -- What an accepted act changes
 
 module _ (s : State) (p m : ℕ) where
-  wait-changes : Changed s wait_act p m (effect s wait_act p m)
+  wait_changes : Changed s wait_act p m (effect s wait_act p m)
   unfolding effect entry_of
-  wait-changes = record {
-    parameters-stay = refl;
-    size-stays = refl;
-    clock-is = refl;
-    others-stay = λ i h n. refl;
-    wait-keeps = λ e. refl;
+  wait_changes = record {
+    parameters_stay = refl;
+    size_stays = refl;
+    clock_is = refl;
+    others_stay = λ i h n. refl;
+    wait_keeps = λ e. refl;
     effect = λ n. absurd (n refl);
   }
 
-  act-changes : {act : ℕ} → p ≤ length s.processes → Acts s act p m → Changed s act p m (effect s act p m)
+  act_changes : {act : ℕ} → p ≤ length s.processes → Acts s act p m → Changed s act p m (effect s act p m)
   unfolding effect
-  act-changes {act} fits a =
-      let n = (from_ready a.from).not-wait in
+  act_changes {act} fits a =
+      let n = (from_ready a.from).not_wait in
       let t = transition_of s.word act p m in
       rw (ne_eqb act wait_act n)
       (record {
-        parameters-stay = refl;
-        size-stays = length-set s.processes (p - 1) _;
-        clock-is = refl;
-        others-stay = moved_other s p m t a.some;
-        wait-keeps = λ e. absurd (n e);
-        effect = λ _. rw (moved-own s p m t a.some fits) (row_effect s p a.from);
+        parameters_stay = refl;
+        size_stays = length-set s.processes (p - 1) _;
+        clock_is = refl;
+        others_stay = moved_other s p m t a.some;
+        wait_keeps = λ e. absurd (n e);
+        effect = λ _. rw (moved_own s p m t a.some fits) (row_effect s p a.from);
       })
 
 allowed_changes : (s : State) → length s.processes ≡ 96 → {act p m : ℕ} → Sound s → Allowed s act p m
     → Changed s act p m (effect s act p m)
 allowed_changes s size {act} {p} {m} sound h = ⊎_elim
-    (λ w. rw w.wait (wait-changes s p m))
-    (λ a. act-changes s p m (omega (arith, a.most, sound.parameters.count.most)) a)
+    (λ w. rw w.wait (wait_changes s p m))
+    (λ a. act_changes s p m (omega (arith, a.most, sound.parameters.count.most)) a)
     h.turn
 
 -- The step
@@ -68,13 +68,13 @@ refusal_stays (Stepped.accepted _ _) n = absurd (n refl)
 
 pub accepted_iff_allowed : AcceptedIffAllowed
 accepted_iff_allowed s sound act p m = (
-  λ a. (accepted-is (stepped s act p m) a).allowed,
-  λ h. rw (allowed-step s act p m ((sound_iff_plain s).0 sound) h),
+  λ a. (accepted_is (stepped s act p m) a).allowed,
+  λ h. rw (allowed_step s act p m ((sound_iff_plain s).0 sound) h),
 )
 
 pub next_is_changed : NextIsChanged
 next_is_changed s size act p m a =
-    let t = accepted-is (stepped s act p m) a in
+    let t = accepted_is (stepped s act p m) a in
     rw t.is (allowed_changes s size t.sound t.allowed)
 
 pub refused_stays : RefusedStays

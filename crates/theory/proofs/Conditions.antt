@@ -17,7 +17,7 @@ use Rattle.model.specs.Answers.{misnamed, misplaced, early}
 use Rattle.theory.specs.Acceptance.{Waits, Acts}
 use Rattle.theory.specs.Refusals.{Misnamed, InPlace}
 use Rattle.model.proofs.Tests.{by_test, if_eq, clash, tests}
-use Rattle.theory.proofs.Rows.{from_ready, placed_stage, stage-placed, placed-from}
+use Rattle.theory.proofs.Rows.{from_ready, placed_stage, stage_placed, placed_from}
 
 -- a test fails exactly where what it tells does not hold
 pub opposite : {t : Bool} {A : Type 0} → (t ≡ true) ↔ A → (t ≡ false) ↔ (A → ⊥)
@@ -43,15 +43,15 @@ misnamed_told n act p = (test_misnamed n act p, misnamed_test)
 -- Where its process is
 
 module _ (s : State) (act p : ℕ) (known : act ≤ last_act) where
-  pub misplaced-told : (misplaced (stage_of (entry_of s p).location) act ≡ true) ↔ ((act ≢ wait_act) × (InPlace s act p → ⊥))
-  misplaced-told = (
+  pub misplaced_told : (misplaced (stage_of (entry_of s p).location) act ≡ true) ↔ ((act ≢ wait_act) × (InPlace s act p → ⊥))
+  misplaced_told = (
     λ e. let h = simp tests at e in (h.0, λ k. h.1 (placed_stage s p k)),
-    λ h. simp tests (h.0, λ e. h.1 (stage-placed s p h.0 known e)),
+    λ h. simp tests (h.0, λ e. h.1 (stage_placed s p h.0 known e)),
   )
 
-  pub placed-told : (misplaced (stage_of (entry_of s p).location) act ≡ false) ↔ (act ≢ wait_act → InPlace s act p)
-  placed-told = (
-    λ e n. stage-placed s p n known ((simp tests at e) n),
+  pub placed_told : (misplaced (stage_of (entry_of s p).location) act ≡ false) ↔ (act ≢ wait_act → InPlace s act p)
+  placed_told = (
+    λ e n. stage_placed s p n known ((simp tests at e) n),
     λ h. simp tests (λ n. placed_stage s p (h n)),
   )
 
@@ -78,31 +78,31 @@ module _ (s : State) (act p m : ℕ) where
     pub placed : misplaced (stage_of (entry_of s p).location) act ≡ false
     pub released : early (release s (entry_of s p)) act m ≡ false
 
-  pub turn-fits : Waits act p ⊎ Acts s act p m → Fits
-  turn-fits (inl w) = record {
+  pub turn_fits : Waits act p ⊎ Acts s act p m → Fits
+  turn_fits (inl w) = record {
     known = omega arith;
     named = simp tests (λ _. w.nobody, λ n. absurd (n w.wait));
     placed = simp tests (λ n. absurd (n w.wait));
     released = simp tests (λ e. absurd (omega arith));
   }
-  turn-fits (inr a) =
+  turn_fits (inr a) =
       let r = from_ready a.from in
       record {
         known = r.known;
-        named = simp tests (λ e. absurd (r.not-wait e), λ _. omega arith);
+        named = simp tests (λ e. absurd (r.not_wait e), λ _. omega arith);
         placed = simp tests (λ _. r.placed);
         released = simp tests (λ e. omega (arith, r.released e));
       }
 
-  pub fits-turn : Fits → Waits act p ⊎ Acts s act p m
-  fits-turn h =
+  pub fits_turn : Fits → Waits act p ⊎ Acts s act p m
+  fits_turn h =
       let k = simp tests at h.named in
       if_eq act wait_act
       (λ w. inl (record { wait = w; nobody = k.0 w }))
       (λ n. inr (record {
         some = omega (arith, k.1 n);
         most = omega (arith, k.1 n);
-        from = placed-from s p ((placed-told s act p h.known).0 h.placed n) (λ c. omega (arith, (simp tests at h.released) c));
+        from = placed_from s p ((placed_told s act p h.known).0 h.placed n) (λ c. omega (arith, (simp tests at h.released) c));
       }))
 
 -- an act whose turn it is is of a process that there is, or of process 0

@@ -54,10 +54,10 @@ module _ (P : ℕ → Process → Type 0) (unused : (j : ℕ) → P j idle) wher
   each_at i (q ∷ qs) h (suc k) =
       subst (λ (j : ℕ). P j (get_or qs k idle)) (omega arith) (each_at (i + 1) qs (λ j r a. h j r (there a)) k)
 
-  pub each-entry : (s : State) → ((j : ℕ) (q : Process) → Among 1 s.processes j q → P j q)
+  pub each_entry : (s : State) → ((j : ℕ) (q : Process) → Among 1 s.processes j q → P j q)
       → (i : ℕ) → 1 ≤ i → P i (entry_of s i)
   unfolding entry_of
-  each-entry s h i some =
+  each_entry s h i some =
       subst (λ (j : ℕ). P j (get_or s.processes (i - 1) idle)) (omega arith) (each_at 1 s.processes h (i - 1))
 
 pub among_entry : (s : State) {j : ℕ} {q : Process} → Among 1 s.processes j q → entry_of s j ≡ q
@@ -77,9 +77,9 @@ entries_same s s' size h =
 -- The entries after a move
 
 module _ (s : State) (p m : ℕ) (t : Transition) where
-  pub moved-own : 1 ≤ p → p ≤ length s.processes → entry_of (moved s p m t) p ≡ entry t.to
+  pub moved_own : 1 ≤ p → p ≤ length s.processes → entry_of (moved s p m t) p ≡ entry t.to
   unfolding entry_of
-  moved-own some most = get_or-set_same s.processes (p - 1) _ idle (omega arith)
+  moved_own some most = get_or-set_same s.processes (p - 1) _ idle (omega arith)
 
   pub moved_other : 1 ≤ p → (i : ℕ) → 1 ≤ i → i ≢ p → entry_of (moved s p m t) i ≡ entry_of s i
   unfolding entry_of

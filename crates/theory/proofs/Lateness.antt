@@ -14,7 +14,7 @@ use Rattle.model.specs.Answers.{Due, due, none_due, sooner, first_from, first_by
 use Rattle.model.specs.Facts.{HasDeadline}
 use Rattle.theory.specs.Lateness.{IsFirst, FirstTold, FirstMissed, FirstIsFirst, NoneMissedIffAllInTime}
 use Rattle.model.proofs.Tests.{by_cond, if_eq, and_true_iff, tests}
-use Rattle.theory.proofs.Entries.{Among, here, there, each_cons, each-entry, among_from, among_entry}
+use Rattle.theory.proofs.Entries.{Among, here, there, each_cons, each_entry, among_from, among_entry}
 use Rattle.theory.proofs.Locations.{Latest, latest_deadline, deadline_unique, bounded_latest}
 
 -- The search
@@ -93,17 +93,17 @@ searched s i first (q ∷ qs) some = searched_cons some (picked s i q first) (se
 -- The search of a state
 
 module _ (s : State) where
-  first-searched : Searched s 1 none_due s.processes (first_deadline s)
+  first_searched : Searched s 1 none_due s.processes (first_deadline s)
   unfolding first_deadline
-  first-searched = searched s 1 none_due s.processes (omega arith)
+  first_searched = searched s 1 none_due s.processes (omega arith)
 
   -- what holds of every deadline of the entries holds of every deadline of a process
-  of-deadline : (P : ℕ → ℕ → Type 0) → Each s 1 s.processes P → (i d : ℕ) → HasDeadline s i d → P i d
-  of-deadline P k i d h = each-entry (λ j q. (e : ℕ) → Latest s j q e → P j e) (λ j e g. elim g [ ]) s k i h.from d h.is
+  of_deadline : (P : ℕ → ℕ → Type 0) → Each s 1 s.processes P → (i d : ℕ) → HasDeadline s i d → P i d
+  of_deadline P k i d h = each_entry (λ j q. (e : ℕ) → Latest s j q e → P j e) (λ j e g. elim g [ ]) s k i h.from d h.is
 
-  is-first : {p d : ℕ} → First s 1 s.processes p d → IsFirst s p d
-  is-first {p} {d} f =
-      let all = of-deadline (Precedes p d) f.all in
+  is_first : {p d : ℕ} → First s 1 s.processes p d → IsFirst s p d
+  is_first {p} {d} f =
+      let all = of_deadline (Precedes p d) f.all in
       record {
         has = record { from = among_from f.among; is = rw (among_entry s f.among) f.latest };
         smallest = λ i e h. (all i e h).smaller;
@@ -112,16 +112,16 @@ module _ (s : State) where
 
   first-told : {first : Due} → Searched s 1 none_due s.processes first → FirstTold s first
   first-told (none k) = record {
-    none = (λ e i d h. (of-deadline (λ j d. After none_due d) k i d h).some refl, λ h. refl);
+    none = (λ e i d h. (of_deadline (λ j d. After none_due d) k i d h).some refl, λ h. refl);
     some = λ n. absurd (n refl);
   }
   first-told (found f _) = record {
-    none = (λ e. absurd (omega (arith, among_from f.among)), λ h. absurd (h _ _ (is-first f).has));
-    some = λ n. is-first f;
+    none = (λ e. absurd (omega (arith, among_from f.among)), λ h. absurd (h _ _ (is_first f).has));
+    some = λ n. is_first f;
   }
 
 pub first_is_first : FirstIsFirst
-first_is_first s = first-told s (first-searched s)
+first_is_first s = first-told s (first_searched s)
 
 pub none_missed_iff_all_in_time : NoneMissedIffAllInTime
 none_missed_iff_all_in_time s m =

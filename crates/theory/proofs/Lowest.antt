@@ -17,9 +17,9 @@ use Rattle.model.specs.Answers.{critical_from, critical_by, critical_of, accepts
 use Rattle.model.specs.Facts.{IsCritical}
 use Rattle.theory.specs.Lowest.{LowestCritical, Tells, AcceptedTells}
 use Rattle.model.proofs.Tests.{by_cond}
-use Rattle.theory.proofs.Entries.{Among, here, there, each_cons, each-entry, among_from, among_entry}
+use Rattle.theory.proofs.Entries.{Among, here, there, each_cons, each_entry, among_from, among_entry}
 use Rattle.model.proofs.Locations.{stage_location}
-use Rattle.theory.proofs.Steps.{stepped, accepted-is}
+use Rattle.theory.proofs.Steps.{stepped, accepted_is}
 
 -- The search
 
@@ -58,43 +58,43 @@ searched i (q ∷ qs) = by_cond (Searched i (q ∷ qs)) (eqb (stage_of q.locatio
 -- The search of a state
 
 module _ (s : State) where
-  critical-searched : Searched 1 s.processes (critical_of s)
+  critical_searched : Searched 1 s.processes (critical_of s)
   unfolding critical_of
-  critical-searched = searched 1 s.processes
+  critical_searched = searched 1 s.processes
 
   -- what follows from an entry in critical follows from a critical process
-  of-critical : (Q : ℕ → Type 0) → ((j : ℕ) (q : Process) → Among 1 s.processes j q → q.location ≡ Critical → Q j)
+  of_critical : (Q : ℕ → Type 0) → ((j : ℕ) (q : Process) → Among 1 s.processes j q → q.location ≡ Critical → Q j)
       → (i : ℕ) → IsCritical s i → Q i
-  of-critical Q k i c = each-entry (λ j q. q.location ≡ Critical → Q j) (λ j e. absurd (omega (arith, ap stage_of e))) s k
+  of_critical Q k i c = each_entry (λ j q. q.location ≡ Critical → Q j) (λ j e. absurd (omega (arith, ap stage_of e))) s k
       i c.from c.at
 
-  lowest-critical : {p : ℕ} → Lowest 1 s.processes p → LowestCritical s p
-  lowest-critical {p} f = record {
+  lowest_critical : {p : ℕ} → Lowest 1 s.processes p → LowestCritical s p
+  lowest_critical {p} f = record {
     critical = record {
       from = among_from f.among;
       at = ap (λ (q : Process). q.location) (among_entry s f.among) ∙ f.critical;
     };
-    lowest = of-critical (λ j. p ≤ j) f.lowest;
+    lowest = of_critical (λ j. p ≤ j) f.lowest;
   }
 
-  none-iff : {p : ℕ} → Searched 1 s.processes p → (p ≡ 0) ↔ ((i : ℕ) → IsCritical s i → ⊥)
-  none-iff (none k) = (λ e. of-critical (λ j. ⊥) k, λ h. refl)
-  none-iff (found f) = (λ e. absurd (omega (arith, among_from f.among)), λ h. absurd (h _ (lowest-critical f).critical))
+  none_iff : {p : ℕ} → Searched 1 s.processes p → (p ≡ 0) ↔ ((i : ℕ) → IsCritical s i → ⊥)
+  none_iff (none k) = (λ e. of_critical (λ j. ⊥) k, λ h. refl)
+  none_iff (found f) = (λ e. absurd (omega (arith, among_from f.among)), λ h. absurd (h _ (lowest_critical f).critical))
 
-  some-lowest : {p : ℕ} → Searched 1 s.processes p → p ≢ 0 → LowestCritical s p
-  some-lowest (none k) n = absurd (n refl)
-  some-lowest (found f) n = lowest-critical f
+  some_lowest : {p : ℕ} → Searched 1 s.processes p → p ≢ 0 → LowestCritical s p
+  some_lowest (none k) n = absurd (n refl)
+  some_lowest (found f) n = lowest_critical f
 
-  pub nobody-critical : (critical_of s ≡ 0) ↔ ((i : ℕ) → IsCritical s i → ⊥)
-  nobody-critical = none-iff critical-searched
+  pub nobody_critical : (critical_of s ≡ 0) ↔ ((i : ℕ) → IsCritical s i → ⊥)
+  nobody_critical = none_iff critical_searched
 
-  pub somebody-critical : critical_of s ≢ 0 → LowestCritical s (critical_of s)
-  somebody-critical = some-lowest critical-searched
+  pub somebody_critical : critical_of s ≢ 0 → LowestCritical s (critical_of s)
+  somebody_critical = some_lowest critical_searched
 
-  accepts-tells : Tells (accepts s)
-  accepts-tells = record { none = nobody-critical; some = somebody-critical; clock = refl }
+  accepts_tells : Tells (accepts s)
+  accepts_tells = record { none = nobody_critical; some = somebody_critical; clock = refl }
 
 -- The answer of a step
 
 pub accepted_tells : AcceptedTells
-accepted_tells s act p m a = rw (accepted-is (stepped s act p m) a).is (accepts-tells (effect s act p m))
+accepted_tells s act p m a = rw (accepted_is (stepped s act p m) a).is (accepts_tells (effect s act p m))

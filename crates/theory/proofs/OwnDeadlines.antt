@@ -11,14 +11,14 @@ pub each_its_own : EachItsOwn
 unfolding results_by step_of fresh_of sound_of limits_stand own_stand limits_in entries_sound first_deadline first_by entry_of leaves transition_of effect
     critical_of critical_by limit_at
 each_its_own = record {
-  quick-first = record {
+  quick_first = record {
     fresh = record { parameters = (with_own 1 1000).parameters; accepted = refl; is = refl };
-    quick-late = refl;
-    slow-late = refl;
+    quick_late = refl;
+    slow_late = refl;
   };
-  slow-first = record {
+  slow_first = record {
     fresh = record { parameters = (with_own 1000 1).parameters; accepted = refl; is = refl };
-    quick-late = refl;
-    slow-late = refl;
+    quick_late = refl;
+    slow_late = refl;
   };
 }

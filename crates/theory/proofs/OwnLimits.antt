@@ -12,25 +12,25 @@ use Rattle.model.specs.declared.Parameters.{Parameters}
 use Rattle.model.specs.States.{limits_stand, greatest, largest_limit}
 use Rattle.theory.specs.Soundness.{CountStands, LimitsStand, ParametersStand, LargestIsPlain}
 use Rattle.model.proofs.Tests.{if_lt, tests}
-use Rattle.model.proofs.OwnLimits.{limits_parts, parts_limits, own_all, limit_within, limit-zero, greatest_bounds}
+use Rattle.model.proofs.OwnLimits.{limits_parts, parts_limits, own_all, limit_within, limit_zero, greatest_bounds}
 
 -- Which stand
 
 module _ (k : Parameters) (count : CountStands k.n) where
-  limits-plain : limits_stand k ≡ true → LimitsStand k
-  limits-plain e =
+  limits_plain : limits_stand k ≡ true → LimitsStand k
+  limits_plain e =
       let h = limits_parts k e in
       record {
         size = h.size;
         some = λ i some most. (limit_within k e (i - 1) (omega arith) (omega arith)).0;
         apart = λ i some most. (limit_within k e (i - 1) (omega arith) (omega arith)).1;
-        above = λ i past. limit-zero k e (i - 1) (omega arith);
+        above = λ i past. limit_zero k e (i - 1) (omega arith);
         order = h.order;
         most = h.most;
       }
 
-  plain-limits : LimitsStand k → limits_stand k ≡ true
-  plain-limits h = parts_limits k (record {
+  plain_limits : LimitsStand k → limits_stand k ≡ true
+  plain_limits h = parts_limits k (record {
     size = h.size;
     own = own_all k.n k.b 1 k.a (λ j p q g.
         let at : get_or k.a (p - 1) 0 ≡ get_or k.a j 0 = ap (λ (i : ℕ). get_or k.a i 0) (omega arith) in
@@ -42,8 +42,8 @@ module _ (k : Parameters) (count : CountStands k.n) where
     most = h.most;
   })
 
-  pub limits-iff-plain : (limits_stand k ≡ true) ↔ LimitsStand k
-  limits-iff-plain = (limits-plain, plain-limits)
+  pub limits_iff_plain : (limits_stand k ≡ true) ↔ LimitsStand k
+  limits_iff_plain = (limits_plain, plain_limits)
 
 -- The largest
 

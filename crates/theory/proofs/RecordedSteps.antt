@@ -37,24 +37,24 @@ module _ (s : State) (x : Statistics) (act p m : ℕ) where
       (λ g₂. by_cond Judged (full x.counts) (λ e. filled (not-false _ g₁) (not-false _ g₂) (eqb-true _ _ e))
       (λ g₃. counted (record { sound = not-false _ g₁; summary = not-false _ g₂; not_full = eqb-false _ _ g₃ }))))
 
-  pub unsound-recorded : sound_of s ≡ false → recorded_of s x act p m ≡ beside x (answers 1 0 0 s)
+  pub unsound_recorded : sound_of s ≡ false → recorded_of s x act p m ≡ beside x (answers 1 0 0 s)
   unfolding recorded_of
-  unsound-recorded e = simp e
+  unsound_recorded e = simp e
 
-  pub summary-refused : sound_of s ≡ true → statistics_sound s.clock x ≡ false
+  pub summary_refused : sound_of s ≡ true → statistics_sound s.clock x ≡ false
       → recorded_of s x act p m ≡ beside x (answers 2 0 0 s)
   unfolding recorded_of
-  summary-refused e f = simp (e, f)
+  summary_refused e f = simp (e, f)
 
   -- What is counted, by the number of the answer
 
-  pub answer-accepted : {code : ℕ} → code ≡ 0 → answer_counted s x code act p m ≡ accepted_counted s x act p m
+  pub answer_accepted : {code : ℕ} → code ≡ 0 → answer_counted s x code act p m ≡ accepted_counted s x act p m
   unfolding answer_counted
-  answer-accepted e = rw e
+  answer_accepted e = rw e
 
-  pub answer-refused : {code : ℕ} → code ≢ 0 → answer_counted s x code act p m ≡ refused_counted x
+  pub answer_refused : {code : ℕ} → code ≢ 0 → answer_counted s x code act p m ≡ refused_counted x
   unfolding answer_counted
-  answer-refused {code} n = rw (ne_eqb code 0 n)
+  answer_refused {code} n = rw (ne_eqb code 0 n)
 
   -- 0 and the codes from 4 on are those of a step, so it was counted
 
@@ -62,10 +62,10 @@ module _ (s : State) (x : Statistics) (act p m : ℕ) where
   accepted-counted (no_table _) e = absurd (omega arith)
   accepted-counted (no-summary _ _) e = absurd (omega arith)
   accepted-counted (filled _ _ _) e = absurd (omega arith)
-  accepted-counted (counted _) e = answer-accepted e
+  accepted-counted (counted _) e = answer_accepted e
 
   pub refused-counted : {r : Recorded} → Judged r → 4 ≤ r.outcome.answer.code → r.statistics ≡ refused_counted x
   refused-counted (no_table _) h = absurd (omega arith)
   refused-counted (no-summary _ _) h = absurd (omega arith)
   refused-counted (filled _ _ _) h = absurd (omega arith)
-  refused-counted (counted _) h = answer-refused (omega arith)
+  refused-counted (counted _) h = answer_refused (omega arith)

@@ -6,7 +6,7 @@ use Rattle.model.specs.declared.State.{State}
 use Rattle.model.specs.declared.Answer.{Answer}
 use Rattle.model.specs.declared.Outcome.{Outcome}
 use Rattle.theory.specs.Refusals.{Refusal, RefusedIffRefusal}
-use Rattle.theory.proofs.Steps.{Stepped, stepped, refusal-step}
+use Rattle.theory.proofs.Steps.{Stepped, stepped, refusal_step}
 
 -- a refusal, by its answer
 abbrev RefusedBy : State → ℕ → ℕ → ℕ → Answer → Type 0
@@ -19,5 +19,5 @@ refused_by (Stepped.accepted _ _) n = absurd (n refl)
 pub refused_iff_refusal : RefusedIffRefusal
 refused_iff_refusal s act p m code process time n = (
   λ e. subst (RefusedBy s act p m) e (refused_by (stepped s act p m) (λ z. n (sym (ap (λ (r : Answer). r.code) e) ∙ z))),
-  λ r. ap (λ (o : Outcome). o.answer) (refusal-step s act p m r),
+  λ r. ap (λ (o : Outcome). o.answer) (refusal_step s act p m r),
 )

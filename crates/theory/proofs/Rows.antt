@@ -59,7 +59,7 @@ act_leaves act some most =
 
 -- `From` in the terms of the step: the stage is the one that the act leaves, and a check is not early
 pub record Ready (b m act : ℕ) (l : Location) : Type 0 where
-  pub not-wait : act ≢ wait_act
+  pub not_wait : act ≢ wait_act
   pub known : act ≤ last_act
   pub placed : stage_of l ≡ leaves act
   pub released : act ≡ check_act → since_of l + cond (eqb (stage_of l) checking) b 0 ≤ m
@@ -90,7 +90,7 @@ from_leaves (Leaving t) h Leaves.rem = From.rem
 
 pub ready_from : {b m act : ℕ} (l : Location) → Ready b m act l → From b m act l
 ready_from {act = act} l h =
-    from_leaves l h.released (subst (Leaves act) (sym h.placed) (act_leaves act h.not-wait h.known))
+    from_leaves l h.released (subst (Leaves act) (sym h.placed) (act_leaves act h.not_wait h.known))
 
 -- Where an act may be taken at some time
 
@@ -98,25 +98,25 @@ module _ (s : State) (p : ℕ) {act : ℕ} where
   pub placed_stage : InPlace s act p → stage_of (entry_of s p).location ≡ leaves act
   placed_stage h = (from_ready h.1).placed
 
-  pub stage-placed : act ≢ wait_act → act ≤ last_act → stage_of (entry_of s p).location ≡ leaves act → InPlace s act p
-  stage-placed n k e =
-      (release s (entry_of s p), ready_from _ (record { not-wait = n; known = k; placed = e; released = λ _. omega arith }))
+  pub stage_placed : act ≢ wait_act → act ≤ last_act → stage_of (entry_of s p).location ≡ leaves act → InPlace s act p
+  stage_placed n k e =
+      (release s (entry_of s p), ready_from _ (record { not_wait = n; known = k; placed = e; released = λ _. omega arith }))
 
   -- it is taken then, unless it is a check that comes too early
-  pub placed-from : {m : ℕ} → InPlace s act p → (act ≡ check_act → release s (entry_of s p) ≤ m)
+  pub placed_from : {m : ℕ} → InPlace s act p → (act ≡ check_act → release s (entry_of s p) ≤ m)
       → From s.parameters.b m act (entry_of s p).location
-  placed-from h k =
+  placed_from h k =
       let r = from_ready h.1 in
-      ready_from _ (record { not-wait = r.not-wait; known = r.known; placed = r.placed; released = k })
+      ready_from _ (record { not_wait = r.not_wait; known = r.known; placed = r.placed; released = k })
 
   -- who is in the place of a check is in checking
-  pub placed-checks : act ≡ check_act → InPlace s act p → (entry_of s p).location ≡ Checking (since_of (entry_of s p).location)
+  pub placed_checks : act ≡ check_act → InPlace s act p → (entry_of s p).location ≡ Checking (since_of (entry_of s p).location)
   unfolding leaves
-  placed-checks e h = stage_location (entry_of s p).location {k = checking} (placed_stage h ∙ ap leaves e)
+  placed_checks e h = stage_location (entry_of s p).location {k = checking} (placed_stage h ∙ ap leaves e)
 
   -- and who is in checking is in its place
-  pub checks-placed : {t : ℕ} → act ≡ check_act → (entry_of s p).location ≡ Checking t → InPlace s act p
-  checks-placed {t} e at = (t + s.parameters.b, rw (e, at) (From.check {t = t} (omega arith)))
+  pub checks_placed : {t : ℕ} → act ≡ check_act → (entry_of s p).location ≡ Checking t → InPlace s act p
+  checks_placed {t} e at = (t + s.parameters.b, rw (e, at) (From.check {t = t} (omega arith)))
 
 -- Where it leads
 
@@ -125,10 +125,10 @@ pub row_effect : (s : State) (p : ℕ) {b m act : ℕ} {l : Location} → From b
 unfolding transition_of
 row_effect s p From.try = Effect.try
 row_effect s p {m = m} From.test = by_cond (λ (l : Location). Effect p m test_act s.word l s.word) (eqb s.word 0)
-    (λ e. rw (eqb-true s.word 0 e) Effect.test-free) (λ e. Effect.test-taken (eqb-false s.word 0 e))
+    (λ e. rw (eqb-true s.word 0 e) Effect.test_free) (λ e. Effect.test_taken (eqb-false s.word 0 e))
 row_effect s p From.set = Effect.set
 row_effect s p {m = m} (From.check h) = by_cond (λ (l : Location). Effect p m check_act s.word l s.word) (eqb s.word p)
-    (λ e. rw (eqb-true s.word p e) Effect.check-own) (λ e. Effect.check-other (eqb-false s.word p e))
+    (λ e. rw (eqb-true s.word p e) Effect.check_own) (λ e. Effect.check_other (eqb-false s.word p e))
 row_effect s p From.crit = Effect.crit
 row_effect s p From.exit = Effect.exit
 row_effect s p From.reset = Effect.reset
@@ -140,11 +140,11 @@ row_effect s p From.withdraw = Effect.withdraw
 pub trying_kept : {b p m act w w' : ℕ} {l l' : Location} → From b m act l → Effect p m act w l' w' → clears act ≡ false
     → trying l' ≡ trying l
 trying_kept From.try Effect.try e = absurd (true≢false e)
-trying_kept From.test Effect.test-free e = refl
-trying_kept From.test (Effect.test-taken _) e = refl
+trying_kept From.test Effect.test_free e = refl
+trying_kept From.test (Effect.test_taken _) e = refl
 trying_kept From.set Effect.set e = refl
-trying_kept (From.check _) Effect.check-own e = refl
-trying_kept (From.check _) (Effect.check-other _) e = refl
+trying_kept (From.check _) Effect.check_own e = refl
+trying_kept (From.check _) (Effect.check_other _) e = refl
 trying_kept From.crit Effect.crit e = absurd (true≢false e)
 trying_kept From.exit Effect.exit e = refl
 trying_kept From.reset Effect.reset e = refl

@@ -14,17 +14,17 @@ use Rattle.model.specs.Summaries.{counts_after, unused_time, waited_on, wait_of,
 use Rattle.theory.specs.Acceptance.{Allowed}
 use Rattle.theory.specs.Summaries.{CountsSound, SummarySound, NotFull, SummaryStaysSound}
 use Rattle.model.proofs.Tests.{if_eq, by_cond}
-use Rattle.theory.proofs.Steps.{stepped, accepted-is}
+use Rattle.theory.proofs.Steps.{stepped, accepted_is}
 use Rattle.theory.proofs.Acceptance.{refused_stays}
-use Rattle.theory.proofs.RecordedSteps.{Judged, judged, answer-accepted, answer-refused}
-use Rattle.theory.proofs.Waits.{unused-fits, waited-most, cleared-most}
+use Rattle.theory.proofs.RecordedSteps.{Judged, judged, answer_accepted, answer_refused}
+use Rattle.theory.proofs.Waits.{unused_fits, waited_most, cleared_most}
 
 module _ (s : State) (x : Statistics) (act p m : ℕ) where
-  pub refused-sound : NotFull x → SummarySound s.clock x → SummarySound s.clock (refused_counted x)
-  refused-sound room h = record { counts = omega (arith, h.counts); waited = h.waited }
+  pub refused_sound : NotFull x → SummarySound s.clock x → SummarySound s.clock (refused_counted x)
+  refused_sound room h = record { counts = omega (arith, h.counts); waited = h.waited }
 
-  accepted-counts : (w : ℕ) → w ≤ last_time → NotFull x → CountsSound x.counts → CountsSound (counts_after x.counts act w)
-  accepted-counts w within room h = by_cond CountsSound (eqb act crit_act) (λ _. omega arith)
+  accepted_counts : (w : ℕ) → w ≤ last_time → NotFull x → CountsSound x.counts → CountsSound (counts_after x.counts act w)
+  accepted_counts w within room h = by_cond CountsSound (eqb act crit_act) (λ _. omega arith)
       (λ _. by_cond CountsSound (eqb act exit_act) (λ _. omega arith) (λ _. omega arith))
 
   -- no wait so far is more than the clock, and the unused time is no more than the clock's advance
@@ -34,25 +34,25 @@ module _ (s : State) (x : Statistics) (act p m : ℕ) where
       let qs = s.processes in
       let ws = x.waited in
       let d = unused_time s m in
-      let fits = unused-fits s m allowed.forward in
+      let fits = unused_fits s m allowed.forward in
       record {
-        counts = accepted-counts (wait_of s x p m) (omega (arith, allowed.within, h.waited (p - 1))) room h.counts;
-        waited = λ k. omega (arith, cleared-most act p (waited_on d qs ws) k, waited-most d qs ws k, h.waited k);
+        counts = accepted_counts (wait_of s x p m) (omega (arith, allowed.within, h.waited (p - 1))) room h.counts;
+        waited = λ k. omega (arith, cleared_most act p (waited_on d qs ws) k, waited_most d qs ws k, h.waited k);
       }
 
-  effect-clock : (effect s act p m).clock ≡ m
+  effect_clock : (effect s act p m).clock ≡ m
   unfolding effect
-  effect-clock = by_cond (λ (t : State). t.clock ≡ m) (eqb act wait_act) (λ _. refl) (λ _. refl)
+  effect_clock = by_cond (λ (t : State). t.clock ≡ m) (eqb act wait_act) (λ _. refl) (λ _. refl)
 
-  judged-sound : {r : Recorded} → Judged s x act p m r → SummarySound s.clock x
+  judged_sound : {r : Recorded} → Judged s x act p m r → SummarySound s.clock x
       → SummarySound r.outcome.state.clock r.statistics
-  judged-sound (Judged.no_table _) h = h
-  judged-sound (Judged.no-summary _ _) h = h
-  judged-sound (Judged.filled _ _ _) h = h
-  judged-sound (Judged.counted o) h = if_eq (step_of s act p m).answer.code 0
-      (λ e. let t = accepted-is (stepped s act p m) e in
-      rw (answer-accepted s x act p m e, t.is, effect-clock) (accepted_sound t.allowed o.not_full h))
-      (λ n. rw (answer-refused s x act p m n, refused_stays s act p m n) (refused-sound o.not_full h))
+  judged_sound (Judged.no_table _) h = h
+  judged_sound (Judged.no-summary _ _) h = h
+  judged_sound (Judged.filled _ _ _) h = h
+  judged_sound (Judged.counted o) h = if_eq (step_of s act p m).answer.code 0
+      (λ e. let t = accepted_is (stepped s act p m) e in
+      rw (answer_accepted s x act p m e, t.is, effect_clock) (accepted_sound t.allowed o.not_full h))
+      (λ n. rw (answer_refused s x act p m n, refused_stays s act p m n) (refused_sound o.not_full h))
 
 pub summary_stays_sound : SummaryStaysSound
-summary_stays_sound s x h act p m = judged-sound s x act p m (judged s x act p m) h
+summary_stays_sound s x h act p m = judged_sound s x act p m (judged s x act p m) h

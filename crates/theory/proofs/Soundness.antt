@@ -22,8 +22,8 @@ use Rattle.model.specs.Facts.{Accepted, IsFresh, Arrival}
 use Rattle.theory.specs.Soundness.{CountStands, LimitsStand, ParametersStand, Sound, SoundIffPlain, TwoCriticalMayBeSound}
 use Rattle.theory.specs.Soundness.{Fresh, FreshTable, FreshIsPlain}
 use Rattle.model.proofs.Tests.{by_test, by_cond, clash, and_true_iff, tests}
-use Rattle.theory.proofs.OwnLimits.{limits-iff-plain}
-use Rattle.theory.proofs.Entries.{same_at, Among, here, there, each-entry, among_entry, among_from}
+use Rattle.theory.proofs.OwnLimits.{limits_iff_plain}
+use Rattle.theory.proofs.Entries.{same_at, Among, here, there, each_entry, among_entry, among_from}
 use Rattle.model.proofs.Locations.{stage_location}
 use Rattle.theory.proofs.Locations.{Latest, past_iff, not_late_iff}
 
@@ -71,7 +71,7 @@ entries_all s i (q ∷ qs) h = (and_true_iff _ _).1 (h i q here, entries_all s (
 
 entries_plain : (s : State) → entries_sound s 1 s.processes ≡ true → (i : ℕ) → 1 ≤ i → EntryPlain s i (entry_of s i)
 entries_plain s e =
-    each-entry (EntryPlain s) (λ j. remainder_plain s j idle refl) s (λ j q a. entry_plain s j q (entries_each s a e))
+    each_entry (EntryPlain s) (λ j. remainder_plain s j idle refl) s (λ j q a. entry_plain s j q (entries_each s a e))
 
 -- the part of `Sound` that speaks of no process
 pub record NumbersPlain (s : State) : Type 0 where
@@ -87,7 +87,7 @@ sound_from s h each = record {
   clock = h.clock;
   word = h.word;
   above = λ i k. (each i (omega arith)).above k;
-  past = λ i. elim i [ zero ↦ (each 1 (omega arith)).past | suc k ↦ (each (suc k) (omega arith)).past ];
+  past = λ i. elim i as (λ (k : ℕ). (t : ℕ) → Arrival (entry_of s k).location t → t ≤ s.clock) [ zero ↦ (each 1 (omega arith)).past | suc k ↦ (each (suc k) (omega arith)).past ];
   in-time = λ i d k. (each i k.from).in-time d k.is;
 }
 
@@ -97,7 +97,7 @@ sound_plain s e =
     let h = simp tests at e in
     let count : CountStands s.parameters.n = omega arith in
     sound_from s (record {
-      parameters = record { count = count; limits = (limits-iff-plain s.parameters count).0 h.0.0.0.1 };
+      parameters = record { count = count; limits = (limits_iff_plain s.parameters count).0 h.0.0.0.1 };
       clock = omega arith;
       word = omega arith;
     }) (entries_plain s h.1)
@@ -105,7 +105,7 @@ sound_plain s e =
 plain_sound : (s : State) → Sound s → sound_of s ≡ true
 unfolding sound_of
 plain_sound s h = simp tests (
-  (((omega arith, (limits-iff-plain s.parameters h.parameters.count).1 h.parameters.limits), omega arith), omega arith),
+  (((omega arith, (limits_iff_plain s.parameters h.parameters.count).1 h.parameters.limits), omega arith), omega arith),
   entries_all s 1 s.processes (λ j q a. plain_entry s j q (subst (EntryPlain s j) (among_entry s a) (record {
     above = h.above j;
     past = h.past j;
@@ -125,9 +125,9 @@ other e n = n (ap (λ (r : Answer). r.code) e)
 initial_fresh : (k : Parameters) → Fresh k (initial k)
 unfolding entry_of
 initial_fresh k = record {
-  parameters-are = refl;
-  clock-is = refl;
-  word-is = refl;
+  parameters_are = refl;
+  clock_is = refl;
+  word_is = refl;
   size = refl;
   all = λ i. ap (λ (q : Process). q.location) (same_at 96 (i - 1) idle);
 }
@@ -152,23 +152,23 @@ blank_unsound = refl
 -- what `fresh_of` gives, and why
 data Made (k : Parameters) : Outcome → Type 0 where
   given : ParametersStand k → Made k (answers 0 0 0 (initial k))
-  no-count : (CountStands k.n → ⊥) → Made k (answers 11 0 0 blank)
-  no-limits : CountStands k.n → (LimitsStand k → ⊥) → Made k (answers 12 0 0 blank)
+  no_count : (CountStands k.n → ⊥) → Made k (answers 11 0 0 blank)
+  no_limits : CountStands k.n → (LimitsStand k → ⊥) → Made k (answers 12 0 0 blank)
 
 made : (k : Parameters) → Made k (fresh_of k)
 unfolding fresh_of
 made k =
-    by_cond (Made k) (not (count_stands k.n)) (λ e. no-count (λ h. omega (arith, (simp tests at e) h.some)))
+    by_cond (Made k) (not (count_stands k.n)) (λ e. no_count (λ h. omega (arith, (simp tests at e) h.some)))
     (λ f. let count : CountStands k.n = omega (arith, simp tests at f) in
-    let limits = limits-iff-plain k count in
-    by_cond (Made k) (not (limits_stand k)) (λ e. no-limits count (λ h. clash (limits.1 h) (not-true _ e)))
+    let limits = limits_iff_plain k count in
+    by_cond (Made k) (not (limits_stand k)) (λ e. no_limits count (λ h. clash (limits.1 h) (not-true _ e)))
     (λ g. given (record { count = count; limits = limits.0 (not-false _ g) })))
 
 module _ {k : Parameters} where
   -- a refusal, whichever: nothing is given
-  refused-table : {code : ℕ} → code ≢ 0 → (ParametersStand k → ⊥) → ((answer_of code 0 0 ≡ answer_of 11 0 0) ↔ (CountStands k.n → ⊥))
+  refused_table : {code : ℕ} → code ≢ 0 → (ParametersStand k → ⊥) → ((answer_of code 0 0 ≡ answer_of 11 0 0) ↔ (CountStands k.n → ⊥))
       → ((answer_of code 0 0 ≡ answer_of 12 0 0) ↔ (CountStands k.n × (LimitsStand k → ⊥))) → FreshTable k (answers code 0 0 blank)
-  refused-table n stands count limits = record {
+  refused_table n stands count limits = record {
     accepted = (λ e. absurd (n e), λ h. absurd (stands h));
     answer = λ e. absurd (n e);
     count = count;
@@ -190,10 +190,10 @@ module _ {k : Parameters} where
     refused = λ n. absurd (n refl);
     unsound = λ n. absurd (n refl);
   }
-  made_table (no-count n) = refused-table (omega arith) (λ h. n h.count)
+  made_table (no_count n) = refused_table (omega arith) (λ h. n h.count)
       (λ _. n, λ _. refl)
       (λ e. absurd (other e (omega arith)), λ h. absurd (n h.0))
-  made_table (no-limits c n) = refused-table (omega arith) (λ h. n h.limits)
+  made_table (no_limits c n) = refused_table (omega arith) (λ h. n h.limits)
       (λ e. absurd (other e (omega arith)), λ h. absurd (h c))
       (λ _. (c, n), λ _. refl)
 

@@ -18,10 +18,10 @@ use Rattle.theory.specs.Acceptance.{Allowed}
 use Rattle.theory.specs.Lateness.{AllInTime}
 use Rattle.theory.specs.Refusals.{InPlace, Forward, Within, Known, Named, OnTime, Refusal}
 use Rattle.model.proofs.Tests.{by_test, by_cond, tests}
-use Rattle.theory.proofs.Rows.{placed-checks, checks-placed}
+use Rattle.theory.proofs.Rows.{placed_checks, checks_placed}
 use Rattle.theory.proofs.Soundness.{sound_iff_plain}
 use Rattle.theory.proofs.Lateness.{missed_first, first_is_due, none_missed_iff_all_in_time}
-use Rattle.theory.proofs.Conditions.{opposite, misnamed_told, misplaced-told, placed-told, release_is, early_told, turn-fits, fits-turn}
+use Rattle.theory.proofs.Conditions.{opposite, misnamed_told, misplaced_told, placed_told, release_is, early_told, turn_fits, fits_turn}
 
 module _ (s : State) (act p m : ℕ) where
   -- From the conditions to the step
@@ -45,18 +45,18 @@ module _ (s : State) (act p m : ℕ) where
         named = (opposite (misnamed_told s.parameters.n act p)).1 h.named;
       }
 
-  none-missed : AllInTime s m → missed (first_deadline s) m ≡ false
-  none-missed = (none_missed_iff_all_in_time s m).1
+  none_missed : AllInTime s m → missed (first_deadline s) m ≡ false
+  none_missed = (none_missed_iff_all_in_time s m).1
 
-  pub refusal-step : {code process time : ℕ} → Refusal s act p m code process time → step_of s act p m ≡ answers code process time s
+  pub refusal_step : {code process time : ℕ} → Refusal s act p m code process time → step_of s act p m ≡ answers code process time s
   unfolding step_of
-  refusal-step (Refusal.unsound n) = simp ((opposite (sound_iff_plain s)).1 n)
-  refusal-step (Refusal.backward h k) = simp ((sound_iff_plain s).1 h, lt-ltb _ _ k)
-  refusal-step (Refusal.beyond h k) = simp ((sound_iff_plain s).1 h.sound, le-ltb _ _ h.forward, lt-ltb _ _ k)
-  refusal-step (Refusal.unknown h k) =
+  refusal_step (Refusal.unsound n) = simp ((opposite (sound_iff_plain s)).1 n)
+  refusal_step (Refusal.backward h k) = simp ((sound_iff_plain s).1 h, lt-ltb _ _ k)
+  refusal_step (Refusal.beyond h k) = simp ((sound_iff_plain s).1 h.sound, le-ltb _ _ h.forward, lt-ltb _ _ k)
+  refusal_step (Refusal.unknown h k) =
       let f = h.before in
       simp ((sound_iff_plain s).1 f.sound, le-ltb _ _ f.forward, le-ltb _ _ h.within, lt-ltb _ _ k)
-  refusal-step (Refusal.misnamed h k) =
+  refusal_step (Refusal.misnamed h k) =
       let f = h.before.before in
       simp (
         (sound_iff_plain s).1 f.sound,
@@ -65,7 +65,7 @@ module _ (s : State) (act p m : ℕ) where
         le-ltb _ _ h.known,
         (misnamed_told _ _ _).1 k,
       )
-  refusal-step (Refusal.late i d h k) =
+  refusal_step (Refusal.late i d h k) =
       let a = admitted h in
       simp (
         a.sound,
@@ -77,27 +77,27 @@ module _ (s : State) (act p m : ℕ) where
         ne_eqb i 0 (omega (arith, k.first.has.from)),
         lt-ltb _ _ k.missed,
       )
-  refusal-step (Refusal.misplaced h n k) =
+  refusal_step (Refusal.misplaced h n k) =
       let a = admitted h.before in
-      let e = (misplaced-told s act p h.before.before.known).1 (n, k) in
-      simp (a.sound, a.forward, a.within, a.known, a.named, none-missed h.in-time, e)
-  refusal-step (Refusal.early t h c at k) =
+      let e = (misplaced_told s act p h.before.before.known).1 (n, k) in
+      simp (a.sound, a.forward, a.within, a.known, a.named, none_missed h.in-time, e)
+  refusal_step (Refusal.early t h c at k) =
       let a = admitted h.before in
-      let placed = (placed-told s act p h.before.before.known).1 (λ _. checks-placed s p c at) in
+      let placed = (placed_told s act p h.before.before.known).1 (λ _. checks_placed s p c at) in
       let e = (early_told s act p m at).1 (c, k) in
-      simp (a.sound, a.forward, a.within, a.known, a.named, none-missed h.in-time, placed, e) (rw (release_is s p at))
+      simp (a.sound, a.forward, a.within, a.known, a.named, none_missed h.in-time, placed, e) (rw (release_is s p at))
 
-  pub allowed-step : Sound s → Allowed s act p m → step_of s act p m ≡ accepts (effect s act p m)
+  pub allowed_step : Sound s → Allowed s act p m → step_of s act p m ≡ accepts (effect s act p m)
   unfolding step_of
-  allowed-step sound h =
-      let f = turn-fits s act p m h.turn in
+  allowed_step sound h =
+      let f = turn_fits s act p m h.turn in
       simp (
         (sound_iff_plain s).1 sound,
         le-ltb _ _ h.forward,
         le-ltb _ _ h.within,
         le-ltb _ _ f.known,
         f.named,
-        none-missed h.in-time,
+        none_missed h.in-time,
         f.placed,
         f.released,
       )
@@ -113,10 +113,10 @@ module _ (s : State) (act p m : ℕ) where
     before : OnTime s act p m
     placed : act ≢ wait_act → InPlace s act p
 
-  too-early : Placed → early (release s (entry_of s p)) act m ≡ true → Refusal s act p m 10 p (release s (entry_of s p))
-  too-early h e =
+  too_early : Placed → early (release s (entry_of s p)) act m ≡ true → Refusal s act p m 10 p (release s (entry_of s p))
+  too_early h e =
       let check = (simp tests at e).0 in
-      let at = placed-checks s p check (h.placed (omega arith)) in
+      let at = placed_checks s p check (h.placed (omega arith)) in
       rw (release_is s p at) (Refusal.early _ h.before check at ((early_told s act p m at).0 e).1)
 
   passed : Placed → early (release s (entry_of s p)) act m ≡ false → Stepped (accepts (effect s act p m))
@@ -126,10 +126,10 @@ module _ (s : State) (act p m : ℕ) where
         forward = known.before.before.forward;
         within = known.before.within;
         in-time = h.before.in-time;
-        turn = fits-turn s act p m (record {
+        turn = fits_turn s act p m (record {
           known = known.known;
           named = (opposite (misnamed_told s.parameters.n act p)).1 h.before.before.named;
-          placed = (placed-told s act p known.known).1 h.placed;
+          placed = (placed_told s act p known.known).1 h.placed;
           released = e;
         });
       })
@@ -151,9 +151,9 @@ module _ (s : State) (act p m : ℕ) where
       by_cond Stepped (missed (first_deadline s) m) (λ e. refused (Refusal.late _ _ named (missed_first s m e)))
       (λ g₈. let in-time : OnTime s act p m = record { before = named; in-time = (none_missed_iff_all_in_time s m).0 g₈ } in
       by_cond Stepped (misplaced (stage_of (entry_of s p).location) act)
-      (λ e. let h = (misplaced-told s act p known.known).0 e in refused (Refusal.misplaced in-time h.0 h.1))
-      (λ g₉. let placed : Placed = record { before = in-time; placed = (placed-told s act p known.known).0 g₉ } in
-      by_cond Stepped (early (release s (entry_of s p)) act m) (λ e. refused (too-early placed e)) (λ g₁₀. passed placed g₁₀))))))))
+      (λ e. let h = (misplaced_told s act p known.known).0 e in refused (Refusal.misplaced in-time h.0 h.1))
+      (λ g₉. let placed : Placed = record { before = in-time; placed = (placed_told s act p known.known).0 g₉ } in
+      by_cond Stepped (early (release s (entry_of s p)) act m) (λ e. refused (too_early placed e)) (λ g₁₀. passed placed g₁₀))))))))
 
 -- What an answer tells
 
@@ -174,33 +174,33 @@ pub record Taken (s : State) (act p m : ℕ) (o : Outcome) : Type 0 where
   pub is : o ≡ accepts (effect s act p m)
 
 module _ {s : State} {act p m : ℕ} where
-  refusal-code : {code process time : ℕ} → Refusal s act p m code process time → Refusing s code
-  refusal-code (Refusal.unsound n) = record { some = omega arith; counted = λ h. absurd (n h) }
-  refusal-code (Refusal.backward _ _) = omega arith
-  refusal-code (Refusal.beyond _ _) = omega arith
-  refusal-code (Refusal.unknown _ _) = omega arith
-  refusal-code (Refusal.misnamed _ _) = omega arith
-  refusal-code (Refusal.late _ _ _ _) = omega arith
-  refusal-code (Refusal.misplaced _ _ _) = omega arith
-  refusal-code (Refusal.early _ _ _ _ _) = omega arith
+  refusal_code : {code process time : ℕ} → Refusal s act p m code process time → Refusing s code
+  refusal_code (Refusal.unsound n) = record { some = omega arith; counted = λ h. absurd (n h) }
+  refusal_code (Refusal.backward _ _) = omega arith
+  refusal_code (Refusal.beyond _ _) = omega arith
+  refusal_code (Refusal.unknown _ _) = omega arith
+  refusal_code (Refusal.misnamed _ _) = omega arith
+  refusal_code (Refusal.late _ _ _ _) = omega arith
+  refusal_code (Refusal.misplaced _ _ _) = omega arith
+  refusal_code (Refusal.early _ _ _ _ _) = omega arith
 
-  pub accepted-is : {o : Outcome} → Stepped s act p m o → Accepted o → Taken s act p m o
-  accepted-is (refused r) e = absurd ((refusal-code r).some e)
-  accepted-is (accepted sound h) e = record { sound = sound; allowed = h; is = refl }
+  pub accepted_is : {o : Outcome} → Stepped s act p m o → Accepted o → Taken s act p m o
+  accepted_is (refused r) e = absurd ((refusal_code r).some e)
+  accepted_is (accepted sound h) e = record { sound = sound; allowed = h; is = refl }
 
-  sound-refuses : {o : Outcome} → Stepped s act p m o → Sound s → o.answer.code ≢ 0 → Refuses o.answer.code
-  sound-refuses (refused r) h n = (refusal-code r).counted h
-  sound-refuses (accepted _ _) h n = absurd (n refl)
+  sound_refuses : {o : Outcome} → Stepped s act p m o → Sound s → o.answer.code ≢ 0 → Refuses o.answer.code
+  sound_refuses (refused r) h n = (refusal_code r).counted h
+  sound_refuses (accepted _ _) h n = absurd (n refl)
 
 module _ (s : State) (act p m : ℕ) where
-  pub step-refuses : sound_of s ≡ true → (step_of s act p m).answer.code ≢ 0 → Refuses (step_of s act p m).answer.code
-  step-refuses e = sound-refuses (stepped s act p m) ((sound_iff_plain s).0 e)
+  pub step_refuses : sound_of s ≡ true → (step_of s act p m).answer.code ≢ 0 → Refuses (step_of s act p m).answer.code
+  step_refuses e = sound_refuses (stepped s act p m) ((sound_iff_plain s).0 e)
 
-  pub unsound-is : sound_of s ≡ false → step_of s act p m ≡ answers 1 0 0 s
-  unsound-is e = refusal-step s act p m (Refusal.unsound ((opposite (sound_iff_plain s)).0 e))
+  pub unsound_is : sound_of s ≡ false → step_of s act p m ≡ answers 1 0 0 s
+  unsound_is e = refusal_step s act p m (Refusal.unsound ((opposite (sound_iff_plain s)).0 e))
 
 pub unsound_iff_one : UnsoundIffOne
 unsound_iff_one s act p m = (
-  λ e. by_test (sound_of s) (λ f. absurd (omega (arith, step-refuses s act p m f (omega arith)))) (λ f. f),
-  λ f. rw (unsound-is s act p m f),
+  λ e. by_test (sound_of s) (λ f. absurd (omega (arith, step_refuses s act p m f (omega arith)))) (λ f. f),
+  λ f. rw (unsound_is s act p m f),
 )

@@ -18,7 +18,7 @@ use Rattle.theory.specs.Summaries.{SummarySound, SummarySoundIffPlain, HasRoom, 
 use Rattle.model.proofs.Tests.{if_eq, and_true_iff, clash, tests}
 use Rattle.theory.proofs.Soundness.{sound_iff_plain}
 use Rattle.theory.proofs.Acceptance.{accepted_iff_allowed, refused_stays}
-use Rattle.theory.proofs.Steps.{unsound_iff_one, unsound-is, step-refuses}
+use Rattle.theory.proofs.Steps.{unsound_iff_one, unsound_is, step_refuses}
 use Rattle.theory.proofs.RecordedSteps.{Open, Judged, judged, accepted-counted, refused-counted}
 use Rattle.theory.proofs.Countings.{refused_added, accepted_added}
 
@@ -53,16 +53,16 @@ module _ (s : State) (x : Statistics) (act p m : ℕ) where
   Tells = RecordedTells s x act p m
 
   -- a step of a sound table answers none of 1, 2 and 3
-  step-none : sound_of s ≡ true → (step_of s act p m).answer.code ≤ 3 → (step_of s act p m).answer.code ≡ 0
-  step-none sound h =
-      if_eq (step_of s act p m).answer.code 0 (λ e. e) (λ n. absurd (omega (arith, step-refuses s act p m sound n)))
+  step_none : sound_of s ≡ true → (step_of s act p m).answer.code ≤ 3 → (step_of s act p m).answer.code ≡ 0
+  step_none sound h =
+      if_eq (step_of s act p m).answer.code 0 (λ e. e) (λ n. absurd (omega (arith, step_refuses s act p m sound n)))
 
-  open-room : Open s x act p m → HasRoom s.clock x
-  open-room o = record { sound = (summary_sound_iff_plain s.clock x).0 o.summary; not_full = o.not_full }
+  open_room : Open s x act p m → HasRoom s.clock x
+  open_room o = record { sound = (summary_sound_iff_plain s.clock x).0 o.summary; not_full = o.not_full }
 
-  counted-tells : sound_of s ≡ true → HasRoom s.clock x → Tells (counting s x act p m (step_of s act p m))
-  counted-tells sound room =
-      let none = step-none sound in
+  counted_tells : sound_of s ≡ true → HasRoom s.clock x → Tells (counting s x act p m (step_of s act p m))
+  counted_tells sound room =
+      let none = step_none sound in
       record {
         one = unsound_iff_one s act p m;
         two = (λ e. absurd (omega (arith, none (omega arith))), λ h. absurd (h.1 room.sound));
@@ -71,22 +71,22 @@ module _ (s : State) (x : Statistics) (act p m : ℕ) where
         unchanged = λ h k. absurd (omega (arith, none (omega arith)));
       }
 
-  judged-tells : {r : Recorded} → Judged s x act p m r → Tells r
-  judged-tells (Judged.no_table e) = record {
+  judged_tells : {r : Recorded} → Judged s x act p m r → Tells r
+  judged_tells (Judged.no_table e) = record {
     one = (λ _. e, λ _. refl);
     two = (λ c. absurd (omega arith), λ h. clash h.0 e);
     three = (λ c. absurd (omega arith), λ h. clash h.0 e);
-    step = λ _. sym (unsound-is s act p m e);
+    step = λ _. sym (unsound_is s act p m e);
     unchanged = λ h k. (refl, refl, refl);
   }
-  judged-tells (Judged.no-summary sound e) = record {
+  judged_tells (Judged.no-summary sound e) = record {
     one = (λ c. absurd (omega arith), λ f. clash sound f);
     two = (λ c. (sound, unsound_summary e), λ _. refl);
     three = (λ c. absurd (omega arith), λ h. absurd (unsound_summary e h.1));
     step = λ room. absurd (unsound_summary e room.sound);
     unchanged = λ h k. (refl, refl, refl);
   }
-  judged-tells (Judged.filled sound stands e) =
+  judged_tells (Judged.filled sound stands e) =
       let plain = (summary_sound_iff_plain s.clock x).0 stands in
       record {
         one = (λ c. absurd (omega arith), λ f. clash sound f);
@@ -95,10 +95,10 @@ module _ (s : State) (x : Statistics) (act p m : ℕ) where
         step = λ room. absurd (room.not_full e);
         unchanged = λ h k. (refl, refl, refl);
       }
-  judged-tells (Judged.counted o) = counted-tells o.sound (open-room o)
+  judged_tells (Judged.counted o) = counted_tells o.sound (open_room o)
 
 pub recorded_is_plain : RecordedIsPlain
-recorded_is_plain s x act p m = judged-tells s x act p m (judged s x act p m)
+recorded_is_plain s x act p m = judged_tells s x act p m (judged s x act p m)
 
 -- What is counted
 
@@ -111,7 +111,7 @@ every_act_counted s x plain room size act p m =
       step = step;
       refused = λ n. (
         ap (λ (o : Outcome). o.state) step ∙ refused_stays s act p m (rw step at n),
-        rw (refused-counted s x act p m why (rw step (step-refuses s act p m sound (rw step at n)).some)) (refused_added x),
+        rw (refused-counted s x act p m why (rw step (step_refuses s act p m sound (rw step at n)).some)) (refused_added x),
       );
       accepted = λ e.
           let allowed = (accepted_iff_allowed s sound act p m).0 (rw step at e) in

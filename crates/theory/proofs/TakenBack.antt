@@ -16,9 +16,9 @@ use Rattle.theory.specs.Acceptance.{From, Effect, Acts, Allowed, Changed, ClockO
 use Rattle.model.proofs.Tests.{if_eq}
 use Rattle.theory.proofs.Entries.{entries_same}
 use Rattle.theory.proofs.Soundness.{sound_iff_plain}
-use Rattle.theory.proofs.Steps.{stepped, accepted-is}
+use Rattle.theory.proofs.Steps.{stepped, accepted_is}
 use Rattle.theory.proofs.Acceptance.{accepted_iff_allowed, next_is_changed}
-use Rattle.theory.proofs.StaysSound.{stays-sound}
+use Rattle.theory.proofs.StaysSound.{stays_sound}
 
 -- The rows of the two acts
 
@@ -40,14 +40,14 @@ module _ {s s' : State} {p m : ℕ} (sound : Sound s) (allowed : Allowed s try_a
   tried : ((entry_of s' p).location ≡ Testing m) × (s'.word ≡ s.word)
   tried = try_effect (changed.effect (omega arith))
 
-  withdraw-allowed : Allowed s' withdraw_act p m
-  withdraw-allowed =
-      let after = stays-sound sound allowed changed in
-      let same = ap (λ (k : Parameters). k.n) changed.parameters-stay in
+  withdraw_allowed : Allowed s' withdraw_act p m
+  withdraw_allowed =
+      let after = stays_sound sound allowed changed in
+      let same = ap (λ (k : Parameters). k.n) changed.parameters_stay in
       record {
-        forward = omega (arith, changed.clock-is);
+        forward = omega (arith, changed.clock_is);
         within = allowed.within;
-        in-time = λ i d h. omega (arith, changed.clock-is, after.in-time i d h);
+        in-time = λ i d h. omega (arith, changed.clock_is, after.in-time i d h);
         turn = inr (record { some = tries.some; most = omega (arith, tries.most, same); from = rw tried.0 From.withdraw });
       }
 
@@ -55,26 +55,26 @@ module _ {s s' : State} {p m : ℕ} (sound : Sound s) (allowed : Allowed s try_a
     withdrawn : ((entry_of s'' p).location ≡ Remainder) × (s''.word ≡ s'.word)
     withdrawn = withdraw_effect (again.effect (omega arith))
 
-    clock-only : ClockOnly s m s''
-    clock-only = record {
-      parameters-stay = again.parameters-stay ∙ changed.parameters-stay;
-      clock-is = again.clock-is;
-      word-stays = withdrawn.1 ∙ tried.1;
-      entries-stay = entries_same s s'' (again.size-stays ∙ changed.size-stays) (λ i some. if_eq i p
+    clock_only : ClockOnly s m s''
+    clock_only = record {
+      parameters_stay = again.parameters_stay ∙ changed.parameters_stay;
+      clock_is = again.clock_is;
+      word_stays = withdrawn.1 ∙ tried.1;
+      entries_stay = entries_same s s'' (again.size_stays ∙ changed.size_stays) (λ i some. if_eq i p
           (λ e. rw e (ap entry (withdrawn.0 ∙ sym (try_from tries.from))))
-          (λ n. again.others-stay i some n ∙ changed.others-stay i some n));
+          (λ n. again.others_stay i some n ∙ changed.others_stay i some n));
     }
 
 -- The two steps
 
 pub withdraw_undoes_try : WithdrawUndoesTry
 withdraw_undoes_try s size p m a =
-    let t = accepted-is (stepped s try_act p m) a in
+    let t = accepted_is (stepped s try_act p m) a in
     let changed = next_is_changed s size try_act p m a in
     let s' = (step_of s try_act p m).state in
-    let sound = (sound_iff_plain s').1 (stays-sound t.sound t.allowed changed) in
-    let back = (accepted_iff_allowed s' sound withdraw_act p m).1 (withdraw-allowed t.sound t.allowed changed) in
+    let sound = (sound_iff_plain s').1 (stays_sound t.sound t.allowed changed) in
+    let back = (accepted_iff_allowed s' sound withdraw_act p m).1 (withdraw_allowed t.sound t.allowed changed) in
     record {
       accepted = back;
-      state = clock-only t.sound t.allowed changed (next_is_changed s' (changed.size-stays ∙ size) withdraw_act p m back);
+      state = clock_only t.sound t.allowed changed (next_is_changed s' (changed.size_stays ∙ size) withdraw_act p m back);
     }

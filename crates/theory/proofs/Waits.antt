@@ -22,20 +22,20 @@ use Rattle.theory.specs.Summaries.{Clears}
 use Rattle.model.proofs.Tests.{by_test, if_eq, if_lt, by_cond, clash}
 use Rattle.theory.proofs.Entries.{entry_at}
 use Rattle.theory.proofs.Rows.{from_ready, trying_kept}
-use Rattle.theory.proofs.Lowest.{nobody-critical}
+use Rattle.theory.proofs.Lowest.{nobody_critical}
 
 -- Unused time
 
 module _ (s : State) (m : ℕ) where
-  pub unused-free : ((i : ℕ) → IsCritical s i → ⊥) → unused_time s m ≡ m - s.clock
-  unused-free none = rw (eq-eqb (critical_of s) 0 ((nobody-critical s).1 none))
+  pub unused_free : ((i : ℕ) → IsCritical s i → ⊥) → unused_time s m ≡ m - s.clock
+  unused_free none = rw (eq-eqb (critical_of s) 0 ((nobody_critical s).1 none))
 
-  pub unused-used : {i : ℕ} → IsCritical s i → unused_time s m ≡ 0
-  unused-used {i} c = rw (ne_eqb (critical_of s) 0 (λ e. (nobody-critical s).0 e i c))
+  pub unused_used : {i : ℕ} → IsCritical s i → unused_time s m ≡ 0
+  unused_used {i} c = rw (ne_eqb (critical_of s) 0 (λ e. (nobody_critical s).0 e i c))
 
   -- what is sound before the act, with its unused time, is sound after it
-  pub unused-fits : s.clock ≤ m → unused_time s m + s.clock ≤ m
-  unused-fits forward = by_cond (λ (d : ℕ). d + s.clock ≤ m) (eqb (critical_of s) 0) (λ _. omega arith) (λ _. omega arith)
+  pub unused_fits : s.clock ≤ m → unused_time s m + s.clock ≤ m
+  unused_fits forward = by_cond (λ (d : ℕ). d + s.clock ≤ m) (eqb (critical_of s) 0) (λ _. omega arith) (λ _. omega arith)
 
 -- Time that is added
 
@@ -58,27 +58,27 @@ waited_at d (q ∷ qs) (w ∷ ws) zero h = refl
 waited_at d (q ∷ qs) (w ∷ ws) (suc k) h = waited_at d qs ws k (omega arith)
 
 module _ (d : ℕ) (qs : List Process) (ws : List ℕ) where
-  pub waited-past : (k : ℕ) → length ws ≤ k → get_or (waited_on d qs ws) k 0 ≡ 0
-  waited-past k h = get_or-eq_default (waited_on d qs ws) 0 (omega (arith, length_waited_on d qs ws))
+  pub waited_past : (k : ℕ) → length ws ≤ k → get_or (waited_on d qs ws) k 0 ≡ 0
+  waited_past k h = get_or-eq_default (waited_on d qs ws) 0 (omega (arith, length_waited_on d qs ws))
 
-  pub waited-trying : (k : ℕ) → k < length ws → trying_at qs k ≡ true → get_or (waited_on d qs ws) k 0 ≡ get_or ws k 0 + d
-  waited-trying k h e = waited_at d qs ws k h ∙ rw e
+  pub waited_trying : (k : ℕ) → k < length ws → trying_at qs k ≡ true → get_or (waited_on d qs ws) k 0 ≡ get_or ws k 0 + d
+  waited_trying k h e = waited_at d qs ws k h ∙ rw e
 
   -- past the list's end too
-  pub waited-other : (k : ℕ) → trying_at qs k ≡ false → get_or (waited_on d qs ws) k 0 ≡ get_or ws k 0
-  waited-other k e = if_lt k (length ws)
+  pub waited_other : (k : ℕ) → trying_at qs k ≡ false → get_or (waited_on d qs ws) k 0 ≡ get_or ws k 0
+  waited_other k e = if_lt k (length ws)
       (λ h. waited_at d qs ws k h ∙ rw e)
-      (λ h. waited-past k h ∙ sym (get_or-eq_default ws 0 h))
+      (λ h. waited_past k h ∙ sym (get_or-eq_default ws 0 h))
 
-  pub waited-most : (k : ℕ) → get_or (waited_on d qs ws) k 0 ≤ get_or ws k 0 + d
-  waited-most k = if_lt k (length ws)
-      (λ h. by_test (trying_at qs k) (λ e. omega (arith, waited-trying k h e)) (λ e. omega (arith, waited-other k e)))
-      (λ h. omega (arith, waited-past k h))
+  pub waited_most : (k : ℕ) → get_or (waited_on d qs ws) k 0 ≤ get_or ws k 0 + d
+  waited_most k = if_lt k (length ws)
+      (λ h. by_test (trying_at qs k) (λ e. omega (arith, waited_trying k h e)) (λ e. omega (arith, waited_other k e)))
+      (λ h. omega (arith, waited_past k h))
 
 pub waited_on_zero : (qs : List Process) (ws : List ℕ) → waited_on 0 qs ws ≡ ws
 waited_on_zero qs ws = ext_get_or 0 _ _ (length_waited_on 0 qs ws) (λ k h. by_test (trying_at qs k)
-    (λ e. waited-trying 0 qs ws k (omega (arith, length_waited_on 0 qs ws)) e ∙ omega arith)
-    (waited-other 0 qs ws k))
+    (λ e. waited_trying 0 qs ws k (omega (arith, length_waited_on 0 qs ws)) e ∙ omega arith)
+    (waited_other 0 qs ws k))
 
 -- lists that differ in one place alone are the same once one value stands there
 same_but : (l l' : List ℕ) (p v : ℕ) → length l ≡ length l' → ((k : ℕ) → k ≢ p → get_or l k 0 ≡ get_or l' k 0) → set l p v ≡ set l' p v
@@ -95,14 +95,14 @@ module _ (d : ℕ) (qs qs' : List Process) (ws : List ℕ) where
   alike_at : (k : ℕ) → trying_at qs k ≡ trying_at qs' k → get_or (waited_on d qs ws) k 0 ≡ get_or (waited_on d qs' ws) k 0
   alike_at k e = if_lt k (length ws)
       (λ h. waited_at d qs ws k h ∙ sym (rw e (waited_at d qs' ws k h)))
-      (λ h. waited-past d qs ws k h ∙ sym (waited-past d qs' ws k h))
+      (λ h. waited_past d qs ws k h ∙ sym (waited_past d qs' ws k h))
 
-  pub waited-alike : ((k : ℕ) → trying_at qs k ≡ trying_at qs' k) → waited_on d qs ws ≡ waited_on d qs' ws
-  waited-alike same = ext_get_or 0 _ _ as_long (λ k _. alike_at k (same k))
+  pub waited_alike : ((k : ℕ) → trying_at qs k ≡ trying_at qs' k) → waited_on d qs ws ≡ waited_on d qs' ws
+  waited_alike same = ext_get_or 0 _ _ as_long (λ k _. alike_at k (same k))
 
-  pub waited-alike-but : (p v : ℕ) → ((k : ℕ) → k ≢ p → trying_at qs k ≡ trying_at qs' k)
+  pub waited_alike_but : (p v : ℕ) → ((k : ℕ) → k ≢ p → trying_at qs k ≡ trying_at qs' k)
       → set (waited_on d qs ws) p v ≡ set (waited_on d qs' ws) p v
-  waited-alike-but p v same = same_but (waited_on d qs ws) (waited_on d qs' ws) p v as_long (λ k n. alike_at k (same k n))
+  waited_alike_but p v same = same_but (waited_on d qs ws) (waited_on d qs' ws) p v as_long (λ k n. alike_at k (same k n))
 
 -- A place that is cleared
 
@@ -128,18 +128,18 @@ zero_put (w ∷ ws) (suc i) zero = omega arith
 zero_put (w ∷ ws) (suc i) (suc k) = zero_put ws i k
 
 module _ (act p : ℕ) (ws : List ℕ) where
-  pub length-cleared : length (cleared_by act p ws) ≡ length ws
-  length-cleared = by_cond (λ (l : List ℕ). length l ≡ length ws) (clears act) (λ _. length-set ws (p - 1) 0) (λ _. refl)
+  pub length_cleared : length (cleared_by act p ws) ≡ length ws
+  length_cleared = by_cond (λ (l : List ℕ). length l ≡ length ws) (clears act) (λ _. length-set ws (p - 1) 0) (λ _. refl)
 
-  pub cleared-own : clears act ≡ true → p - 1 < length ws → get_or (cleared_by act p ws) (p - 1) 0 ≡ 0
-  cleared-own e h = rw e (get_or-set_same ws (p - 1) 0 0 h)
+  pub cleared_own : clears act ≡ true → p - 1 < length ws → get_or (cleared_by act p ws) (p - 1) 0 ≡ 0
+  cleared_own e h = rw e (get_or-set_same ws (p - 1) 0 0 h)
 
-  pub cleared-other : (k : ℕ) → (clears act ≡ true → k ≢ p - 1) → get_or (cleared_by act p ws) k 0 ≡ get_or ws k 0
-  cleared-other k n = by_cond (λ (l : List ℕ). get_or l k 0 ≡ get_or ws k 0) (clears act)
+  pub cleared_other : (k : ℕ) → (clears act ≡ true → k ≢ p - 1) → get_or (cleared_by act p ws) k 0 ≡ get_or ws k 0
+  cleared_other k n = by_cond (λ (l : List ℕ). get_or l k 0 ≡ get_or ws k 0) (clears act)
       (λ e. get_or-set_other ws (p - 1) k 0 0 (n e)) (λ _. refl)
 
-  pub cleared-most : (k : ℕ) → get_or (cleared_by act p ws) k 0 ≤ get_or ws k 0
-  cleared-most k = by_cond (λ (l : List ℕ). get_or l k 0 ≤ get_or ws k 0) (clears act)
+  pub cleared_most : (k : ℕ) → get_or (cleared_by act p ws) k 0 ≤ get_or ws k 0
+  cleared_most k = by_cond (λ (l : List ℕ). get_or l k 0 ≤ get_or ws k 0) (clears act)
       (λ _. zero_put ws (p - 1) k) (λ _. omega arith)
 
 -- who clears a place has one
@@ -151,7 +151,7 @@ clears_some (inr a) e = a.some
 
 pub length_waited_after : (s : State) (ws : List ℕ) (act p m : ℕ) → length (waited_after s ws act p m) ≡ length ws
 length_waited_after s ws act p m =
-    let d = unused_time s m in length-cleared act p (waited_on d s.processes ws) ∙ length_waited_on d s.processes ws
+    let d = unused_time s m in length_cleared act p (waited_on d s.processes ws) ∙ length_waited_on d s.processes ws
 
 module _ {s s' : State} {act p m : ℕ} (allowed : Allowed s act p m) (changed : Changed s act p m s') where
   -- process k + 1 has the place k
@@ -159,19 +159,19 @@ module _ {s s' : State} {act p m : ℕ} (allowed : Allowed s act p m) (changed :
       → trying_at s'.processes k ≡ trying_at s.processes k
   alike_from k e = rw (entry_at s' k, entry_at s k) at e
 
-  others-alike : (k : ℕ) → k + 1 ≢ p → trying_at s'.processes k ≡ trying_at s.processes k
-  others-alike k n = alike_from k (rw (changed.others-stay (k + 1) (omega arith) n))
+  others_alike : (k : ℕ) → k + 1 ≢ p → trying_at s'.processes k ≡ trying_at s.processes k
+  others_alike k n = alike_from k (rw (changed.others_stay (k + 1) (omega arith) n))
 
   all_alike : Waits act p ⊎ Acts s act p m → clears act ≡ false → (k : ℕ) → trying_at s'.processes k ≡ trying_at s.processes k
-  all_alike (inl w) e k = others-alike k (omega arith)
+  all_alike (inl w) e k = others_alike k (omega arith)
   all_alike (inr a) e k = if_eq (k + 1) p
-      (λ f. alike_from k (rw f (trying_kept a.from (changed.effect (from_ready a.from).not-wait) e)))
-      (others-alike k)
+      (λ f. alike_from k (rw f (trying_kept a.from (changed.effect (from_ready a.from).not_wait) e)))
+      (others_alike k)
 
   -- time may be added over the entries after the act too: where they are not trying as before, the place is cleared
-  pub waited-after-act : (d : ℕ) (ws : List ℕ)
+  pub waited_after_act : (d : ℕ) (ws : List ℕ)
       → cleared_by act p (waited_on d s'.processes ws) ≡ cleared_by act p (waited_on d s.processes ws)
-  waited-after-act d ws = by_test (clears act)
-      (λ e. rw e (waited-alike-but d s'.processes s.processes ws (p - 1) 0
-      (λ k n. others-alike k (omega (arith, clears_some allowed.turn e)))))
-      (λ e. rw e (waited-alike d s'.processes s.processes ws (all_alike allowed.turn e)))
+  waited_after_act d ws = by_test (clears act)
+      (λ e. rw e (waited_alike_but d s'.processes s.processes ws (p - 1) 0
+      (λ k n. others_alike k (omega (arith, clears_some allowed.turn e)))))
+      (λ e. rw e (waited_alike d s'.processes s.processes ws (all_alike allowed.turn e)))

@@ -36,15 +36,15 @@ pub data Effect (p m : ℕ) : ℕ → ℕ → Location → ℕ → Type 0 where
   -- [3.1]
   try : {w : ℕ} → Effect p m try_act w (Testing m) w
   -- [3.2]
-  test-free : Effect p m test_act 0 (Setting m) 0
+  test_free : Effect p m test_act 0 (Setting m) 0
   -- [3.2]
-  test-taken : {w : ℕ} → w ≢ 0 → Effect p m test_act w (Testing m) w
+  test_taken : {w : ℕ} → w ≢ 0 → Effect p m test_act w (Testing m) w
   -- [3.3]
   set : {w : ℕ} → Effect p m set_act w (Checking m) p
   -- [3.4]
-  check-own : Effect p m check_act p (Entering m) p
+  check_own : Effect p m check_act p (Entering m) p
   -- [3.4]
-  check-other : {w : ℕ} → w ≢ p → Effect p m check_act w (Testing m) w
+  check_other : {w : ℕ} → w ≢ p → Effect p m check_act w (Testing m) w
   -- [3.5]
   crit : {w : ℕ} → Effect p m crit_act w Critical w
   -- [3.6]
@@ -81,13 +81,13 @@ AcceptedIffAllowed = (s : State) → sound_of s ≡ true → (act p m : ℕ) →
 
 -- [3.70] s' is s after the act of process p at the time m: it differs in the clock, in p's entry and in the word only
 pub record Changed (s : State) (act p m : ℕ) (s' : State) : Type 0 where
-  pub parameters-stay : s'.parameters ≡ s.parameters
-  pub size-stays : length s'.processes ≡ length s.processes
+  pub parameters_stay : s'.parameters ≡ s.parameters
+  pub size_stays : length s'.processes ≡ length s.processes
   -- [3.50]
-  pub clock-is : s'.clock ≡ m
-  pub others-stay : (i : ℕ) → 1 ≤ i → i ≢ p → entry_of s' i ≡ entry_of s i
-  -- [3.0] and `others-stay` keeps every entry, as none is of process 0
-  pub wait-keeps : act ≡ wait_act → s'.word ≡ s.word
+  pub clock_is : s'.clock ≡ m
+  pub others_stay : (i : ℕ) → 1 ≤ i → i ≢ p → entry_of s' i ≡ entry_of s i
+  -- [3.0] and `others_stay` keeps every entry, as none is of process 0
+  pub wait_keeps : act ≡ wait_act → s'.word ≡ s.word
   pub effect : act ≢ wait_act → Effect p m act s.word (entry_of s' p).location s'.word
 
 -- [3.70] for a state of 96 entries, as each of the code is
@@ -107,10 +107,10 @@ WaitNowChangesNothing = (s : State) → (step_of s wait_act 0 s.clock).state ≡
 
 -- [3.95] s' is s but for the clock, which is m
 pub record ClockOnly (s : State) (m : ℕ) (s' : State) : Type 0 where
-  pub parameters-stay : s'.parameters ≡ s.parameters
-  pub clock-is : s'.clock ≡ m
-  pub word-stays : s'.word ≡ s.word
-  pub entries-stay : s'.processes ≡ s.processes
+  pub parameters_stay : s'.parameters ≡ s.parameters
+  pub clock_is : s'.clock ≡ m
+  pub word_stays : s'.word ≡ s.word
+  pub entries_stay : s'.processes ≡ s.processes
 
 -- [3.95] a withdraw with the outcome o takes back the try, at the time m, that was made in the state s
 pub record TakenBack (s : State) (m : ℕ) (o : Outcome) : Type 0 where

@@ -21,12 +21,12 @@ both_try = event 0 1 try_act ∷ event 0 2 try_act ∷ []
 pub record OwnDeadlines (s : State) (quick slow : ℕ) : Type 0 where
   pub fresh : IsFresh s
   -- the quick one, once it is past 1
-  pub quick-late : answers_from s (both_try ++ event 2 0 wait_act ∷ []) ≡ answer_of 0 0 0 ∷ answer_of 0 0 0 ∷ answer_of 8 quick 1 ∷ []
+  pub quick_late : answers_from s (both_try ++ event 2 0 wait_act ∷ []) ≡ answer_of 0 0 0 ∷ answer_of 0 0 0 ∷ answer_of 8 quick 1 ∷ []
   -- it acts in time, and is checking from 2 on, by c; the slow one alone is late, past 1000 and not before
-  pub slow-late : answers_from s (both_try ++ event 1 quick test_act ∷ event 2 quick set_act ∷ event 1000 0 wait_act ∷ event 1001 0 wait_act ∷ [])
+  pub slow_late : answers_from s (both_try ++ event 1 quick test_act ∷ event 2 quick set_act ∷ event 1000 0 wait_act ∷ event 1001 0 wait_act ∷ [])
       ≡ answer_of 0 0 0 ∷ answer_of 0 0 0 ∷ answer_of 0 0 1 ∷ answer_of 0 0 2 ∷ answer_of 0 0 1000 ∷ answer_of 8 slow 1000 ∷ []
 
 -- [2.90] whichever of the two has the lower number
 pub record EachItsOwn : Type 0 where
-  pub quick-first : OwnDeadlines (with_own 1 1000) 1 2
-  pub slow-first : OwnDeadlines (with_own 1000 1) 2 1
+  pub quick_first : OwnDeadlines (with_own 1 1000) 1 2
+  pub slow_first : OwnDeadlines (with_own 1000 1) 2 1

@@ -76,9 +76,9 @@ UnsoundIffOne = (s : State) (act p m : ℕ) → ((step_of s act p m).answer.code
 
 -- [2.60] s is such a table, with these parameters
 pub record Fresh (k : Parameters) (s : State) : Type 0 where
-  pub parameters-are : s.parameters ≡ k
-  pub clock-is : s.clock ≡ 0
-  pub word-is : s.word ≡ 0
+  pub parameters_are : s.parameters ≡ k
+  pub clock_is : s.clock ≡ 0
+  pub word_is : s.word ≡ 0
   pub size : length s.processes ≡ 96
   pub all : (i : ℕ) → (entry_of s i).location ≡ Remainder
 

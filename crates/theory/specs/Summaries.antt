@@ -62,12 +62,12 @@ RecordedIsPlain = (s : State) (x : Statistics) (act p m : ℕ) → RecordedTells
 
 -- [5.100] y is the summary x with one refused act more
 pub record RefusedAdded (x y : Statistics) : Type 0 where
-  pub refused-rises : y.counts.refused ≡ x.counts.refused + 1
-  pub accepted-stays : y.counts.accepted ≡ x.counts.accepted
-  pub entries-stay : y.counts.entries ≡ x.counts.entries
-  pub exits-stay : y.counts.exits ≡ x.counts.exits
-  pub longest-stays : y.counts.longest ≡ x.counts.longest
-  pub waited-stays : y.waited ≡ x.waited
+  pub refused_rises : y.counts.refused ≡ x.counts.refused + 1
+  pub accepted_stays : y.counts.accepted ≡ x.counts.accepted
+  pub entries_stay : y.counts.entries ≡ x.counts.entries
+  pub exits_stay : y.counts.exits ≡ x.counts.exits
+  pub longest_stays : y.counts.longest ≡ x.counts.longest
+  pub waited_stays : y.waited ≡ x.waited
 
 -- [2.110] that a process is trying, which the facts below ask, is a matter of its location alone
 abbrev pub TryingIffPlain : Type 0
@@ -81,7 +81,7 @@ pub data Unused (s : State) (m : ℕ) : ℕ → Type 0 where
 -- [5.70] [5.90] what an accepted act makes of the entries, the exits and the longest wait; a crit ends the wait w
 pub data Counting (w : ℕ) : (act entries exits longest entries' exits' longest' : ℕ) → Type 0 where
   -- a crit that ends a longer wait than any before
-  crit-longer : {e x l : ℕ} → l < w → Counting w crit_act e x l (e + 1) x w
+  crit_longer : {e x l : ℕ} → l < w → Counting w crit_act e x l (e + 1) x w
   -- a crit that ends no longer one
   crit : {e x l : ℕ} → w ≤ l → Counting w crit_act e x l (e + 1) x l
   exit : {e x l : ℕ} → Counting w exit_act e x l e (x + 1) l
@@ -102,14 +102,14 @@ pub record Waiting (s : State) (act p d : ℕ) (x y : Statistics) : Type 0 where
   pub cleared : Clears act → waited_so_far y p ≡ 0
   pub trying : (i : ℕ) → IsTrying s i → (Clears act → i ≢ p) → waited_so_far y i ≡ waited_so_far x i + d
   pub others : (i : ℕ) → 1 ≤ i → (IsTrying s i → ⊥) → (Clears act → i ≢ p) → waited_so_far y i ≡ waited_so_far x i
-  pub size-stays : length y.waited ≡ length x.waited
+  pub size_stays : length y.waited ≡ length x.waited
 
 -- [5.70] [5.75] [5.80] [5.90] y is the summary x with the accepted act of process p at the time m in the state s counted
 pub record AcceptedAdded (s : State) (act p m : ℕ) (x y : Statistics) : Type 0 where
-  pub accepted-rises : y.counts.accepted ≡ x.counts.accepted + 1
+  pub accepted_rises : y.counts.accepted ≡ x.counts.accepted + 1
   pub refused_stays : y.counts.refused ≡ x.counts.refused
   pub unused : ℕ
-  pub is-unused : Unused s m unused
+  pub is_unused : Unused s m unused
   -- the wait that a crit ends: what its process has waited so far, and the unused time of the crit itself
   pub counting : Counting (waited_so_far x p + unused) act x.counts.entries x.counts.exits x.counts.longest
       y.counts.entries y.counts.exits y.counts.longest

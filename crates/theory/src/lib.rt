@@ -1,1 +1,3 @@
 // Theorems about the definitions of `model`, and no code: the statements stand in `specs/`, their proofs in `proofs/`.
+
+#![tactic(auto)]

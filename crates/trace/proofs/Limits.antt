@@ -35,11 +35,11 @@ limit_within i s =
 -- i of n lines are read, which took `at` bytes, and `a` has their values
 module _ (n i at : ℕ) (a s : List ℕ) where
   module _ (more : i < n) (l : Line) (e : limit_line (i + 1) (drop at s) ≡ l) where
-    pub limits-next : l.code ≡ 0
+    pub limits_next : l.code ≡ 0
         → limits_from (n - i) (i + 1) at a (drop at s)
         ≡ limits_from (n - (i + 1)) (i + 1 + 1) (at + l.size) (set a i (get_or l.numbers 1 0)) (drop (at + l.size) s)
     unfolding limits_from
-    limits-next z =
+    limits_next z =
         let q : n - i ≡ suc (n - (i + 1)) = omega arith in
         let p : i + 1 - 1 ≡ i = omega arith in
         rw (q, e, eq-eqb l.code 0 z, p, ← drop-drop l.size at s)
@@ -48,9 +48,9 @@ module _ (n i at : ℕ) (a s : List ℕ) where
     unfolding limits_from
     limits_stop z = let q : n - i ≡ suc (n - (i + 1)) = omega arith in rw (q, e, ne_eqb l.code 0 z)
 
-  pub limits-end : n ≤ i → limits_from (n - i) (i + 1) at a (drop at s) ≡ limits_of a at
+  pub limits_end : n ≤ i → limits_from (n - i) (i + 1) at a (drop at s) ≡ limits_of a at
   unfolding limits_from
-  limits-end h = let q : n - i ≡ 0 = omega arith in rw q
+  limits_end h = let q : n - i ≡ 0 = omega arith in rw q
 
 -- Putting
 

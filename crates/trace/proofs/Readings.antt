@@ -11,7 +11,7 @@ use Rattle.model.specs.Readings.{scan_fails, head_of, Body, body_of, trace, trac
 use Rattle.model.proofs.Tests.{if_eq}
 use Rattle.trace.specs.declared.steps.Counted.TheVariants.{Steps, Fault}
 use Rattle.trace.specs.Passes.{counted_of, scan_found}
-use Rattle.grammar.proofs.Heads.{trace-refused, trace-events, trace-fault}
+use Rattle.grammar.proofs.Heads.{trace_refused, trace_events, trace_fault}
 
 -- What the count says of a body
 
@@ -49,27 +49,27 @@ counted_fault b code line e =
 -- The ways out, where h was found of the first lines
 
 module _ (text : List ℕ) (l : Lists) (h : Scan) (e : head_of text ≡ h) where
-  pub scan-refused : h.code ≢ 0 → scanned_of text l ≡ scan_gave (scan_fails h.code h.line) l
+  pub scan_refused : h.code ≢ 0 → scanned_of text l ≡ scan_gave (scan_fails h.code h.line) l
   unfolding scanned_of
-  scan-refused n = rw (trace-refused text h e n)
+  scan_refused n = rw (trace_refused text h e n)
 
   module _ (read : h.code ≡ 0) (body : Body) (rest : body_of h.line (drop h.size text) ≡ body) where
     says : body.fault ≡ 0 → trace_of text ≡ trace h.line h.parameters body.events
-    says z = rw rest at (trace-events text h e read (rw rest z))
+    says z = rw rest at (trace_events text h e read (rw rest z))
 
-    pub scan-fault : (code line : ℕ) → counted_of body ≡ Fault code line
+    pub scan_fault : (code line : ℕ) → counted_of body ≡ Fault code line
         → scanned_of text l ≡ scan_gave (scan_found h.line h.parameters (counted_of body)) l
     unfolding scanned_of
-    scan-fault code line t =
+    scan_fault code line t =
         let f = counted_fault body code line t in
-        rw (t, trace-fault text h e read (rw rest f.broken), rest, f.named, f.here)
+        rw (t, trace_fault text h e read (rw rest f.broken), rest, f.named, f.here)
 
     module _ (count : ℕ) (t : counted_of body ≡ Steps count) where
-      pub scan-full : room l < count → scanned_of text l ≡ scan_gave (scan_fails 16 0) l
+      pub scan_full : room l < count → scanned_of text l ≡ scan_gave (scan_fails 16 0) l
       unfolding scanned_of
-      scan-full g = let c = counted_steps body count t in rw (says c.whole, c.many, lt-ltb (room l) count g)
+      scan_full g = let c = counted_steps body count t in rw (says c.whole, c.many, lt-ltb (room l) count g)
 
-      pub scan-stored : count ≤ room l
+      pub scan_stored : count ≤ room l
           → scanned_of text l ≡ scan_gave (scan_found h.line h.parameters (counted_of body)) (stored body.events l)
       unfolding scanned_of
-      scan-stored g = let c = counted_steps body count t in rw (t, says c.whole, c.many, le-ltb (room l) count g)
+      scan_stored g = let c = counted_steps body count t in rw (t, says c.whole, c.many, le-ltb (room l) count g)

@@ -26,17 +26,17 @@ module _ (text a : List ℕ) (l : Lists) where
 
   module _ (r : Read) (e : r ≡ read_of text l) where
     -- a refused reading left the lists
-    lists-stay : r.reading.answer.code ≢ 0 → r.kept ≡ l
+    lists_stay : r.reading.answer.code ≢ 0 → r.kept ≡ l
     unfolding read_of scanned_of
-    lists-stay = rw e (stays (trace_of text))
+    lists_stay = rw e (stays (trace_of text))
 
-    pub to-refused : r.reading.answer.code ≢ 0 → unread_to r.reading.answer a r.kept ≡ read_to_of text a l
+    pub to_refused : r.reading.answer.code ≢ 0 → unread_to r.reading.answer a r.kept ≡ read_to_of text a l
     unfolding read_to_of
-    to-refused n = rw (← e, lists-stay n) (simp (ne_eqb _ 0 n))
+    to_refused n = rw (← e, lists_stay n) (simp (ne_eqb _ 0 n))
 
-    pub to-stored : 96 ≤ length a → r.reading.answer.code ≡ 0 → was_read_to a r ≡ read_to_of text a l
+    pub to_stored : 96 ≤ length a → r.reading.answer.code ≡ 0 → was_read_to a r ≡ read_to_of text a l
     unfolding read_to_of
-    to-stored h z = rw (← e) (simp (eq-eqb _ 0 z, le-ltb (length a) 96 h))
+    to_stored h z = rw (← e) (simp (eq-eqb _ 0 z, le-ltb (length a) 96 h))
 
   -- the list for the values of a is too short
   module _ (h : length a < 96) where
@@ -54,6 +54,6 @@ module _ (text a : List ℕ) (l : Lists) where
         by_cond (λ (x : Scanned). unread_to (answered x) a l ≡ read_to_from a l (told (into l (trace line k events)))) (ltb 0 (length events))
         (λ _. none) (λ _. none)
 
-    pub to-full : unread_to (answer_without_room text) a l ≡ read_to_of text a l
+    pub to_full : unread_to (answer_without_room text) a l ≡ read_to_of text a l
     unfolding read_to_of read_of scanned_of
-    to-full = full (trace_of text)
+    to_full = full (trace_of text)

@@ -10,7 +10,7 @@ use Rattle.model.specs.declared.Row.TheVariants.{Step, Unread}
 use Rattle.model.specs.Texts.{comma, time_bound, number_bound}
 use Rattle.model.specs.Readings.{number_at, word_at, event_at, body_of}
 use Rattle.grammar.proofs.Lines.{by_opened}
-use Rattle.grammar.proofs.Bodies.{Along, along-end, along-fault}
+use Rattle.grammar.proofs.Bodies.{Along, along_end, along_fault}
 use Rattle.trace.specs.declared.steps.Counted.TheVariants.{Steps, Fault}
 use Rattle.trace.specs.Passes.{counted_of}
 
@@ -31,12 +31,12 @@ row_refused line s code at e = rw e at (row_refuses line s)
 -- Where a walk along the lines ends
 
 module _ (s : List ℕ) (first at count : ℕ) (g : Along s first at count) where
-  pub answer-steps : length s ≤ at → Steps count ≡ counted_of (body_of first s)
-  answer-steps h = let e = along-end s first at count g h in rw (e.1, e.0)
+  pub answer_steps : length s ≤ at → Steps count ≡ counted_of (body_of first s)
+  answer_steps h = let e = along_end s first at count g h in rw (e.1, e.0)
 
-  pub answer-fault : 0 < first → (code line : ℕ) → at < length s → event_at (first + count) (drop at s) ≡ Unread code line
+  pub answer_fault : 0 < first → (code line : ℕ) → at < length s → event_at (first + count) (drop at s) ≡ Unread code line
       → Fault code line ≡ counted_of (body_of first s)
-  answer-fault some code line h e =
-      let f = along-fault s first at count g code line h e in
+  answer_fault some code line h e =
+      let f = along_fault s first at count g code line h e in
       let r = row_refused (first + count) (drop at s) code line e in
       rw (r.0, r.1, f.1) (simp (ne_eqb (first + count) 0 (λ (z : first + count ≡ 0). omega arith)))

@@ -7,16 +7,16 @@ use native.Mathlib.Omega.{arith}
 use Rattle.model.specs.Texts.{event_text, events_text, has_form}
 use Rattle.model.specs.Readings.{Lists, room}
 use Rattle.model.specs.Writings.{events_of, event_in, formless_from}
-use Rattle.model.proofs.Steps.{from, steps-end, steps_next}
+use Rattle.model.proofs.Steps.{from, steps_end, steps_next}
 
 module _ (l : Lists) (i : ℕ) where
-  pub formless-end : (line : ℕ) → room l ≤ i → formless_from line (events_of (from i l)) ≡ 0
+  pub formless_end : (line : ℕ) → room l ≤ i → formless_from line (events_of (from i l)) ≡ 0
   unfolding formless_from
-  formless-end line h = rw (steps-end l i h)
+  formless_end line h = rw (steps_end l i h)
 
-  pub text-end : room l ≤ i → events_text (events_of (from i l)) ≡ []
+  pub text_end : room l ≤ i → events_text (events_of (from i l)) ≡ []
   unfolding events_text
-  text-end h = rw (steps-end l i h)
+  text_end h = rw (steps_end l i h)
 
   module _ (within : i < room l) where
     pub text_at : events_text (events_of (from i l)) ≡ event_text (event_in l i) ++ events_text (events_of (from (i + 1) l))
@@ -24,11 +24,11 @@ module _ (l : Lists) (i : ℕ) where
     text_at = rw (steps_next l i within)
 
     -- where the first step has the line `first`
-    pub formless-here : (first : ℕ) → has_form (event_in l i) ≡ false → first + i ≡ formless_from (first + i) (events_of (from i l))
+    pub formless_here : (first : ℕ) → has_form (event_in l i) ≡ false → first + i ≡ formless_from (first + i) (events_of (from i l))
     unfolding formless_from
-    formless-here first e = rw (steps_next l i within) (rw e)
+    formless_here first e = rw (steps_next l i within) (rw e)
 
-    pub formless-next : (first : ℕ) → has_form (event_in l i) ≡ true
+    pub formless_next : (first : ℕ) → has_form (event_in l i) ≡ true
         → formless_from (first + (i + 1)) (events_of (from (i + 1) l)) ≡ formless_from (first + i) (events_of (from i l))
     unfolding formless_from
-    formless-next first e = let q : first + i + 1 ≡ first + (i + 1) = omega arith in rw (steps_next l i within) (rw (e, q))
+    formless_next first e = let q : first + i + 1 ≡ first + (i + 1) = omega arith in rw (steps_next l i within) (rw (e, q))

@@ -13,7 +13,7 @@ use Rattle.model.specs.Answers.{answer_of}
 use Rattle.model.specs.Texts.{Event, first_line, trace_text, text_limit}
 use Rattle.model.specs.Writings.{formless_from, Written, unwritten, write_of}
 use Rattle.model.proofs.Tests.{and_true_iff}
-use Rattle.grammar.proofs.Answers.{fitted_short, write-long, write-fitted, write_is}
+use Rattle.grammar.proofs.Answers.{fitted_short, write_long, write_fitted, write_is}
 use Rattle.text.proofs.Putting.{sets_over}
 
 -- what is to be written, and the lent bytes
@@ -33,17 +33,17 @@ abbrev pub done : Task → Written
 done t = write_of t.parameters t.events t.out
 
 module _ (t : Task) where
-  pub write-uncounted : count_stands t.parameters.n ≡ false → done t ≡ unwritten 11 0 t.out
+  pub write_uncounted : count_stands t.parameters.n ≡ false → done t ≡ unwritten 11 0 t.out
   unfolding write_of
-  write-uncounted e = rw e
+  write_uncounted e = rw e
 
-  pub write-unlimited : count_stands t.parameters.n ≡ true → parameters_stand t.parameters ≡ false → done t ≡ unwritten 12 0 t.out
+  pub write_unlimited : count_stands t.parameters.n ≡ true → parameters_stand t.parameters ≡ false → done t ≡ unwritten 12 0 t.out
   unfolding write_of
-  write-unlimited e f = let g : limits_stand t.parameters ≡ false = rw e at f in rw (e, g)
+  write_unlimited e f = let g : limits_stand t.parameters ≡ false = rw e at f in rw (e, g)
 
-  pub write-formless : parameters_stand t.parameters ≡ true → formless t ≢ 0 → done t ≡ unwritten 14 (formless t) t.out
+  pub write_formless : parameters_stand t.parameters ≡ true → formless t ≢ 0 → done t ≡ unwritten 14 (formless t) t.out
   unfolding write_of
-  write-formless e g =
+  write_formless e g =
       let f = (and_true_iff (count_stands t.parameters.n) (limits_stand t.parameters)).0 e in
       rw (f.0, f.1, ne_eqb (formless t) 0 g)
 
@@ -53,12 +53,12 @@ pub record Sound (t : Task) : Type 0 where
   pub formed : formless t ≡ 0
 
 module _ {t : Task} (s : Sound t) where
-  pub write-too-long : text_limit < length (text_of t) → done t ≡ unwritten 15 0 t.out
-  write-too-long h = write-long t.parameters t.events t.out s.stand s.formed h
+  pub write_too_long : text_limit < length (text_of t) → done t ≡ unwritten 15 0 t.out
+  write_too_long h = write_long t.parameters t.events t.out s.stand s.formed h
 
   module _ (short : length (text_of t) ≤ text_limit) where
-    pub write-roomless : length t.out < length (text_of t) → done t ≡ unwritten 16 0 t.out
-    write-roomless h = write-fitted t.parameters t.events t.out s.stand s.formed short ∙ fitted_short (text_of t) t.out h
+    pub write_roomless : length t.out < length (text_of t) → done t ≡ unwritten 16 0 t.out
+    write_roomless h = write_fitted t.parameters t.events t.out s.stand s.formed short ∙ fitted_short (text_of t) t.out h
 
     pub write_done : length (text_of t) ≤ length t.out
         → done t ≡ record { answer = answer_of 0 0 (length (text_of t)); out = sets t.out 0 (text_of t) }

@@ -1,5 +1,7 @@
 // Reader and writer of recordings: `scan`, `read` and `read_to` take a text apart into lent lists, `write` makes a text of lists. They take
 // anything, and give back what `scanned_of`, `read_of` and `write_of` of the model and `read_to_of` say, refusals included.
+#![tactic(auto)]
+
 mod lines;
 mod steps;
 mod texts;
@@ -89,7 +91,7 @@ pub fn read(text: &[u8], times: &mut [u64], processes: &mut [u64], actions: &mut
 
 // [9.90] What a reading for the library answers; n, b and c are 0 where it is refused. Its fields lie as in C, for `funnelfawn`.
 #[repr(C)]
-#[derive(Drop)]
+#[derive(Clone, Copy)]
 pub struct ReadingTo {
     pub answer: Answer,
     pub n: u64,

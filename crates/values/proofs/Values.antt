@@ -31,16 +31,16 @@ top_of_both p q = if_lt p top_bit
 -- `less` is x - 1 and `over` is b - 2 - less, both as they wrap
 module _ (x b less over : ℕ) (low : 2 ≤ b) (high : b ≤ 10_000_000) (l : less < 2 ^ 64) (o : over < 2 ^ 64)
     (e : (less + 1) % 2 ^ 64 ≡ x) (f : (over + less) % 2 ^ 64 ≡ b - 2) where
-  both-low : less < top_bit → over < top_bit → (1 ≤ x) × (x < b)
-  both-low h g = (omega arith, omega arith)
+  both_low : less < top_bit → over < top_bit → (1 ≤ x) × (x < b)
+  both_low h g = (omega arith, omega arith)
 
   within_low : 1 ≤ x → x < b → (less < top_bit) × (over < top_bit)
   within_low h g = (omega arith, omega arith)
 
-  pub top-tells : ltb (bit_or less over) top_bit ≡ (leb 1 x && ltb x b)
-  top-tells = top_of_both less over ∙ if_lt less top_bit
+  pub top_tells : ltb (bit_or less over) top_bit ≡ (leb 1 x && ltb x b)
+  top_tells = top_of_both less over ∙ if_lt less top_bit
       (λ h. if_lt over top_bit
-      (λ g. let k = both-low h g in rw (lt-ltb _ _ h, lt-ltb _ _ g, le-leb 1 x k.0, lt-ltb x b k.1) refl)
+      (λ g. let k = both_low h g in rw (lt-ltb _ _ h, lt-ltb _ _ g, le-leb 1 x k.0, lt-ltb x b k.1) refl)
       (λ g. rw (lt-ltb _ _ h, le-ltb _ _ g) (sym (outside (λ a k. absurd (omega (arith, (within_low a k).1)))))))
       (λ h. rw (le-ltb _ _ h) (sym (outside (λ a k. absurd (omega (arith, (within_low a k).0))))))
     where
@@ -96,21 +96,21 @@ not_stand k n = by_test (limits_stand k) (λ e. absurd (n e)) (λ e. rw e (no_mo
 module _ (n b c : ℕ) (a : List ℕ) where
   -- a value up to n does not stand
   pub not_within : within b (take n a) ≡ false → false ≡ parameters_stand (parameters_of n b c a)
-  not_within f = not_stand (parameters_of n b c a) (λ e. clash (own-true e) (own_is n b a ∙ rw f refl))
+  not_within f = not_stand (parameters_of n b c a) (λ e. clash (own_true e) (own_is n b a ∙ rw f refl))
     where
-      own-true : limits_stand (parameters_of n b c a) ≡ true → own_stand n b 1 a ≡ true
-      own-true e = (limits_parts (parameters_of n b c a) e).own
+      own_true : limits_stand (parameters_of n b c a) ≡ true → own_stand n b 1 a ≡ true
+      own_true e = (limits_parts (parameters_of n b c a) e).own
 
   -- past the others, the values past n decide
-  pub rest-decides : count_stands n ≡ true → length a ≡ 96 → b ≤ c → c ≤ 10_000_000 → within b (take n a) ≡ true
+  pub rest_decides : count_stands n ≡ true → length a ≡ 96 → b ≤ c → c ≤ 10_000_000 → within b (take n a) ≡ true
       → are_zero (drop n a) ≡ parameters_stand (parameters_of n b c a)
   unfolding limits_stand
-  rest-decides count size order most w =
-      rw (count, eq-eqb (length a) 96 size, own_is n b a, w, le-leb b c order, le-leb c 10_000_000 most) (true-more (are_zero (drop n a)))
+  rest_decides count size order most w =
+      rw (count, eq-eqb (length a) 96 size, own_is n b a, w, le-leb b c order, le-leb c 10_000_000 most) (true_more (are_zero (drop n a)))
     where
-      true-more : (t : Bool) → t ≡ ((t && true) && true)
-      true-more true = refl
-      true-more false = refl
+      true_more : (t : Bool) → t ≡ ((t && true) && true)
+      true_more true = refl
+      true_more false = refl
 
 -- Filling
 

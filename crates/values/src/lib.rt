@@ -1,5 +1,7 @@
 // Small values that the step machine and the recordings share: an answer, parameters and which of them stand, the lesser of two sizes,
 // the lesser and the greater of two numbers, the bits of many, a list copied over another.
+#![tactic(auto)]
+
 pub mod limits;
 
 ghost use Rattle.std.specs.Prelude.{◌≡◌, min, max, length, take};

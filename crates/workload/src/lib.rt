@@ -1,5 +1,7 @@
 // The work of the benchmarks: the state that a case starts from, the act of each of its steps, and the loop that makes them.
 // `bench/cases.rs` has the same cases in Rust.
+#![tactic(auto)]
+
 ghost use Rattle.std.specs.Prelude.{◌≡◌, ◌<◌, ◌≤◌};
 ghost use Rattle.workload.specs.Work.{digit_of, size_in, limit_for, limits_for, parameters_in, word_in};
 ghost use Rattle.workload.specs.Work.{only_in, mixed_in, placed_in, selling_in, moving_in};
@@ -51,7 +53,7 @@ const UNEQUAL: u64 = 15;
 // The case whose n is 97.
 const UNSOUND_COUNT: u64 = 94;
 
-#[derive(Drop)]
+#[derive(Clone, Copy)]
 pub struct Act {
     pub action: u64,
     pub process: u64,

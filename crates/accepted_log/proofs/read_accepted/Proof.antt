@@ -11,14 +11,14 @@ use Rattle.model.specs.Answers.{answer_of}
 use Rattle.model.specs.Readings.{Lists, lists, room, over}
 use Rattle.model.specs.Writings.{events_of}
 use Rattle.model.specs.Executions.{Started, start_gave}
-use Rattle.model.proofs.Steps.{length-steps}
+use Rattle.model.proofs.Steps.{length_steps}
 use Rattle.grammar.specs.RoundTrips.{first_of}
 use Rattle.execution.proofs.Starts.{Ready, ready, refusal}
 use Rattle.local_log.specs.Comparisons.{Entry, actions_in, times_in}
 use Rattle.accepted_log.specs.AcceptedLogs.{read_accepted_of}
 use Rattle.accepted_log.specs.Keeping.{Kept}
-use Rattle.accepted_log.proofs.Keeping.{run_few, times-front, actions-front}
-use Rattle.accepted_log.proofs.Given.{log-gave, started_log, gave-low, gave-high, gave-short, gave_all}
+use Rattle.accepted_log.proofs.Keeping.{run_few, times_front, actions_front}
+use Rattle.accepted_log.proofs.Given.{log-gave, started_log, gave_low, gave_high, gave_short, gave_all}
 use Rattle.accepted_log.proofs.read_accepted.Statement.{statement}
 use Rattle.accepted_log.proofs.read_accepted.Tie as tie
 
@@ -103,7 +103,7 @@ few c =
     omega (
       arith,
       run_few (begin (started (going c))).args.process x.state (events_of l),
-      length-steps l,
+      length_steps l,
       length-take x.scan.size x.kept.times,
     )
 
@@ -126,8 +126,8 @@ front : (c : tie.After-keep-steps) → (take c.keep-steps.result (times-now c) �
 front c =
     let d = going c in
     let l = left (started d) in (
-      times-front (kept c) _ (omega (arith, few c, (parts d).0, length-take (count d) l.times)),
-      actions-front (kept c) _ (omega (arith, few c, (parts d).2, length-take (count d) l.actions)),
+      times_front (kept c) _ (omega (arith, few c, (parts d).0, length-take (count d) l.times)),
+      actions_front (kept c) _ (omega (arith, few c, (parts d).2, length-take (count d) l.actions)),
     )
 
 -- and so both have that many places
@@ -182,7 +182,7 @@ returns-2 : tie.Need-returns-2
 returns-2 c =
     let d = c.before.before in
     let a = (begin (started d)).args in
-    log-gave c.answer-with2.ensures refl refl ∙ sym (gave-low (run d) a.process a.times.now a.actions.now c.before.if2.true)
+    log-gave c.answer-with2.ensures refl refl ∙ sym (gave_low (run d) a.process a.times.now a.actions.now c.before.if2.true)
 
 answer-with-requires-3 : tie.Need-answer-with-requires-3
 answer-with-requires-3 c κs = search rules
@@ -192,7 +192,7 @@ returns-3 c =
     let d = c.before.before.before in
     let a = (begin (started d)).args in
     log-gave c.answer-with3.ensures refl refl
-    ∙ sym (gave-high (run d) a.process a.times.now a.actions.now (omega (arith, c.before.before.if2.false)) c.before.if3.true)
+    ∙ sym (gave_high (run d) a.process a.times.now a.actions.now (omega (arith, c.before.before.if2.false)) c.before.if3.true)
 
 array-borrow-prefix-step-times : tie.Need-array-borrow-prefix-step-times
 array-borrow-prefix-step-times c = (parts c.before.before).0
@@ -230,7 +230,7 @@ returns-4 c =
     let short : min (length a.times.now) (length a.actions.now) < length (log d) =
     omega (arith, c.before.before.least.ensures, c.before.if4.true, size d) in
     log-gave c.answer-with4.ensures refl refl
-    ∙ sym (gave-short (run (going d)) a.process a.times.now a.actions.now (is-process d) short)
+    ∙ sym (gave_short (run (going d)) a.process a.times.now a.actions.now (is-process d) short)
 
 array-share-prefix-step-times : tie.Need-array-share-prefix-step-times
 array-share-prefix-step-times c = (places c.before.before.before.before.before).0

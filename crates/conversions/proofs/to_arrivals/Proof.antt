@@ -14,7 +14,7 @@ use Rattle.deadlines.specs.Matching.{arrived_at, arrived_from, to_arrivals}
 use Rattle.model.proofs.Lists.{row_at, length_mapped}
 use Rattle.theory.proofs.Conditions.{opposite}
 use Rattle.deadlines.proofs.Matched.{length_arrived, arrived-at}
-use Rattle.conversions.proofs.Filling.{sound_iff_waits_with, Filled, filled_none, filled_next, filled-whole}
+use Rattle.conversions.proofs.Filling.{sound_iff_waits_with, Filled, filled_none, filled_next, filled_whole}
 use Rattle.conversions.proofs.to_arrivals.Statement.{statement}
 use Rattle.conversions.proofs.to_arrivals.Tie as tie
 
@@ -99,7 +99,7 @@ returns-2 : tie.Need-returns-2 invariant-loop decreases-loop
 unfolding to_arrivals
 returns-2 c =
     let v = c.before.before.before.loop in
-    rw (c.answer-with2.ensures, filled-whole _ _ v.i v.invariant c.before.before.loop-test.false, sound c.before.before.before.before)
+    rw (c.answer-with2.ensures, filled_whole _ _ v.i v.invariant c.before.before.loop-test.false, sound c.before.before.before.before)
 
 pub to-arrivals-spec : {M : Type 1} → statement M
 to-arrivals-spec =

@@ -15,10 +15,10 @@ use Rattle.model.proofs.Lists.{row_at, length_mapped}
 use Rattle.model.proofs.Soundness.{sound_past}
 use Rattle.model.proofs.Tests.{and_true_iff}
 use Rattle.theory.proofs.Conditions.{opposite}
-use Rattle.deadlines.proofs.Matched.{length_dated, dated-at, sound-same}
+use Rattle.deadlines.proofs.Matched.{length_dated, dated-at, sound_same}
 use Rattle.deadlines.proofs.Passing.{sound_parts_with, small}
 use Rattle.deadlines.proofs.Judging.{dated_fits}
-use Rattle.conversions.proofs.Filling.{sound_iff_waits, Filled, filled_none, filled_next, filled-whole}
+use Rattle.conversions.proofs.Filling.{sound_iff_waits, Filled, filled_none, filled_next, filled_whole}
 use Rattle.conversions.proofs.to_deadlines.Statement.{statement}
 use Rattle.conversions.proofs.to_deadlines.Tie as tie
 
@@ -27,7 +27,7 @@ entry-dated : (s : State) (i : ℕ) (q : Process) → sound_of s ≡ true → i 
     → entry_with (dated_with s.parameters.b s.parameters.c (limit_in s.parameters (i + 1)) (get_or s.processes i q).location)
     ≡ get_or (dated_from s.parameters 1 s.processes) i idle_with
 entry-dated s i q e h =
-    let few = small (matched s) ((and_true_iff _ _).0 (sym (sound_parts_with (matched s)) ∙ sound-same s ∙ e)).0 in
+    let few = small (matched s) ((and_true_iff _ _).0 (sym (sound_parts_with (matched s)) ∙ sound_same s ∙ e)).0 in
     let l = (get_or s.processes i idle).location in
     let process : i + 1 ≡ 1 + i = omega arith in
     rw (row_at s.processes i q idle h, dated-at s.parameters 1 s.processes i, process)
@@ -115,7 +115,7 @@ returns-2 : tie.Need-returns-2 invariant-loop decreases-loop
 unfolding to_deadlines
 returns-2 c =
     let v = c.before.before.before.loop in
-    rw (c.answer-with2.ensures, filled-whole _ _ v.i v.invariant c.before.before.loop-test.false, sound c.before.before.before.before)
+    rw (c.answer-with2.ensures, filled_whole _ _ v.i v.invariant c.before.before.loop-test.false, sound c.before.before.before.before)
 
 pub to-deadlines-spec : {M : Type 1} → statement M
 to-deadlines-spec =

@@ -2,7 +2,7 @@
 use mathlib.Core.Path.{sym}
 use borrow.Author.Rules.{rules}
 use lib.Seq.{length-take-le}
-use Rattle.deadline_layout.proofs.Lending.{short_unsound, step_unsound, step-front}
+use Rattle.deadline_layout.proofs.Lending.{short_unsound, step_unsound, step_front}
 use Rattle.deadline_layout.proofs.step.Statement.{statement}
 use Rattle.deadline_layout.proofs.step.Tie as tie
 
@@ -39,7 +39,7 @@ returns-2 : tie.Need-returns-2
 returns-2 c =
     let acted = c.before.before in
     let a = acted.before.before.before.before.before.before.args in
-    step-front a.table.now acted.before.before.before.before.if1.false a.action a.process a.time
+    step_front a.table.now acted.before.before.before.before.if1.false a.action a.process a.time
     (rw acted.before.before.survey-table.ensures at acted.act.ensures)
 
 pub step_spec : {M : Type 1} → statement M

@@ -5,7 +5,7 @@ use lib.Seq.{length-take-le}
 use borrow.Author.Tests.{not-true, not-false}
 use Rattle.layout.specs.Encodings.{table_length}
 use Rattle.deadline_layout.specs.Encodings.{is_sound_deadline_table}
-use Rattle.deadline_layout.proofs.Converting.{arrived-unsound, arrived-short, arrived-made, deadlines-told, deadlines-part}
+use Rattle.deadline_layout.proofs.Converting.{arrived_unsound, arrived_short, arrived_made, deadlines_told, deadlines_part}
 use borrow.Author.Rules.{rules}
 use Rattle.deadline_layout.proofs.to_arrivals.Statement.{statement}
 use Rattle.deadline_layout.proofs.to_arrivals.Tie as tie
@@ -19,7 +19,7 @@ answer-with-requires c κs = search rules
 returns : tie.Need-returns
 returns c =
     let a = c.before.before.before.before.before.args in
-    arrived-unsound a.deadlines.now a.out.now (sym c.before.before.is-sound.ensures ∙ not-true _ c.before.if1.true)
+    arrived_unsound a.deadlines.now a.out.now (sym c.before.before.is-sound.ensures ∙ not-true _ c.before.if1.true)
     c.answer-with.ensures
 
 stands : (c : tie.Else1) → is_sound_deadline_table c.before.before.before.before.args.deadlines.now ≡ true
@@ -31,7 +31,7 @@ answer-with-requires-2 c κs = search rules
 returns-2 : tie.Need-returns-2
 returns-2 c =
     let a = c.before.before.before.before.before.before.args in
-    arrived-short a.deadlines.now a.out.now (stands c.before.before) c.before.if2.true c.answer-with2.ensures
+    arrived_short a.deadlines.now a.out.now (stands c.before.before) c.before.if2.true c.answer-with2.ensures
 
 slice-relend-prefix-put-arrived : tie.Need-slice-relend-prefix-put-arrived
 slice-relend-prefix-put-arrived c = search rules
@@ -40,13 +40,13 @@ slice-aggregate-put-arrived : tie.Need-slice-aggregate-put-arrived
 slice-aggregate-put-arrived c = sym (search (rules, length-take-le))
 
 slice-aggregate-put-arrived-2 : tie.Need-slice-aggregate-put-arrived-2
-slice-aggregate-put-arrived-2 c = sym (deadlines-part _ (stands c.before.before.before))
+slice-aggregate-put-arrived-2 c = sym (deadlines_part _ (stands c.before.before.before))
 
 put-arrived-requires : tie.Need-put-arrived-requires
 put-arrived-requires c κs =
     let out = c.before.before.before.before.before.before.before.args.out.now in
     let e = stands c.before.before.before in
-    (length-take-le table_length out c.before.before.if2.false, (deadlines-part _ e, deadlines-told _ e))
+    (length-take-le table_length out c.before.before.if2.false, (deadlines_part _ e, deadlines_told _ e))
 
 answer-with-requires-3 : tie.Need-answer-with-requires-3
 answer-with-requires-3 c κs = search rules
@@ -58,7 +58,7 @@ returns-3 : tie.Need-returns-3
 returns-3 c =
     let fits = c.before.before.before.before.before.before in
     let a = fits.before.before.before.before.before.args in
-    arrived-made a.deadlines.now a.out.now (stands fits.before) fits.if2.false c.answer-with3.ensures
+    arrived_made a.deadlines.now a.out.now (stands fits.before) fits.if2.false c.answer-with3.ensures
     c.before.before.before.put-arrived.ensures
 
 pub to-arrivals-spec : {M : Type 1} → statement M

@@ -5,7 +5,7 @@ use lib.Seq.{length-take-le}
 use borrow.Author.Tests.{not-true, not-false}
 use Rattle.layout.specs.Encodings.{is_sound_table}
 use Rattle.deadline_layout.specs.Encodings.{deadline_length}
-use Rattle.deadline_layout.proofs.Converting.{dated-unsound, dated-short, dated-made, table-sound, table-part}
+use Rattle.deadline_layout.proofs.Converting.{dated_unsound, dated_short, dated_made, table_sound, table_part}
 use borrow.Author.Rules.{rules}
 use Rattle.deadline_layout.proofs.to_deadlines.Statement.{statement}
 use Rattle.deadline_layout.proofs.to_deadlines.Tie as tie
@@ -19,7 +19,7 @@ answer-with-requires c κs = search rules
 returns : tie.Need-returns
 returns c =
     let a = c.before.before.before.before.before.args in
-    dated-unsound a.table.now a.out.now (sym c.before.before.is-sound.ensures ∙ not-true _ c.before.if1.true)
+    dated_unsound a.table.now a.out.now (sym c.before.before.is-sound.ensures ∙ not-true _ c.before.if1.true)
     c.answer-with.ensures
 
 stands : (c : tie.Else1) → is_sound_table c.before.before.before.before.args.table.now ≡ true
@@ -31,7 +31,7 @@ answer-with-requires-2 c κs = search rules
 returns-2 : tie.Need-returns-2
 returns-2 c =
     let a = c.before.before.before.before.before.before.args in
-    dated-short a.table.now a.out.now (stands c.before.before) c.before.if2.true c.answer-with2.ensures
+    dated_short a.table.now a.out.now (stands c.before.before) c.before.if2.true c.answer-with2.ensures
 
 slice-relend-prefix-put-dated : tie.Need-slice-relend-prefix-put-dated
 slice-relend-prefix-put-dated c = search rules
@@ -40,13 +40,13 @@ slice-aggregate-put-dated : tie.Need-slice-aggregate-put-dated
 slice-aggregate-put-dated c = sym (search (rules, length-take-le))
 
 slice-aggregate-put-dated-2 : tie.Need-slice-aggregate-put-dated-2
-slice-aggregate-put-dated-2 c = sym (table-part _ (stands c.before.before.before))
+slice-aggregate-put-dated-2 c = sym (table_part _ (stands c.before.before.before))
 
 put-dated-requires : tie.Need-put-dated-requires
 put-dated-requires c κs =
     let out = c.before.before.before.before.before.before.before.args.out.now in
     let e = stands c.before.before.before in
-    (length-take-le deadline_length out c.before.before.if2.false, (table-part _ e, table-sound _ e))
+    (length-take-le deadline_length out c.before.before.if2.false, (table_part _ e, table_sound _ e))
 
 answer-with-requires-3 : tie.Need-answer-with-requires-3
 answer-with-requires-3 c κs = search rules
@@ -58,7 +58,7 @@ returns-3 : tie.Need-returns-3
 returns-3 c =
     let fits = c.before.before.before.before.before.before in
     let a = fits.before.before.before.before.before.args in
-    dated-made a.table.now a.out.now (stands fits.before) fits.if2.false c.answer-with3.ensures
+    dated_made a.table.now a.out.now (stands fits.before) fits.if2.false c.answer-with3.ensures
     c.before.before.before.put-dated.ensures
 
 pub to-deadlines-spec : {M : Type 1} → statement M

@@ -11,8 +11,8 @@ use Rattle.model.proofs.Lists.{length_mapped}
 use Rattle.model.proofs.Tests.{tests}
 use Rattle.deadlines.specs.declared.DeadlineLocation.{DeadlineLocation}
 use Rattle.deadlines.specs.Deadlines.{idle_with, entry_in, step_with}
-use Rattle.deadlines.proofs.Passing.{PassedWith, numbers_fault_with, nothing_passed_with, turn-fault-with, turn-passed-with}
-use Rattle.deadlines.proofs.Passing.{size_with, passed_whole_with, idle-passed-with, settled-passed-with, SurveyedWith, faulty, small}
+use Rattle.deadlines.proofs.Passing.{PassedWith, numbers_fault_with, nothing_passed_with, turn_fault_with, turn_passed_with}
+use Rattle.deadlines.proofs.Passing.{size_with, passed_whole_with, idle_passed_with, settled_passed_with, SurveyedWith, faulty, small}
 use Rattle.deadlines.proofs.Judging.{GoesWith, goes_with, within, exit_unsound_with, exit_refused_with, exit_waited_with, exit_moved_with}
 use Rattle.deadlines.proofs.step.Statement.{statement}
 use Rattle.deadlines.proofs.step.Tie as tie
@@ -110,16 +110,16 @@ loop-again c =
     let a = first.before.before.before.before.before.before.before.before.before.before.before.before.args in
     let zero = simp tests at (sym c.before.are-zero.ensures ∙ c.if4.true) in
     let last : v.at ≤ 92 = c.before.before.before.before.before.before.before.before.if3.true in
-    let one = idle-passed-with a.t1 a.process v.at v.found v.invariant (omega arith) idle_with
+    let one = idle_passed_with a.t1 a.process v.at v.found v.invariant (omega arith) idle_with
     (sym first.before.stage-with.ensures ∙ first.if2.true) in
     let e2 : v.at + 1 + 1 ≡ v.at + 2 = omega arith in
     let e3 : v.at + 2 + 1 ≡ v.at + 3 = omega arith in
     let e4 : v.at + 3 + 1 ≡ v.at + 4 = omega arith in
-    let two = rw e2 at (idle-passed-with a.t1 a.process (v.at + 1) v.found one (omega arith) idle_with
+    let two = rw e2 at (idle_passed_with a.t1 a.process (v.at + 1) v.found one (omega arith) idle_with
     (sym c.before.before.before.before.stage-with2.ensures ∙ zero.0.0)) in
-    let three = rw e3 at (idle-passed-with a.t1 a.process (v.at + 2) v.found two (omega arith) idle_with
+    let three = rw e3 at (idle_passed_with a.t1 a.process (v.at + 2) v.found two (omega arith) idle_with
     (sym c.before.before.before.stage-with3.ensures ∙ zero.0.1)) in
-    rw e4 at (idle-passed-with a.t1 a.process (v.at + 3) v.found three (omega arith) idle_with
+    rw e4 at (idle_passed_with a.t1 a.process (v.at + 3) v.found three (omega arith) idle_with
     (sym c.before.before.stage-with4.ensures ∙ zero.1))
 
 add-at-2 : tie.Need-overflow-add-at-2 invariant-loop decreases-loop
@@ -132,7 +132,7 @@ loop-again-2 : tie.Need-loop-preserved-2 invariant-loop decreases-loop
 loop-again-2 c =
     let a = c.before.before.before.before.before.before.before.before.before.before.before.before.before.args in
     let v = c.before.before.before.before.before.loop in
-    idle-passed-with a.t1 a.process v.at v.found v.invariant (omega arith) idle_with
+    idle_passed_with a.t1 a.process v.at v.found v.invariant (omega arith) idle_with
     (sym c.before.before.stage-with.ensures ∙ c.before.if2.true)
 
 add-here : tie.Need-overflow-add-here invariant-loop decreases-loop
@@ -158,7 +158,7 @@ loop-again-3 c =
     let turn = c.before.before.before.before.before.before.before.before.before.before.before in
     let a = turn.before.before.before.before.before.before.before.before.before.args in
     let v = turn.before.loop in
-    settled-passed-with a.t1 a.process v.at v.found v.invariant (omega (arith, turn.loop-test.true)) idle_with
+    settled_passed_with a.t1 a.process v.at v.found v.invariant (omega (arith, turn.loop-test.true)) idle_with
     c.before.before.before.if5.true
     (c.before.is-settled-at.ensures.1 c.if6.true)
     (rw (c.before.before.before.before.limit-of.ensures, c.before.before.due-so-far.ensures)
@@ -179,7 +179,7 @@ loop-again-4 c =
     let a = turn.before.before.before.before.before.before.before.before.before.args in
     let v = turn.before.loop in
     let scene = turn.before.before.before.scene-of.ensures in
-    turn-passed-with a.t1 a.process v.at (v.at + 1) v.found v.invariant (omega (arith, turn.loop-test.true)) refl idle_with
+    turn_passed_with a.t1 a.process v.at (v.at + 1) v.found v.invariant (omega (arith, turn.loop-test.true)) refl idle_with
     c.before.before.note.result
     (rw (scene, c.before.before.before.before.limit-of.ensures) at c.before.before.note.ensures) c.if7.false
 
@@ -190,14 +190,14 @@ slot-of-requires : tie.Need-slot-of-requires invariant-loop decreases-loop
 slot-of-requires c κs = search rules
 
 -- the place of the acting process is one of the 96
-own-fits : (c : tie.After-slot-of invariant-loop decreases-loop) → c.slot_of.result < 96
-own-fits c = search (rules, slot_fits)
+own_fits : (c : tie.After-slot-of invariant-loop decreases-loop) → c.slot_of.result < 96
+own_fits c = search (rules, slot_fits)
 
 mul-own-entry : tie.Need-overflow-mul-own-entry invariant-loop decreases-loop
-mul-own-entry c = search (rules, own-fits c)
+mul-own-entry c = search (rules, own_fits c)
 
 element-copy-out-own-entry : tie.Need-element-copy-out-own-entry invariant-loop decreases-loop
-element-copy-out-own-entry c = search (rules, own-fits c)
+element-copy-out-own-entry c = search (rules, own_fits c)
 
 stage-with-requires-5 : tie.Need-stage-with-requires-5 invariant-loop decreases-loop
 stage-with-requires-5 c κs = search rules
@@ -217,7 +217,7 @@ surveyed c =
     ⊎_elim
     (λ w. rw w.1 (passed_whole_with a.t1 a.process v.at v.found v.invariant (omega (arith, w.0.left))))
     (λ w. rw w.12
-    (faulty (turn-fault-with a.t1 a.process v.at (v.at + 1) v.found v.invariant (omega (arith, w.0.taken)) refl idle_with w.9.result
+    (faulty (turn_fault_with a.t1 a.process v.at (v.at + 1) v.found v.invariant (omega (arith, w.0.taken)) refl idle_with w.9.result
     (rw (c.before.before.before.scene-of.ensures, w.7.ensures) at w.9.ensures) w.11.taken) w.11.taken))
     c.loop-test.branch
 
@@ -260,10 +260,10 @@ entry-with-requires : tie.Need-entry-with-requires invariant-loop decreases-loop
 entry-with-requires c κs = search rules
 
 mul-t71 : tie.Need-overflow-mul-t71 invariant-loop decreases-loop
-mul-t71 c = search (rules, own-fits c.before.before.before.before.before.before.before.before.before.before.before.before.before)
+mul-t71 c = search (rules, own_fits c.before.before.before.before.before.before.before.before.before.before.before.before.before)
 
 element-set-from-state : tie.Need-element-set-from-state invariant-loop decreases-loop
-element-set-from-state c = search (rules, own-fits c.before.before.before.before.before.before.before.before.before.before.before.before.before)
+element-set-from-state c = search (rules, own_fits c.before.before.before.before.before.before.before.before.before.before.before.before.before)
 
 returns-2 : tie.Need-returns-2 invariant-loop decreases-loop
 returns-2 c =

@@ -3,7 +3,7 @@ use Prim.Native.Nat.{◌-◌}
 use native.Mathlib.Omega.{arith}
 use borrow.Author.Rules.{rules}
 use Rattle.model.specs.Readings.{lists}
-use Rattle.execution.proofs.Turns.{Taking, sets_off, takes-on, rows-kept, is-inside, all-taken}
+use Rattle.execution.proofs.Turns.{Taking, sets_off, takes_on, rows_kept, is_inside, all_taken}
 use Rattle.execution.proofs.run_steps.Statement.{statement}
 use Rattle.execution.proofs.run_steps.Tie as tie
 
@@ -29,7 +29,7 @@ loop-holds c = sets_off (omega (arith, c.least3.ensures, c.before.least2.ensures
 run-turn-requires : tie.Need-run-turn-requires invariant-loop decreases-loop
 run-turn-requires c κs =
     let g = c.before.before.loop.invariant in
-    omega (arith, is-inside g c.before.loop-test.true, rows-kept g)
+    omega (arith, is_inside g c.before.loop-test.true, rows_kept g)
 
 add-i : tie.Need-overflow-add-i invariant-loop decreases-loop
 add-i c = omega arith
@@ -39,13 +39,13 @@ loop-less c = omega arith
 
 loop-again : tie.Need-loop-preserved invariant-loop decreases-loop
 loop-again c =
-    takes-on c.before.before.before.before.loop.invariant c.before.before.before.loop-test.true c.before.run-turn.ensures
+    takes_on c.before.before.before.before.loop.invariant c.before.before.before.loop-test.true c.before.run-turn.ensures
 
 same_length : tie.Need-same-length invariant-loop decreases-loop
-same_length c = rows-kept c.before.loop.invariant
+same_length c = rows_kept c.before.loop.invariant
 
 returns : tie.Need-returns invariant-loop decreases-loop
-returns c = all-taken c.before.loop.invariant c.loop-test.false
+returns c = all_taken c.before.loop.invariant c.loop-test.false
 
 pub run-steps-spec : {M : Type 1} → statement M
 run-steps-spec =

@@ -1,7 +1,7 @@
 -- `funnelfawn::funnelfawn_record_and_tell` meets its contract: the recorded step stands, and the board is told where a crit was accepted.
 -- Assumes nothing.
 use borrow.Author.Rules.{rules}
-use Rattle.funnelfawn.proofs.Telling.{tell-refused, tell-other, tell-entered}
+use Rattle.funnelfawn.proofs.Telling.{tell_refused, tell_other, tell_entered}
 use Rattle.funnelfawn.proofs.funnelfawn_record_and_tell.Statement.{statement}
 use Rattle.funnelfawn.proofs.funnelfawn_record_and_tell.Tie as tie
 
@@ -20,7 +20,7 @@ same-length-2 c = search rules
 returns : tie.Need-returns
 returns c =
     let a = c.before.before.before.before.before.before.before.before.before.before.before.before.before.before.args in
-    tell-refused a.table.now a.summary.now a.board.now a.action a.process a.time
+    tell_refused a.table.now a.summary.now a.board.now a.action a.process a.time
     c.before.before.before.before.before.before.before.before.record-entry.ensures c.before.if1.true c.alone.ensures
 
 alone-requires-2 : tie.Need-alone-requires-2
@@ -35,7 +35,7 @@ same-length-4 c = search rules
 returns-2 : tie.Need-returns-2
 returns-2 c =
     let a = c.before.before.before.before.before.before.before.before.before.before.before.before.before.before.before.args in
-    tell-other a.table.now a.summary.now a.board.now a.action a.process a.time
+    tell_other a.table.now a.summary.now a.board.now a.action a.process a.time
     c.before.before.before.before.before.before.before.before.before.record-entry.ensures c.before.before.if1.false c.before.if2.true c.alone2.ensures
 
 add-requires : tie.Need-add-requires
@@ -53,7 +53,7 @@ same-length-7 c = search rules
 returns-3 : tie.Need-returns-3
 returns-3 c =
     let a = c.before.before.before.before.before.before.before.before.before.before.before.before.before.before.before.before.before.before.args in
-    tell-entered a.table.now a.summary.now a.board.now a.action a.process a.time
+    tell_entered a.table.now a.summary.now a.board.now a.action a.process a.time
     c.before.before.before.before.before.before.before.before.before.before.before.before.record-entry.ensures c.before.before.before.before.before.if1.false c.before.before.before.before.if2.false
     c.before.before.add.ensures
 

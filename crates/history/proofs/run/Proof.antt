@@ -4,9 +4,9 @@ use Prim.Native.Nat.{◌-◌}
 use mathlib.Core.Path.{refl, ap, ◌∙◌}
 use native.Mathlib.Omega.{arith}
 use Rattle.model.specs.declared.Outcome.{Outcome}
-use Rattle.model.proofs.Folds.{sets-out}
+use Rattle.model.proofs.Folds.{sets_out}
 use Rattle.history.specs.Lists.{Rows, rows, calls_of, ran_from, ran_of}
-use Rattle.history.proofs.Turns.{length_calls, Turning, is-inside, turns-on, counts-long, waited-long, answers-long, ends, ran_demand3}
+use Rattle.history.proofs.Turns.{length_calls, Turning, is_inside, turns_on, counts_long, waited_long, answers_long, ends, ran_demand3}
 use Rattle.history.proofs.run.Statement.{statement}
 use Rattle.history.proofs.run.Tie as tie
 
@@ -36,12 +36,12 @@ least-requires-3 c κs = tt
 loop-holds : tie.Need-loop-init invariant-loop decreases-loop
 loop-holds c =
     let s = c.before.before.before.before.before.before in
-    sets-out (omega (arith, length_calls s.args.calls.now (lent s))) refl
+    sets_out (omega (arith, length_calls s.args.calls.now (lent s))) refl
 
 make-turn-requires : tie.Need-make-turn-requires invariant-loop decreases-loop
 make-turn-requires c κs =
     let g = c.before.before.before.before.loop.invariant in
-    omega (arith, is-inside g (omega arith), counts-long g, waited-long g, answers-long g)
+    omega (arith, is_inside g (omega arith), counts_long g, waited_long g, answers_long g)
 
 add-i : tie.Need-overflow-add-i invariant-loop decreases-loop
 add-i c = omega arith
@@ -50,17 +50,17 @@ loop-less : tie.Need-loop-smaller invariant-loop decreases-loop
 loop-less c = omega arith
 
 loop-again : tie.Need-loop-preserved invariant-loop decreases-loop
-loop-again c = turns-on c.before.before.before.before.before.before.before.before.loop.invariant (omega arith)
+loop-again c = turns_on c.before.before.before.before.before.before.before.before.loop.invariant (omega arith)
     c.before.before.before.make-turn.ensures
 
 same_length : tie.Need-same-length invariant-loop decreases-loop
-same_length c = counts-long c.before.loop.invariant
+same_length c = counts_long c.before.loop.invariant
 
 same-length-2 : tie.Need-same-length-2 invariant-loop decreases-loop
-same-length-2 c = waited-long c.before.loop.invariant
+same-length-2 c = waited_long c.before.loop.invariant
 
 same-length-3 : tie.Need-same-length-3 invariant-loop decreases-loop
-same-length-3 c = answers-long c.before.loop.invariant
+same-length-3 c = answers_long c.before.loop.invariant
 
 returns : tie.Need-returns invariant-loop decreases-loop
 unfolding ran_of

@@ -4,9 +4,9 @@ use Prim.Native.Nat.{◌-◌}
 use mathlib.Core.Path.{refl, ◌∙◌}
 use native.Mathlib.Omega.{arith}
 use Rattle.model.specs.Summaries.{beside}
-use Rattle.model.proofs.Folds.{sets-out}
+use Rattle.model.proofs.Folds.{sets_out}
 use Rattle.history.specs.RecordedRuns.{events_in_rows, recorded_run_from, recorded_run_of}
-use Rattle.history.proofs.RecordedTurns.{length_events, Recording, records-on, answers-long, ends, recorded_run_tallied}
+use Rattle.history.proofs.RecordedTurns.{length_events, Recording, records_on, answers_long, ends, recorded_run_tallied}
 use Rattle.history.proofs.run_recorded.Statement.{statement}
 use Rattle.history.proofs.run_recorded.Tie as tie
 
@@ -28,13 +28,13 @@ least-requires c κs = tt
 loop-holds : tie.Need-loop-init invariant-loop decreases-loop
 loop-holds c =
     let s = c.before.before.before.before in
-    sets-out (omega (arith, length_events s.args.acts.now s.args.answers.now)) refl
+    sets_out (omega (arith, length_events s.args.acts.now s.args.answers.now)) refl
 
 record-turn-requires : tie.Need-record-turn-requires invariant-loop decreases-loop
 record-turn-requires c κs =
     let s = c.before.before.before.before.before.before.before in
     let g = c.before.before.loop.invariant in
-    omega (arith, length_events s.args.acts.now s.args.answers.now, answers-long g)
+    omega (arith, length_events s.args.acts.now s.args.answers.now, answers_long g)
 
 add-i : tie.Need-overflow-add-i invariant-loop decreases-loop
 add-i c = omega arith
@@ -43,10 +43,10 @@ loop-less : tie.Need-loop-smaller invariant-loop decreases-loop
 loop-less c = omega arith
 
 loop-again : tie.Need-loop-preserved invariant-loop decreases-loop
-loop-again c = records-on c.before.before.before.before.loop.invariant (omega arith) c.before.record-turn.ensures
+loop-again c = records_on c.before.before.before.before.loop.invariant (omega arith) c.before.record-turn.ensures
 
 same_length : tie.Need-same-length invariant-loop decreases-loop
-same_length c = answers-long c.before.before.before.before.loop.invariant
+same_length c = answers_long c.before.before.before.before.loop.invariant
 
 returns : tie.Need-returns invariant-loop decreases-loop
 unfolding recorded_run_of

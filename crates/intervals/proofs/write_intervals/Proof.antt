@@ -11,7 +11,7 @@ use Rattle.model.specs.Executions.{start_gave}
 use Rattle.model.proofs.Given.{write-gave}
 use Rattle.execution.proofs.Starts.{Ready, ready, refusal}
 use Rattle.intervals.specs.Intervals.{write_intervals_of}
-use Rattle.intervals.proofs.Traces.{ready-short, ready-written}
+use Rattle.intervals.proofs.Traces.{ready_short, ready_written}
 use Rattle.intervals.proofs.write_intervals.Statement.{statement}
 use Rattle.intervals.proofs.write_intervals.Tie as tie
 
@@ -117,7 +117,7 @@ write-run-requires c κs =
     let d = c.before.before.before.before in
     let l = length-left (started d) in
     let few = (run d).few in
-    (simp length-take (omega (arith, few, l.0)), (simp length-take (omega (arith, few, l.0, l.1, l.2)), ready-short (run d)))
+    (simp length-take (omega (arith, few, l.0)), (simp length-take (omega (arith, few, l.0, l.1, l.2)), ready_short (run d)))
 
 same_length : tie.Need-same-length
 same_length c = search rules
@@ -126,7 +126,7 @@ returns-2 : tie.Need-returns-2
 returns-2 c =
     let d = c.before.before.before.before.before.before.before in
     let out = (started d).before.before.before.before.before.before.before.before.before.args.out.now in
-    c.before.before.write-run.ensures ∙ ready-written (run d) out
+    c.before.before.write-run.ensures ∙ ready_written (run d) out
 
 pub write-intervals-spec : {M : Type 1} → statement M
 write-intervals-spec =

@@ -1,6 +1,6 @@
 -- `layout::record` meets its contract: the recorded step, without the wait. Assumes nothing.
 use Rattle.std.proofs.Common.{rules}
-use Rattle.layout.proofs.Recording.{entry-record}
+use Rattle.layout.proofs.Recording.{entry_record}
 use Rattle.layout.proofs.record.Statement.{statement}
 use Rattle.layout.proofs.record.Tie as tie
 
@@ -16,7 +16,7 @@ same-length-2 c = search rules
 returns : tie.Need-returns
 returns c =
     let a = c.before.before.before.before.before.before.before.before.before.before.args in
-    entry-record a.table.now a.summary.now a.action a.process a.time c.before.before.before.before.before.record-entry.ensures
+    entry_record a.table.now a.summary.now a.action a.process a.time c.before.before.before.before.before.record-entry.ensures
 
 pub record-spec : {M : Type 1} → statement M
 record-spec = tie.close (tie.spec record-entry-requires same_length same-length-2 returns)

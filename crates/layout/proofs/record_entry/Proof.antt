@@ -6,9 +6,9 @@ use Rattle.layout.specs.Encodings.{clock_place, table_length, is_sound_table, cl
 use Rattle.layout.specs.Interface.{lent_gave}
 use Rattle.layout.specs.Steps.{acted_in, survey_in}
 use Rattle.layout.specs.Countings.{fault_in}
-use Rattle.layout.proofs.Lending.{short_unsound, new-long}
-use Rattle.layout.proofs.Recording.{fault-unsound, no-fault-sound, record-unsound, record-short, record-refused}
-use Rattle.layout.proofs.Recording.{record-counted, record-accepted, sound-after, waits-fit, wait-told, entry-refused, entry-accepted}
+use Rattle.layout.proofs.Lending.{short_unsound, new_long}
+use Rattle.layout.proofs.Recording.{fault_unsound, no_fault_sound, record_unsound, record_short, record_refused}
+use Rattle.layout.proofs.Recording.{record_counted, record_accepted, sound_after, waits_fit, wait_told, entry_refused, entry_accepted}
 use Rattle.layout.proofs.record_entry.Statement.{statement}
 use Rattle.layout.proofs.record_entry.Tie as tie
 
@@ -23,8 +23,8 @@ returns c =
     let a = c.before.before.before.before.before.args in
     let r = c.refused.ensures in
     rw (ap (λ k. k.answer) r, ap (λ k. k.wait) r)
-    (entry-refused a.table.now a.summary.now a.action a.process a.time
-    (record-unsound a.table.now a.summary.now a.action a.process a.time (short_unsound _ c.before.before.if1.true) c.before.answer-with.ensures)
+    (entry_refused a.table.now a.summary.now a.action a.process a.time
+    (record_unsound a.table.now a.summary.now a.action a.process a.time (short_unsound _ c.before.before.if1.true) c.before.answer-with.ensures)
     (λ z. omega (arith, z, ap (λ (r : Answer). r.code) c.before.answer-with.ensures)) refl)
 
 slice-reshare-prefix-survey-table : tie.Need-slice-reshare-prefix-survey-table
@@ -50,9 +50,9 @@ returns-2 c =
     let a = c.before.before.before.before.before.before.before.before.before.args in
     let r = c.refused2.ensures in
     rw (ap (λ k. k.answer) r, ap (λ k. k.wait) r)
-    (entry-refused a.table.now a.summary.now a.action a.process a.time
-    (record-unsound a.table.now a.summary.now a.action a.process a.time
-    (fault-unsound a.table.now c.before.before.before.before.before.before.if1.false a.process
+    (entry_refused a.table.now a.summary.now a.action a.process a.time
+    (record_unsound a.table.now a.summary.now a.action a.process a.time
+    (fault_unsound a.table.now c.before.before.before.before.before.before.if1.false a.process
     (rw c.before.before.before.before.survey-table.ensures at c.before.before.if2.true))
     c.before.answer-with2.ensures)
     (λ z. omega (arith, z, ap (λ (r : Answer). r.code) c.before.answer-with2.ensures)) refl)
@@ -60,7 +60,7 @@ returns-2 c =
 -- the table is sound
 sound : (c : tie.Else2) → is_sound_table c.before.before.before.before.before.before.before.args.table.now ≡ true
 sound c =
-    no-fault-sound c.before.before.before.before.before.before.before.args.table.now c.before.before.before.before.if1.false c.before.before.before.before.before.before.before.args.process
+    no_fault_sound c.before.before.before.before.before.before.before.args.table.now c.before.before.before.before.if1.false c.before.before.before.before.before.before.before.args.process
     (rw c.before.before.survey-table.ensures at c.if2.false)
 
 answer-with-requires-3 : tie.Need-answer-with-requires-3
@@ -77,8 +77,8 @@ returns-3 c =
     let a = c.before.before.before.before.before.before.before.before.before.before.args in
     let r = c.refused3.ensures in
     rw (ap (λ k. k.answer) r, ap (λ k. k.wait) r)
-    (entry-refused a.table.now a.summary.now a.action a.process a.time
-    (record-short a.table.now a.summary.now a.action a.process a.time (sound c.before.before.before) c.before.before.if3.true
+    (entry_refused a.table.now a.summary.now a.action a.process a.time
+    (record_short a.table.now a.summary.now a.action a.process a.time (sound c.before.before.before) c.before.before.if3.true
     c.before.answer-with3.ensures)
     (λ z. omega (arith, z, ap (λ (r : Answer). r.code) c.before.answer-with3.ensures)) refl)
 
@@ -123,8 +123,8 @@ returns-4 c =
     let a = c.before.before.before.before.before.before.before.before.before.before.before.before.before.before.args in
     let r = c.refused4.ensures in
     rw (ap (λ k. k.answer) r, ap (λ k. k.wait) r)
-    (entry-refused a.table.now a.summary.now a.action a.process a.time
-    (record-refused a.table.now a.summary.now a.action a.process a.time (sound c.before.before.before.before.before.before.before)
+    (entry_refused a.table.now a.summary.now a.action a.process a.time
+    (record_refused a.table.now a.summary.now a.action a.process a.time (sound c.before.before.before.before.before.before.before)
     c.before.before.before.before.before.before.if3.false (fault c.before.before.before)
     c.before.before.if4.true c.before.answer-with4.ensures)
     (λ z. c.before.before.if4.true
@@ -152,7 +152,7 @@ acted c = rw c.before.before.before.before.before.before.before.before.before.su
 new-size : (c : tie.After-act) → length c.act.new.0 ≡ table_length
 new-size c =
     let a = c.before.before.before.before.before.before.before.before.before.before.before.before.before.before.args in
-    new-long a.table.now c.before.before.before.before.before.before.before.before.before.before.before.if1.false a.action a.process
+    new_long a.table.now c.before.before.before.before.before.before.before.before.before.before.before.if1.false a.action a.process
     a.time (acted c)
 
 -- which are the first of the table then
@@ -186,8 +186,8 @@ returns-5 c =
     let a = c.before.before.before.before.before.before.before.before.before.before.before.before.before.before.before.before.before.before.before.before.before.before.before.args in
     let r = c.refused5.ensures in
     rw (ap (λ k. k.answer) r, ap (λ k. k.wait) r)
-    (entry-refused a.table.now a.summary.now a.action a.process a.time
-    (record-counted a.table.now a.summary.now a.action a.process a.time (sound
+    (entry_refused a.table.now a.summary.now a.action a.process a.time
+    (record_counted a.table.now a.summary.now a.action a.process a.time (sound
     c.before.before.before.before.before.before.before.before.before.before.before.before.before.before.before.before)
     c.before.before.before.before.before.before.before.before.before.before.before.before.before.before.before.if3.false (fault
     c.before.before.before.before.before.before.before.before.before.before.before.before)
@@ -244,9 +244,9 @@ count-accepted-requires c κs =
       (
         ap length back ∙ new-size c.before.before.before.before.before.before.before,
         (
-          ap is_sound_table back ∙ sound-after a.table.now a.summary.now a.action a.process a.time (sound
+          ap is_sound_table back ∙ sound_after a.table.now a.summary.now a.action a.process a.time (sound
               c.before.before.before.before.before.before.before.before.before.before.before.before.before.before) fits is none long gave z,
-          waits-fit a.table.now a.summary.now a.action a.process a.time (sound
+          waits_fit a.table.now a.summary.now a.action a.process a.time (sound
               c.before.before.before.before.before.before.before.before.before.before.before.before.before.before) fits is none long gave z (unused
               c.before.before),
         ),
@@ -271,10 +271,10 @@ returns-6 c =
     let z = c.before.before.before.before.before.before.if5.false in
     let d = unused c.before.before.before.before.before in
     let counted = c.before.before.count-accepted.ensures in
-    entry-accepted a.table.now a.summary.now a.action a.process a.time
-    (record-accepted a.table.now a.summary.now a.action a.process a.time safe fits is none long gave z d (rw (front
+    entry_accepted a.table.now a.summary.now a.action a.process a.time
+    (record_accepted a.table.now a.summary.now a.action a.process a.time safe fits is none long gave z d (rw (front
     c.before.before.before.before.before.before.before.before.before.before) at counted.1))
-    z (wait-told a.table.now a.summary.now a.action a.process a.time safe fits is none long gave z d counted.0)
+    z (wait_told a.table.now a.summary.now a.action a.process a.time safe fits is none long gave z d counted.0)
 
 pub record-entry-spec : {M : Type 1} → statement M
 record-entry-spec =

@@ -1,6 +1,6 @@
 -- `layout::step` meets its contract: the first numbers of the list are judged and written. Assumes nothing.
 use Rattle.std.proofs.Common.{sym, length-take-le, rules}
-use Rattle.layout.proofs.Lending.{short_unsound, step_unsound, step-front}
+use Rattle.layout.proofs.Lending.{short_unsound, step_unsound, step_front}
 use Rattle.layout.proofs.step.Statement.{statement}
 use Rattle.layout.proofs.step.Tie as tie
 
@@ -37,7 +37,7 @@ returns-2 : tie.Need-returns-2
 returns-2 c =
     let acted = c.before.before in
     let a = acted.before.before.before.before.before.before.args in
-    step-front a.table.now acted.before.before.before.before.if1.false a.action a.process a.time
+    step_front a.table.now acted.before.before.before.before.if1.false a.action a.process a.time
     (rw acted.before.before.survey-table.ensures at acted.act.ensures)
 
 pub step_spec : {M : Type 1} → statement M

@@ -9,7 +9,7 @@ use Rattle.local_log.specs.Formulas.{in_time, same_numbers, compared_of}
 use Rattle.local_log.specs.Passes.{no_differences, pass_of, bounded_of}
 use Rattle.local_log.proofs.Entries.{length_entries, times-of, actions-of}
 use Rattle.local_log.proofs.Worked.{same_iff, compared_exactly}
-use Rattle.local_log.proofs.Compared.{smallest_small, past-range, past-tolerance, past-local, past-other, not_same, past-place, all-places}
+use Rattle.local_log.proofs.Compared.{smallest_small, past_range, past_tolerance, past_local, past_other, not_same, past_place, all_places}
 use Rattle.local_log.proofs.compare.Statement.{statement}
 use Rattle.local_log.proofs.compare.Tie as tie
 
@@ -57,21 +57,21 @@ module _ (c : Looked) where
   other-long = c.before.before.before.before.before.least2.ensures
 
   -- the parts of the lists that are lent are the logs
-  local-times : take local-count at.args.stamps.now ≡ times_in (local at)
-  local-times = ap (λ (n : ℕ). take n at.args.stamps.now) local-long ∙ sym (times-of at.args.stamps.now at.args.claims.now)
+  local_times : take local-count at.args.stamps.now ≡ times_in (local at)
+  local_times = ap (λ (n : ℕ). take n at.args.stamps.now) local-long ∙ sym (times-of at.args.stamps.now at.args.claims.now)
 
-  other-times : take count at.args.times.now ≡ times_in (other at)
-  other-times = ap (λ (n : ℕ). take n at.args.times.now) other-long ∙ sym (times-of at.args.times.now at.args.actions.now)
+  other_times : take count at.args.times.now ≡ times_in (other at)
+  other_times = ap (λ (n : ℕ). take n at.args.times.now) other-long ∙ sym (times-of at.args.times.now at.args.actions.now)
 
   local-actions : take local-count at.args.claims.now ≡ actions_in (local at)
   local-actions = ap (λ (n : ℕ). take n at.args.claims.now) local-long ∙ sym (actions-of at.args.stamps.now at.args.claims.now)
 
-  other-actions : take count at.args.actions.now ≡ actions_in (other at)
-  other-actions = ap (λ (n : ℕ). take n at.args.actions.now) other-long ∙ sym (actions-of at.args.times.now at.args.actions.now)
+  other_actions : take count at.args.actions.now ≡ actions_in (other at)
+  other_actions = ap (λ (n : ℕ). take n at.args.actions.now) other-long ∙ sym (actions-of at.args.times.now at.args.actions.now)
 
   told : c.same_numbers.result ≡ same_numbers (actions_in (local at)) (actions_in (other at))
   told = c.same_numbers.ensures ∙ ap (λ (l : List ℕ). same_numbers l (take count at.args.actions.now)) local-actions
-      ∙ ap (same_numbers (actions_in (local at))) other-actions
+      ∙ ap (same_numbers (actions_in (local at))) other_actions
 
   other-size : count ≡ length (other at)
   other-size = other-long ∙ sym (length_entries at.args.times.now at.args.actions.now)
@@ -90,8 +90,8 @@ module _ (c : Found) where
 
   found : c.find-differences.result ≡ pass_of (times_in (local (at (looked c)))) (times_in (other (at (looked c))))
   found = c.find-differences.ensures
-      ∙ ap (λ (l : List ℕ). pass_of l (take (count (looked c)) (at (looked c)).args.times.now)) (local-times (looked c))
-      ∙ ap (pass_of (times_in (local (at (looked c))))) (other-times (looked c))
+      ∙ ap (λ (l : List ℕ). pass_of l (take (count (looked c)) (at (looked c)).args.times.now)) (local_times (looked c))
+      ∙ ap (pass_of (times_in (local (at (looked c))))) (other_times (looked c))
 
   places : c.find-differences.result.places ≡ (pass_of (times_in (local (at (looked c)))) (times_in (other (at (looked c))))).places
   places = ap (λ (p : Differences). p.places) found
@@ -102,7 +102,7 @@ refused-requires c κs = search rules
 returns : tie.Need-returns
 returns c =
     let s = c.before.before.before.before.before.before in
-    answered s c.refused.ensures (past-range s.args.d s.args.e (local s) (other s) c.before.if1.true)
+    answered s c.refused.ensures (past_range s.args.d s.args.e (local s) (other s) c.before.if1.true)
 
 refused-requires-2 : tie.Need-refused-requires-2
 refused-requires-2 c κs = search rules
@@ -110,7 +110,7 @@ refused-requires-2 c κs = search rules
 returns-2 : tie.Need-returns-2
 returns-2 c =
     let s = c.before.before.before.before.before.before.before in
-    answered s c.refused2.ensures (past-tolerance s.args.d s.args.e (local s) (other s) c.before.if2.true)
+    answered s c.refused2.ensures (past_tolerance s.args.d s.args.e (local s) (other s) c.before.if2.true)
 
 least-requires : tie.Need-least-requires
 least-requires c κs = search rules
@@ -145,7 +145,7 @@ returns-3 c =
     let l = looked f in
     let s = at l in
     answered s c.refused3.ensures
-    (past-place s.args.d s.args.e (local s) (other s) (range l) (tolerance l) (same f) (omega (arith, c.before.if4.true, places f, other-size l)))
+    (past_place s.args.d s.args.e (local s) (other s) (range l) (tolerance l) (same f) (omega (arith, c.before.if4.true, places f, other-size l)))
 
 bounded-requires : tie.Need-bounded-requires
 bounded-requires c κs =
@@ -161,7 +161,7 @@ returns-4 c =
     let s = at l in
     let bounds = ap (λ (p : Differences). bounded_of p.smallest p.largest s.args.d s.args.e) (found f) in
     answered s (c.bounded.ensures ∙ bounds)
-    (all-places s.args.d s.args.e (local s) (other s) (range l) (tolerance l) (same f) (omega (arith, c.before.if4.false, places f, other-size l)))
+    (all_places s.args.d s.args.e (local s) (other s) (range l) (tolerance l) (same f) (omega (arith, c.before.if4.false, places f, other-size l)))
 
 in-time-requires : tie.Need-in-time-requires
 in-time-requires c κs = search rules
@@ -174,7 +174,7 @@ returns-5 c =
     let l = c.before.before.before.before in
     let s = at l in
     let late = sym c.before.before.in-time.ensures ∙ not-true _ c.before.if5.true in
-    answered s c.refused4.ensures (past-local s.args.d s.args.e (local s) (other s) (ap in_time (sym (local-times l)) ∙ late))
+    answered s c.refused4.ensures (past_local s.args.d s.args.e (local s) (other s) (ap in_time (sym (local_times l)) ∙ late))
 
 in-time-requires-2 : tie.Need-in-time-requires-2
 in-time-requires-2 c κs = search rules
@@ -187,7 +187,7 @@ returns-6 c =
     let l = c.before.before.before.before.before.before in
     let s = at l in
     let late = sym c.before.before.in-time2.ensures ∙ not-true _ c.before.if6.true in
-    answered s c.refused5.ensures (past-other s.args.d s.args.e (local s) (other s) (ap in_time (sym (other-times l)) ∙ late))
+    answered s c.refused5.ensures (past_other s.args.d s.args.e (local s) (other s) (ap in_time (sym (other_times l)) ∙ late))
 
 refused-requires-6 : tie.Need-refused-requires-6
 refused-requires-6 c κs = search rules
@@ -198,8 +198,8 @@ returns-7 c =
     let s = at l in
     let n = sym (told l) ∙ c.before.before.before.before.before.if3.false in
     let first = c.before.before.before in
-    let t = ap in_time (sym (local-times l)) ∙ sym first.before.in-time.ensures ∙ not-false _ first.if5.false in
-    let u = ap in_time (sym (other-times l)) ∙ sym c.before.before.in-time2.ensures ∙ not-false _ c.before.if6.false in
+    let t = ap in_time (sym (local_times l)) ∙ sym first.before.in-time.ensures ∙ not-false _ first.if5.false in
+    let u = ap in_time (sym (other_times l)) ∙ sym c.before.before.in-time2.ensures ∙ not-false _ c.before.if6.false in
     answered s c.refused6.ensures (not_same s.args.d s.args.e (local s) (other s) (range l) (tolerance l) n t u)
 
 pub compare-spec : {M : Type 1} → statement M

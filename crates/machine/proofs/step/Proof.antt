@@ -15,7 +15,7 @@ use Rattle.model.specs.Answers.{step_of}
 use Rattle.rules.proofs.Rows.{row_is}
 use Rattle.rules.proofs.Slots.{slot_in, slot_fits}
 use Rattle.model.proofs.Lists.{length_mapped}
-use Rattle.rules.proofs.Pass.{Passed, numbers_fault, nothing_passed, turn-fault, turn-passed, passed_whole}
+use Rattle.rules.proofs.Pass.{Passed, numbers_fault, nothing_passed, turn_fault, turn_passed, passed_whole}
 use Rattle.rules.proofs.Pass.{Surveyed, faulty, whole}
 use Rattle.rules.proofs.Judged.{Goes, goes, exit_unsound, exit_refused, exit_waited, exit_moved}
 use Rattle.machine.proofs.step.Statement.{statement}
@@ -85,7 +85,7 @@ loop-again c =
     let v = c.before.before.before.before.before.before.before.before.before.loop in
     let e : v.at - 1 + 1 ≡ v.at + 1 - 1 = omega (arith, v.invariant.0) in (
       omega arith,
-      rw e at (turn-passed a.t1 a.process (v.at - 1) v.at v.found v.invariant.1 (omega arith) (omega arith) idle
+      rw e at (turn_passed a.t1 a.process (v.at - 1) v.at v.found v.invariant.1 (omega arith) (omega arith) idle
           c.before.before.note.result
           (rw (scene.ensures, c.before.before.before.limit-of.ensures) at c.before.before.note.ensures) c.if2.false),
     )
@@ -97,14 +97,14 @@ slot-of-requires : tie.Need-slot-of-requires invariant-loop decreases-loop
 slot-of-requires c κs = search rules
 
 -- the place of the acting process is one of the 96
-own-fits : (c : tie.After-slot-of invariant-loop decreases-loop) → c.slot_of.result < 96
-own-fits c = search (rules, slot_fits)
+own_fits : (c : tie.After-slot-of invariant-loop decreases-loop) → c.slot_of.result < 96
+own_fits c = search (rules, slot_fits)
 
 mul-own-entry : tie.Need-overflow-mul-own-entry invariant-loop decreases-loop
-mul-own-entry c = search (rules, own-fits c)
+mul-own-entry c = search (rules, own_fits c)
 
 element-copy-out-own-entry : tie.Need-element-copy-out-own-entry invariant-loop decreases-loop
-element-copy-out-own-entry c = search (rules, own-fits c)
+element-copy-out-own-entry c = search (rules, own_fits c)
 
 stage-of-requires : tie.Need-stage-of-requires invariant-loop decreases-loop
 stage-of-requires c κs = search rules
@@ -120,7 +120,7 @@ surveyed c =
     let v = c.before.loop in
     ⊎_elim
     (λ w. rw w.1 (whole (passed_whole a.t1 a.process (v.at - 1) v.found v.invariant.1 (omega (arith, w.0.left)))))
-    (λ w. rw w.9 (faulty (turn-fault a.t1 a.process (v.at - 1) v.at v.found v.invariant.1 (omega (arith, w.0.taken))
+    (λ w. rw w.9 (faulty (turn_fault a.t1 a.process (v.at - 1) v.at v.found v.invariant.1 (omega (arith, w.0.taken))
     (omega (arith, v.invariant.0)) idle w.6.result (rw (c.before.before.before.scene-of.ensures, w.5.ensures) at w.6.ensures) w.8.taken)
     w.8.taken))
     c.loop-test.branch
@@ -146,10 +146,10 @@ entry-at-requires : tie.Need-entry-at-requires invariant-loop decreases-loop
 entry-at-requires c κs = search rules
 
 mul-t45 : tie.Need-overflow-mul-t45 invariant-loop decreases-loop
-mul-t45 c = search (rules, own-fits c.before.before.before.before.before.before.before.before)
+mul-t45 c = search (rules, own_fits c.before.before.before.before.before.before.before.before)
 
 element-set-from-state : tie.Need-element-set-from-state invariant-loop decreases-loop
-element-set-from-state c = search (rules, own-fits c.before.before.before.before.before.before.before.before)
+element-set-from-state c = search (rules, own_fits c.before.before.before.before.before.before.before.before)
 
 -- the model's step goes with the answer
 answered : (c : tie.After-judge invariant-loop decreases-loop)

@@ -7,9 +7,9 @@ use borrow.Author.Tests.{not-true, not-false}
 use Rattle.recent.specs.Boards.{is_process}
 use Rattle.recent.specs.Encodings.{board_in}
 use Rattle.recent.specs.Looking.{Looked, untimely_of}
-use Rattle.recent.proofs.Writes.{headed-length}
-use Rattle.recent.proofs.Calls.{seen-sound, count_most, first-most, next-most, Timely, timely}
-use Rattle.recent.proofs.Calls.{add-unsound, add-untimely, add-misnamed, add-full, add-accepted}
+use Rattle.recent.proofs.Writes.{headed_length}
+use Rattle.recent.proofs.Calls.{seen_sound, count_most, first_most, next_most, Timely, timely}
+use Rattle.recent.proofs.Calls.{add_unsound, add_untimely, add_misnamed, add_full, add_accepted}
 use Rattle.recent.proofs.add.Statement.{statement}
 use Rattle.recent.proofs.add.Tie as tie
 
@@ -25,7 +25,7 @@ same_length c = search rules
 returns : tie.Need-returns
 returns c =
     let a = c.before.before.before.before.before.before.args in
-    add-unsound a.board.now a.time a.process a.wait
+    add_unsound a.board.now a.time a.process a.wait
     (c.before.before.before.look_in.ensures.unsound (not-true _ c.before.if1.true)) c.answer-with.ensures
 
 -- what the look told
@@ -34,7 +34,7 @@ looked : (c : tie.Else1)
 looked c = c.before.before.look_in.ensures.looked (not-false _ c.if1.false)
 
 slice-read-untimely : tie.Need-slice-read-untimely
-slice-read-untimely c = omega (arith, (seen-sound (looked c.before)).fits)
+slice-read-untimely c = omega (arith, (seen_sound (looked c.before)).fits)
 
 untimely-requires : tie.Need-untimely-requires
 untimely-requires c κs = search rules
@@ -57,7 +57,7 @@ same-length-2 c = search rules
 returns-2 : tie.Need-returns-2
 returns-2 c =
     let a = c.before.before.before.before.before.before.before.before.before.args in
-    add-untimely a.board.now a.time a.process a.wait (looked c.before.before.before.before)
+    add_untimely a.board.now a.time a.process a.wait (looked c.before.before.before.before)
     (refusal c.before.before) c.if2.true
 
 is-process-requires : tie.Need-is-process-requires
@@ -72,7 +72,7 @@ same-length-3 c = search rules
 returns-3 : tie.Need-returns-3
 returns-3 c =
     let a = c.before.before.before.before.before.before.before.before.before.before.before.before.args in
-    add-misnamed a.board.now a.time a.process a.wait (looked c.before.before.before.before.before.before.before)
+    add_misnamed a.board.now a.time a.process a.wait (looked c.before.before.before.before.before.before.before)
     (in-time c.before.before.before)
     (sym c.before.before.is-process.ensures ∙ not-true _ c.before.if3.true) c.answer-with2.ensures
 
@@ -90,7 +90,7 @@ same-length-4 c = search rules
 returns-4 : tie.Need-returns-4
 returns-4 c =
     let a = c.before.before.before.before.before.before.before.before.before.before.before.before.before.before.args in
-    add-full a.board.now a.time a.process a.wait
+    add_full a.board.now a.time a.process a.wait
     (looked c.before.before.before.before.before.before.before.before.before)
     (in-time c.before.before.before.before.before) (named c.before.before.before) c.before.if4.true
     c.answer-with3.ensures
@@ -105,12 +105,12 @@ add-put-header : tie.Need-overflow-add-put-header
 add-put-header c = search (rules, count_most (seen c.before.before))
 
 put-header-requires : tie.Need-put-header-requires
-put-header-requires c κs = (seen-sound (seen c.before.before)).fits
+put-header-requires c κs = (seen_sound (seen c.before.before)).fits
 
 add-wrapped-place : tie.Need-overflow-add-wrapped-place
 add-wrapped-place c =
     let k = seen c.before.before.before.before.before.before.before in
-    search (rules, first-most k, count_most k)
+    search (rules, first_most k, count_most k)
 
 wrapped-place-requires : tie.Need-wrapped-place-requires
 wrapped-place-requires c κs = search rules
@@ -118,8 +118,8 @@ wrapped-place-requires c κs = search rules
 put-entry-requires : tie.Need-put-entry-requires
 put-entry-requires c κs =
     let k = seen c.before.before.before.before.before.before.before.before in (
-      rw c.before.before.before.before.before.put-header.ensures (rw (headed-length _ _ _ _) (seen-sound k).fits),
-      rw c.wrapped-place.ensures (next-most k),
+      rw c.before.before.before.before.before.put-header.ensures (rw (headed_length _ _ _ _) (seen_sound k).fits),
+      rw c.wrapped-place.ensures (next_most k),
     )
 
 add-answer-with : tie.Need-overflow-add-answer-with
@@ -142,7 +142,7 @@ returns-5 c =
     let h = w.before.before.before.before.before.before in
     let e = h.before.before.before in
     let a = e.before.before.before.before.before.before.before.before.before.before.before.before.before.args in
-    add-accepted a.board.now a.time a.process a.wait (seen e)
+    add_accepted a.board.now a.time a.process a.wait (seen e)
     (in-time e.before.before.before.before) (named e.before.before) e.if4.false
     (c.answer-with4.ensures ∙ rw c.before.greater.ensures)
     (rw (h.put-header.ensures, w.before.wrapped-place.ensures) at w.put-entry.ensures)

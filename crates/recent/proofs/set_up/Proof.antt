@@ -6,7 +6,7 @@ use borrow.Author.Rules.{rules}
 use borrow.Author.Tests.{not-true, not-false}
 use lib.ListN.{length}
 use Rattle.recent.specs.Boards.{width_stands}
-use Rattle.recent.proofs.Calls.{set-up-refused, set-up-neither, set-up-short, set-up-made}
+use Rattle.recent.proofs.Calls.{set_up_refused, set_up_neither, set_up_short, set_up_made}
 use Rattle.recent.proofs.set_up.Statement.{statement}
 use Rattle.recent.proofs.set_up.Tie as tie
 
@@ -32,10 +32,10 @@ stands c = sym c.before.width-stands.ensures ∙ not-false _ c.if1.false
 returns : tie.Need-returns
 returns c =
     let a = c.before.before.before.before.before.args in
-    let no-width = refused c.before.before in
+    let no_width = refused c.before.before in
     ⊎_elim
-    (λ w. set-up-refused a.width a.board.now w.0.taken no-width c.answer-with.ensures (w.5 ∙ w.2.ensures))
-    (λ w. rw w.1 (set-up-neither a.width a.board.now w.0.left no-width c.answer-with.ensures))
+    (λ w. set_up_refused a.width a.board.now w.0.taken no_width c.answer-with.ensures (w.5 ∙ w.2.ensures))
+    (λ w. rw w.1 (set_up_neither a.width a.board.now w.0.left no_width c.answer-with.ensures))
     c.before.if2.branch
 
 answer-with-requires-2 : tie.Need-answer-with-requires-2
@@ -44,7 +44,7 @@ answer-with-requires-2 c κs = search rules
 returns-2 : tie.Need-returns-2
 returns-2 c =
     let a = c.before.before.before.before.before.args in
-    set-up-short a.width a.board.now c.before.if3.true (stands c.before.before) c.answer-with2.ensures
+    set_up_short a.width a.board.now c.before.if3.true (stands c.before.before) c.answer-with2.ensures
 
 empty-requires-2 : tie.Need-empty-requires-2
 empty-requires-2 c κs = search rules
@@ -59,7 +59,7 @@ returns-3 : tie.Need-returns-3
 returns-3 c =
     let a = c.before.before.before.before.before.before.before.before.before.args in
     let e = c.before.before.before.before.before in
-    set-up-made a.width a.board.now e.if3.false (stands e.before) c.answer-with3.ensures c.before.before.before.empty2.ensures
+    set_up_made a.width a.board.now e.if3.false (stands e.before) c.answer-with3.ensures c.before.before.before.empty2.ensures
 
 pub set-up-spec : {M : Type 1} → statement M
 set-up-spec =

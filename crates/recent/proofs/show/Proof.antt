@@ -5,7 +5,7 @@ use borrow.Author.Rules.{rules}
 use borrow.Author.Tests.{not-true, not-false}
 use Rattle.recent.specs.Encodings.{board_in}
 use Rattle.recent.specs.Looking.{Looked, untimely_of}
-use Rattle.recent.proofs.Calls.{seen-sound, timely, show-unsound, show-untimely, show-accepted}
+use Rattle.recent.proofs.Calls.{seen_sound, timely, show_unsound, show_untimely, show_accepted}
 use Rattle.recent.proofs.show.Statement.{statement}
 use Rattle.recent.proofs.show.Tie as tie
 
@@ -21,7 +21,7 @@ same_length c = search rules
 returns : tie.Need-returns
 returns c =
     let a = c.before.before.before.before.before.before.args in
-    show-unsound a.board.now a.clock
+    show_unsound a.board.now a.clock
     (c.before.before.before.look_in.ensures.unsound (not-true _ c.before.if1.true)) c.answer-with.ensures
 
 -- what the look told
@@ -30,7 +30,7 @@ looked : (c : tie.Else1)
 looked c = c.before.before.look_in.ensures.looked (not-false _ c.if1.false)
 
 slice-read-untimely : tie.Need-slice-read-untimely
-slice-read-untimely c = omega (arith, (seen-sound (looked c.before)).fits)
+slice-read-untimely c = omega (arith, (seen_sound (looked c.before)).fits)
 
 untimely-requires : tie.Need-untimely-requires
 untimely-requires c κs = search rules
@@ -48,11 +48,11 @@ same-length-2 c = search rules
 returns-2 : tie.Need-returns-2
 returns-2 c =
     let a = c.before.before.before.before.before.before.before.before.before.args in
-    show-untimely a.board.now a.clock (looked c.before.before.before.before)
+    show_untimely a.board.now a.clock (looked c.before.before.before.before)
     (refusal c.before.before) c.if2.true
 
 put-header-requires : tie.Need-put-header-requires
-put-header-requires c κs = (seen-sound (looked c.before.before.before.before.before)).fits
+put-header-requires c κs = (seen_sound (looked c.before.before.before.before.before)).fits
 
 answer-with-requires-2 : tie.Need-answer-with-requires-2
 answer-with-requires-2 c κs = search rules
@@ -64,7 +64,7 @@ returns-3 : tie.Need-returns-3
 returns-3 c =
     let e = c.before.before.before.before.before in
     let a = c.before.before.before.before.before.before.before.before.before.before.before.before.before.before.args in
-    show-accepted a.board.now a.clock (looked c.before.before.before.before.before.before.before.before.before)
+    show_accepted a.board.now a.clock (looked c.before.before.before.before.before.before.before.before.before)
     (timely _ _ (refusal e.before.before) e.if2.false) c.answer-with2.ensures c.before.before.before.put-header.ensures
 
 pub show-spec : {M : Type 1} → statement M

@@ -10,7 +10,7 @@ use Rattle.model.specs.Reports.{answer_names, report_text}
 use Rattle.text.specs.Puts.{Put}
 use Rattle.text.proofs.Putting.{put_long}
 use Rattle.execution.proofs.Starts.{Ready, ready, refusal}
-use Rattle.text.proofs.Wholes.{after-names}
+use Rattle.text.proofs.Wholes.{after_names}
 use borrow.Author.Rules.{rules}
 use Rattle.report.proofs.put_report.Statement.{statement}
 use Rattle.report.proofs.put_report.Tie as tie
@@ -120,7 +120,7 @@ returns c =
     let n = names (named r) in
     let line = c.before.before.put-line.ensures in
     let fault = refusal (text r) (made (named r)) (wide r) r.start.ensures c.before.before.before.before.if1.true in
-    (rw fault (after-names n refl line.0), omega (arith, n.wide, line.1))
+    (rw fault (after_names n refl line.0), omega (arith, n.wide, line.1))
 
 array-share-prefix-times : tie.Need-array-share-prefix-times
 array-share-prefix-times c = (parts c.before).0
@@ -162,7 +162,7 @@ returns-2 c =
     let d = c.before.before.before.before.before.before.before in
     let n = names (named (started d)) in
     let lines = c.before.before.put-run.ensures in
-    (rw ((run d).is, ← (run d).state) (after-names n refl lines.0), omega (arith, n.wide, lines.1))
+    (rw ((run d).is, ← (run d).state) (after_names n refl lines.0), omega (arith, n.wide, lines.1))
 
 pub put-report-spec : {M : Type 1} → statement M
 put-report-spec =

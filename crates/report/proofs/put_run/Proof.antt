@@ -13,8 +13,8 @@ use Rattle.model.specs.Reports.{rows_text}
 use Rattle.model.specs.Folds.{results_by}
 use Rattle.model.proofs.Lists.{drop_end, part_is}
 use Rattle.text.proofs.Putting.{Left, left_all, left_next, left_done}
-use Rattle.model.proofs.Steps.{length-steps}
-use Rattle.execution.proofs.Blocks.{block-taken}
+use Rattle.model.proofs.Steps.{length_steps}
+use Rattle.execution.proofs.Blocks.{block_taken}
 use Rattle.report.specs.Runs.{run_text}
 use Rattle.report.proofs.Runs.{run_next}
 use Rattle.report.proofs.put_run.Statement.{statement}
@@ -65,7 +65,7 @@ turn c =
     let s = start c in
     let v = (head c).loop in
     run_next s.args.line v.i (count c) v.state _ (left c) (events_of (steps s))
-    (block-taken v.state (steps s) v.answers v.i (count c) (omega (arith, few c, s.pre.1, v.inv.2))
+    (block_taken v.state (steps s) v.answers v.i (count c) (omega (arith, few c, s.pre.1, v.inv.2))
     (rw (part_is s.args.times.now v.i, part_is s.args.processes.now v.i, part_is s.args.actions.now v.i)
     at c.run-steps.ensures))
 
@@ -178,7 +178,7 @@ unfolding rows_text results_by
 returns c =
     let s = c.before.before.before.before.before.before.before in
     let v = c.before.loop in
-    let all : length (events_of (steps s)) ≡ v.i = omega (arith, length-steps (steps s), s.requires.1, v.invariant.0, c.loop-test.false) in
+    let all : length (events_of (steps s)) ≡ v.i = omega (arith, length_steps (steps s), s.requires.1, v.invariant.0, c.loop-test.false) in
     let none = drop_end (events_of (steps s)) v.i (omega arith) (omega arith) in
     (left_done (rw none at v.invariant.3) (omega arith), omega (arith, v.invariant.0, v.invariant.1, s.requires.0))
 

@@ -6,10 +6,10 @@ use lib.Seq.{length-take-le}
 use Rattle.model.specs.declared.Reading.{Reading}
 use Rattle.model.specs.Readings.{Lists, lent, read_gave}
 use Rattle.model.specs.Writings.{events_of, Written, write_gave, write_of}
-use Rattle.model.proofs.Given.{gave-out}
+use Rattle.model.proofs.Given.{gave_out}
 use Rattle.grammar.specs.RoundTrips.{events_read}
 use Rattle.round_trips.specs.Trips.{reread_of}
-use Rattle.round_trips.proofs.Trips.{written_held, reread-refused, reread-done, reread_same}
+use Rattle.round_trips.proofs.Trips.{written_held, reread_refused, reread_done, reread_same}
 use borrow.Author.Rules.{rules}
 use Rattle.round_trips.proofs.reread.Statement.{statement}
 use Rattle.round_trips.proofs.reread.Tie as tie
@@ -53,9 +53,9 @@ returns c =
     let k = c.before.before.before.before.before in
     let e = was-written k in
     let n = c.before.if1.true in
-    let gave = ap (λ (r : Reading). read_gave r (to k)) c.not-read.ensures ∙ sym (reread-refused (given k) (to k) n) in
+    let gave = ap (λ (r : Reading). read_gave r (to k)) c.not-read.ensures ∙ sym (reread_refused (given k) (to k) n) in
     let r = gave ∙ ap (λ (w : Written). reread_of w (to k)) e in
-    (gave-out e, (r, λ z _. absurd (n (ap (λ (w : Written). w.answer.code) e ∙ z))))
+    (gave_out e, (r, λ z _. absurd (n (ap (λ (w : Written). w.answer.code) e ∙ z))))
 
 slice-reshare-prefix-read : tie.Need-slice-reshare-prefix-read
 slice-reshare-prefix-read c = fits c.before.before.before.before c.if1.false
@@ -83,9 +83,9 @@ returns-2 c =
     let k = c.before.before.before.before.before.before.before.before.before.before.before.before.before.before.before in
     let a = (start k).args in
     let e = was-written k in
-    let done = sym (reread-done (given k) (to k) c.before.before.before.before.before.before.before.before.before.before.before.if1.false) in
+    let done = sym (reread_done (given k) (to k) c.before.before.before.before.before.before.before.before.before.before.before.if1.false) in
     let r = c.before.before.before.before.before.before.read.ensures ∙ (done ∙ ap (λ (w : Written). reread_of w (to k)) e) in
-    (gave-out e, (r, λ z h. ap events_read r ∙ reread_same a.parameters (from k) a.out.now (to k) z h))
+    (gave_out e, (r, λ z h. ap events_read r ∙ reread_same a.parameters (from k) a.out.now (to k) z h))
 
 pub reread-spec : {M : Type 1} → statement M
 reread-spec =

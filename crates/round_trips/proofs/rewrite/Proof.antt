@@ -5,9 +5,9 @@ use mathlib.Core.List.{List}
 use lib.Seq.{length-take-le}
 use Rattle.model.specs.Readings.{Lists, lists, lent, Read, read_gave, read_of}
 use Rattle.model.specs.Writings.{Written}
-use Rattle.model.proofs.Given.{gave-out}
+use Rattle.model.proofs.Given.{gave_out}
 use Rattle.round_trips.specs.Trips.{rewrite_of, ReadsAlike}
-use Rattle.round_trips.proofs.Trips.{Held, held, rewrite-refused, rewrite-done, rewrite_same, rewrite_alike}
+use Rattle.round_trips.proofs.Trips.{Held, held, rewrite_refused, rewrite_done, rewrite_same, rewrite_alike}
 use borrow.Author.Rules.{rules}
 use Rattle.round_trips.proofs.rewrite.Statement.{statement}
 use Rattle.round_trips.proofs.rewrite.Tie as tie
@@ -56,7 +56,7 @@ returns : tie.Need-returns
 returns c =
     let k = c.before.before in
     let e = was_read k in
-    let w = sym (rewrite-refused (given k) (out k) c.if1.true) ∙ ap (λ (r : Read). rewrite_of r (out k)) e in
+    let w = sym (rewrite_refused (given k) (out k) c.if1.true) ∙ ap (λ (r : Read). rewrite_of r (out k)) e in
     (ap (λ (r : Read). r.kept) e, (w, (λ _ z _. absurd (c.if1.true (ap (λ (r : Read). r.reading.answer.code) e ∙ z)), alike k w)))
 
 slice-reshare-prefix-write : tie.Need-slice-reshare-prefix-write
@@ -96,9 +96,9 @@ returns-2 : tie.Need-returns-2
 returns-2 c =
     let k = c.before.before.before.before.before.before.before.before.before in
     let e = was_read k in
-    let done = sym (rewrite-done (given k) (out k) c.before.before.before.before.before.before.before.if1.false) in
+    let done = sym (rewrite_done (given k) (out k) c.before.before.before.before.before.before.before.if1.false) in
     let w = c.before.before.write.ensures ∙ (done ∙ ap (λ (r : Read). rewrite_of r (out k)) e) in
-    (ap (λ (r : Read). r.kept) e, (w, (λ s z h. gave-out w ∙ rewrite_same (text k) (to k) (out k) s z h, alike k w)))
+    (ap (λ (r : Read). r.kept) e, (w, (λ s z h. gave_out w ∙ rewrite_same (text k) (to k) (out k) s z h, alike k w)))
 
 pub rewrite-spec : {M : Type 1} → statement M
 rewrite-spec =

@@ -10,11 +10,11 @@ use Rattle.model.proofs.Lists.{length_mapped}
 use Rattle.theory.specs.Summaries.{HasRoom}
 use Rattle.rules.proofs.Slots.{slot_in, slot_fits}
 use Rattle.statistics.specs.Countings.{fault_by, Room}
-use Rattle.statistics.proofs.Laws.{fault_of, no-fault-room, counts-room, recorded-fault, accepted_named}
-use Rattle.statistics.proofs.Laws.{gives-unsound, gives-accepted, gives-refused, refused-after, accepted-after}
-use Rattle.statistics.proofs.Waits.{may-wait-not}
-use Rattle.statistics.proofs.Counted.{past_rests, sound-after, few-after, waits-fit, unused-told, counted-cleared, counted-kept}
-use Rattle.statistics.proofs.Counted.{rest-wait, rest-waits, Grown}
+use Rattle.statistics.proofs.Laws.{fault_of, no_fault_room, counts_room, recorded_fault, accepted_named}
+use Rattle.statistics.proofs.Laws.{gives_unsound, gives_accepted, gives_refused, refused-after, accepted-after}
+use Rattle.statistics.proofs.Waits.{may_wait_not}
+use Rattle.statistics.proofs.Counted.{past_rests, sound_after, few_after, waits_fit, unused_told, counted_cleared, counted_kept}
+use Rattle.statistics.proofs.Counted.{rest_wait, rest_waits, Grown}
 use Rattle.statistics.proofs.record.Statement.{statement}
 use Rattle.statistics.proofs.record.Tie as tie
 
@@ -26,9 +26,9 @@ waits-stand-requires c κs = search rules
 fault-by-requires : tie.Need-fault-by-requires
 fault-by-requires c κs = search rules
 
-fault-is : (c : tie.After-fault-by)
+fault_is : (c : tie.After-fault-by)
     → (let a = c.before.before.before.before.before.before.args in c.fault-by.result ≡ fault_of a.state.clock a.t2)
-fault-is c = c.fault-by.ensures ∙ ap (fault_by c.before.before.before.before.before.before.args.t2.counts) c.before.waits-stand.ensures
+fault_is c = c.fault-by.ensures ∙ ap (fault_by c.before.before.before.before.before.before.args.t2.counts) c.before.waits-stand.ensures
 
 refuse-requires : tie.Need-refuse-requires
 refuse-requires c κs = search rules
@@ -36,17 +36,17 @@ refuse-requires c κs = search rules
 returns : tie.Need-returns
 returns c =
     let a = c.before.before.before.before.before.before.before.before.args in
-    let e = fault-is c.before.before in
+    let e = fault_is c.before.before in
     ap (beside a.t2) (rw e at c.refuse.ensures)
-    ∙ sym (recorded-fault a.state a.t2 a.action a.process a.time (rw e at c.before.if1.true))
+    ∙ sym (recorded_fault a.state a.t2 a.action a.process a.time (rw e at c.before.if1.true))
 
 has_room : (c : tie.Else1) → (let a = c.before.before.before.before.before.before.before.args in HasRoom a.state.clock a.t2)
 has_room c =
     let a = c.before.before.before.before.before.before.before.args in
-    no-fault-room a.state.clock a.t2 (sym (fault-is c.before) ∙ c.if1.false)
+    no_fault_room a.state.clock a.t2 (sym (fault_is c.before) ∙ c.if1.false)
 
 room : (c : tie.Else1) → Room c.before.before.before.before.before.before.before.args.t2.counts
-room c = let a = c.before.before.before.before.before.before.before.args in counts-room a.state.clock a.t2 (has_room c)
+room c = let a = c.before.before.before.before.before.before.before.args in counts_room a.state.clock a.t2 (has_room c)
 
 -- The step
 
@@ -72,17 +72,17 @@ slot-of-requires : tie.Need-slot-of-requires
 slot-of-requires c κs = search rules
 
 -- the place of the acting process is one of the 96
-own-fits : (c : tie.After-slot-of) → c.slot_of.result < 96
-own-fits c = search (rules, slot_fits)
+own_fits : (c : tie.After-slot-of) → c.slot_of.result < 96
+own_fits c = search (rules, slot_fits)
 
 place : (c : tie.After-slot-of) → c.slot_of.result ≡ c.before.before.before.before.before.before.before.before.before.before.before.before.args.process - 1
 place c = c.slot_of.ensures ∙ slot_in c.before.before.before.before.before.before.before.before.before.before.before.before.args.process (named c.before)
 
 mul-wait : tie.Need-overflow-mul-wait
-mul-wait c = search (rules, own-fits c)
+mul-wait c = search (rules, own_fits c)
 
 element-copy-out-wait : tie.Need-element-copy-out-wait
-element-copy-out-wait c = search (rules, own-fits c)
+element-copy-out-wait c = search (rules, own_fits c)
 
 may-wait-requires : tie.Need-may-wait-requires
 may-wait-requires c κs = search rules
@@ -96,10 +96,10 @@ wait-after-requires c κs =
     let ok = accepted c.before.before.before.before.before in (
       named c.before.before.before.before.before,
       (
-        rw e (few-after a.state size a.t2 free a.action a.process a.time ok),
+        rw e (few_after a.state size a.t2 free a.action a.process a.time ok),
         (
-          rw e (past_rests _ (sound-after a.state size a.t2 free a.action a.process a.time ok)),
-          rw e (waits-fit a.state size a.t2 free a.action a.process a.time ok),
+          rw e (past_rests _ (sound_after a.state size a.t2 free a.action a.process a.time ok)),
+          rw e (waits_fit a.state size a.t2 free a.action a.process a.time ok),
         ),
       ),
     )
@@ -114,10 +114,10 @@ does-clear-requires : tie.Need-does-clear-requires
 does-clear-requires c κs = search rules
 
 mul-statistics : tie.Need-overflow-mul-statistics
-mul-statistics c = search (rules, own-fits c.before.before.before.before.before.before)
+mul-statistics c = search (rules, own_fits c.before.before.before.before.before.before)
 
 element-write-statistics : tie.Need-element-write-statistics
-element-write-statistics c = search (rules, own-fits c.before.before.before.before.before.before)
+element-write-statistics c = search (rules, own_fits c.before.before.before.before.before.before)
 
 -- the waits so far once they are gone over, or as they were
 grown : (c : tie.Joined3)
@@ -133,17 +133,17 @@ grown c =
     ⊎_elim
     (λ w. record {
       unused = w.2.result;
-      unused-is = unused-told a.state size a.t2 free a.action a.process a.time ok (rw e at w.2.ensures.0);
-      wait-is = w.5 ∙ w.3.ensures;
+      unused_is = unused_told a.state size a.t2 free a.action a.process a.time ok (rw e at w.2.ensures.0);
+      wait_is = w.5 ∙ w.3.ensures;
       waits = ap (λ (y : Statistics). y.waited) w.4 ∙ rw e at w.2.ensures.1;
     })
     (λ w. record {
       unused = 0;
-      unused-is = sym (may-wait-not a.state size a.action a.process a.time ok
+      unused_is = sym (may_wait_not a.state size a.action a.process a.time ok
           (sym (rw e at c.before.may-wait.ensures) ∙ w.0.left));
-      wait-is = w.2 ∙ rest-wait a.state size a.t2 free a.action a.process a.time ok (place c.before.before.before);
+      wait_is = w.2 ∙ rest_wait a.state size a.t2 free a.action a.process a.time ok (place c.before.before.before);
       waits = ap (λ (y : Statistics). y.waited) w.1
-          ∙ rest-waits a.state size a.t2 free a.action a.process a.time ok;
+          ∙ rest_waits a.state size a.t2 free a.action a.process a.time ok;
     })
     c.if3.branch
 
@@ -166,9 +166,9 @@ returns-2 c =
     let a = c.before.before.before.before.before.before.before.before.before.before.before.before.before.before.before.before.before.before.args in
     let free = has_room c.before.before.before.before.before.before.before.before.before.before.before in
     let g = grown c.before.before.before in
-    gives-accepted a.state a.t2 a.action a.process a.time free c.before.before.before.before.before.before.before.before.before.before.step.ensures c.before.before.before.before.before.before.before.if2.true
-    (counted-cleared a.state (sized c.before.before.before.before.before.before.before.before.before.before.before.before.before.before.before.before.before.before) a.t2 free a.action a.process a.time (accepted c.before.before.before.before.before.before.before)
-    g.unused-is (place c.before.before.before.before.before.before) g.wait-is (counted c.before.before) g.waits
+    gives_accepted a.state a.t2 a.action a.process a.time free c.before.before.before.before.before.before.before.before.before.before.step.ensures c.before.before.before.before.before.before.before.if2.true
+    (counted_cleared a.state (sized c.before.before.before.before.before.before.before.before.before.before.before.before.before.before.before.before.before.before) a.t2 free a.action a.process a.time (accepted c.before.before.before.before.before.before.before)
+    g.unused_is (place c.before.before.before.before.before.before) g.wait_is (counted c.before.before) g.waits
     (sym c.before.does-clear.ensures ∙ c.if4.true))
 
 returns-3 : tie.Need-returns-3
@@ -176,15 +176,15 @@ returns-3 c =
     let a = c.before.before.before.before.before.before.before.before.before.before.before.before.before.before.before.before.before.before.args in
     let free = has_room c.before.before.before.before.before.before.before.before.before.before.before in
     let g = grown c.before.before.before in
-    gives-accepted a.state a.t2 a.action a.process a.time free c.before.before.before.before.before.before.before.before.before.before.step.ensures c.before.before.before.before.before.before.before.if2.true
-    (counted-kept a.state (sized c.before.before.before.before.before.before.before.before.before.before.before.before.before.before.before.before.before.before) a.t2 free a.action a.process a.time (accepted c.before.before.before.before.before.before.before)
-    g.unused-is (place c.before.before.before.before.before.before) g.wait-is (counted c.before.before) g.waits
+    gives_accepted a.state a.t2 a.action a.process a.time free c.before.before.before.before.before.before.before.before.before.before.step.ensures c.before.before.before.before.before.before.before.if2.true
+    (counted_kept a.state (sized c.before.before.before.before.before.before.before.before.before.before.before.before.before.before.before.before.before.before) a.t2 free a.action a.process a.time (accepted c.before.before.before.before.before.before.before)
+    g.unused_is (place c.before.before.before.before.before.before) g.wait_is (counted c.before.before) g.waits
     (sym c.before.does-clear.ensures ∙ c.if4.false))
 
 returns-4 : tie.Need-returns-4
 returns-4 c =
     let a = c.before.before.before.before.before.before.before.before.before.before.before.before.before.before.args in
-    gives-refused a.state a.t2 a.action a.process a.time (has_room c.before.before.before.before.before.before.before)
+    gives_refused a.state a.t2 a.action a.process a.time (has_room c.before.before.before.before.before.before.before)
     c.before.before.before.before.before.before.step.ensures c.before.before.before.if2.false c.before.if5.true
     (ap (λ (k : Counts). statistics_of k a.t2.waited)
     (c.with-refused.ensures ∙ refused-after a.t2.counts (room c.before.before.before.before.before.before.before)))
@@ -192,7 +192,7 @@ returns-4 c =
 returns-5 : tie.Need-returns-5
 returns-5 c =
     let a = c.before.before.before.before.before.before.before.before.before.before.before.before.before.args in
-    gives-unsound a.state a.t2 a.action a.process a.time (has_room c.before.before.before.before.before.before)
+    gives_unsound a.state a.t2 a.action a.process a.time (has_room c.before.before.before.before.before.before)
     c.before.before.before.before.before.step.ensures c.if5.false
 
 pub record-spec : {M : Type 1} → statement M

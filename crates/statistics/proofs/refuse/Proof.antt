@@ -2,7 +2,7 @@
 -- Assumes nothing.
 use Rattle.std.proofs.Common.{◌∙◌, rules}
 use Rattle.model.specs.Acts.{wait_act}
-use Rattle.theory.proofs.Steps.{unsound_iff_one, unsound-is}
+use Rattle.theory.proofs.Steps.{unsound_iff_one, unsound_is}
 use Rattle.statistics.proofs.Laws.{not_one_sound}
 use Rattle.statistics.proofs.refuse.Statement.{statement}
 use Rattle.statistics.proofs.refuse.Tie as tie
@@ -14,7 +14,7 @@ returns : tie.Need-returns
 returns c =
     let s = c.before.before.before.before.args.state in
     let e = (unsound_iff_one s wait_act 0 s.clock).0 (rw c.before.before.before.step.ensures at c.if1.true) in
-    rw e (c.before.before.before.step.ensures ∙ unsound-is s wait_act 0 s.clock e)
+    rw e (c.before.before.before.step.ensures ∙ unsound_is s wait_act 0 s.clock e)
 
 answer-with-requires : tie.Need-answer-with-requires
 answer-with-requires c κs = search rules

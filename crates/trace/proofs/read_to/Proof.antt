@@ -6,7 +6,7 @@ use native.Mathlib.Omega.{arith}
 use lib.ListN.{length, take}
 use lib.Seq.{take_all}
 use Rattle.model.specs.Readings.{Lists, lists, Read, read_gave, read_of}
-use Rattle.trace.proofs.ReadingsTo.{to-refused, to-stored, to-full}
+use Rattle.trace.proofs.ReadingsTo.{to_refused, to_stored, to_full}
 use borrow.Author.Rules.{rules}
 use Rattle.trace.proofs.read_to.Statement.{statement}
 use Rattle.trace.proofs.read_to.Tie as tie
@@ -41,7 +41,7 @@ returns : tie.Need-returns
 returns c =
     let a = c.before.before.before.before.before.before.before.before.args in
     let l = lists a.times.now a.processes.now a.actions.now in
-    rw (c.unread-to.ensures, c.before.answer-without-room.ensures) (to-full a.text.now a.a.now l c.before.before.if1.true)
+    rw (c.unread-to.ensures, c.before.answer-without-room.ensures) (to_full a.text.now a.a.now l c.before.before.if1.true)
 
 read-requires : tie.Need-read-requires
 read-requires c κs = search rules
@@ -61,7 +61,7 @@ same-length-3 c = search rules
 returns-2 : tie.Need-returns-2
 returns-2 c =
     let k = c.before.before.before.before.before.before.before.before.before.before in
-    rw c.unread-to2.ensures (to-refused (text k) (limits k) (to k) (given k) (was_read k) c.before.if2.true)
+    rw c.unread-to2.ensures (to_refused (text k) (limits k) (to k) (given k) (was_read k) c.before.if2.true)
 
 copy-requires : tie.Need-copy-requires
 copy-requires c κs = search rules
@@ -87,7 +87,7 @@ returns-3 c =
     let e = c.before.before.before.before.before.before.before.before in
     let k = e.before.before.before.before.before.before.before.before.before in
     rw (c.before.before.copy.ensures, all_fit k k.before.before.before.before.if1.false)
-    (to-stored (text k) (limits k) (to k) (given k) (was_read k) k.before.before.before.before.if1.false e.if2.false)
+    (to_stored (text k) (limits k) (to k) (given k) (was_read k) k.before.before.before.before.if1.false e.if2.false)
 
 pub read-to-spec : {M : Type 1} → statement M
 read-to-spec =

@@ -8,10 +8,10 @@ use Rattle.model.specs.declared.Scan.{Scan}
 use Rattle.model.specs.Readings.{head_of, Body, body_of, Lists, lists, room, scan_gave}
 use Rattle.model.proofs.Lists.{part_is}
 use Rattle.grammar.proofs.Fields.{took_le}
-use Rattle.grammar.proofs.Heads.{HeadTook, head-was, head_line}
+use Rattle.grammar.proofs.Heads.{HeadTook, head_was, head_line}
 use Rattle.trace.specs.declared.steps.Counted.TheVariants.{Steps}
 use Rattle.trace.specs.Passes.{counted_of, scan_found}
-use Rattle.trace.proofs.Readings.{scan-refused, scan-fault, scan-full, scan-stored, counted_steps}
+use Rattle.trace.proofs.Readings.{scan_refused, scan_fault, scan_full, scan_stored, counted_steps}
 use borrow.Author.Rules.{rules}
 use Rattle.trace.proofs.scan.Statement.{statement}
 use Rattle.trace.proofs.scan.Tie as tie
@@ -31,14 +31,14 @@ head_read : (c : tie.Else1) → head_of (text c) ≡ head c
 head_read c = sym c.before.before.head_of.ensures
 
 took : (c : tie.Else1) → HeadTook (text c) (head c)
-took c = head-was (text c) (head c) (head_read c) c.if1.false
+took c = head_was (text c) (head c) (head_read c) c.if1.false
 
 head-fits : (c : tie.Else1) → (head c).size ≤ length (text c)
 head-fits c = took_le (took c).took
 
 -- the line of the first step
-line-some : (c : tie.Else1) → 0 < (head c).line
-line-some c = (head_line (took c)).0
+line_some : (c : tie.Else1) → 0 < (head c).line
+line_some c = (head_line (took c)).0
 
 line-fits : (c : tie.Else1) → (head c).line ≤ 65536
 line-fits c = omega (arith, (head_line (took c)).1, head-fits c, (took c).short)
@@ -86,7 +86,7 @@ returns c =
     let a = c.before.before.before.before.before.before.before.before.args in
     let h = c.before.before.before.head_of in
     let l = lists a.times.now a.processes.now a.actions.now in
-    rw (scan-refused a.text.now l h.result (sym h.ensures) c.before.if1.true, c.scan-fails.ensures)
+    rw (scan_refused a.text.now l h.result (sym h.ensures) c.before.if1.true, c.scan-fails.ensures)
 
 sub-body : tie.Need-overflow-sub-body
 sub-body c = head-fits c.before
@@ -98,7 +98,7 @@ part-body-end : tie.Need-slice-bounds-body-end
 part-body-end c = search rules
 
 count-events-requires : tie.Need-count-events-requires
-count-events-requires c κs = (line-some c.before.before, line-fits c.before.before)
+count-events-requires c κs = (line_some c.before.before, line-fits c.before.before)
 
 enum-known-counted : tie.Need-enum-known-counted
 enum-known-counted c = search rules
@@ -114,7 +114,7 @@ returns-2 c =
     let k = c.before.before.before.before.before.before in
     let e = counted_of c.before.before.before in
     let f = sym e ∙ c.before.enum_told.given.1 in
-    rw (scan-fault (text k) (given k) (head k) (head_read k) k.if1.false (body k) refl _ _ f, ← e, c.scan-found.ensures)
+    rw (scan_fault (text k) (given k) (head k) (head_read k) k.if1.false (body k) refl _ _ f, ← e, c.scan-found.ensures)
 
 least-requires : tie.Need-least-requires
 least-requires c κs = search rules
@@ -129,14 +129,14 @@ returns-3 : tie.Need-returns-3
 returns-3 c =
     let t = tallied c.before.before in
     let k = read t in
-    rw (scan-full (text k) (given k) (head k) (head_read k) k.if1.left (body k) refl (count t) (counted t) (full c.before), c.scan-fails2.ensures)
+    rw (scan_full (text k) (given k) (head k) (head_read k) k.if1.left (body k) refl (count t) (counted t) (full c.before), c.scan-fails2.ensures)
 
 store-events-requires : tie.Need-store-events-requires
 store-events-requires c κs =
     let e = c.before.before.before in
     let t = tallied e.before in
     let many = (counted_steps (body (read t)) (count t) (counted t)).many in
-    (line-some (read t), (line-fits (read t), rw (part_is, many) (free e)))
+    (line_some (read t), (line-fits (read t), rw (part_is, many) (free e)))
 
 scan-found-requires-2 : tie.Need-scan-found-requires-2
 scan-found-requires-2 c κs = search rules
@@ -156,7 +156,7 @@ returns-4 c =
     let t = tallied e.before in
     let k = read t in
     let s = rw part_is at c.before.before.before.before.before.before.before.store-events.ensures in
-    rw (scan-stored (text k) (given k) (head k) (head_read k) k.if1.left (body k) refl (count t) (counted t) (free e), c.scan-found2.ensures, s.0)
+    rw (scan_stored (text k) (given k) (head k) (head_read k) k.if1.left (body k) refl (count t) (counted t) (free e), c.scan-found2.ensures, s.0)
     (ap (λ (l : Lists). scan_gave (scan_found (head k).line (head k).parameters (counted_of (body k))) l) s.1)
 
 pub scan-spec : {M : Type 1} → statement M

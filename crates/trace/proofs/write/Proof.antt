@@ -15,7 +15,7 @@ use Rattle.model.specs.Writings.{events_of}
 use Rattle.grammar.proofs.Shapes.{count_parts}
 use Rattle.trace.proofs.Sizes.{size_bytes, size_long, nothing_put}
 use Rattle.trace.proofs.Writes.{Task, text_of, formless, Sound}
-use Rattle.trace.proofs.Writes.{write-uncounted, write-unlimited, write-formless, write-too-long, write-roomless, write_done}
+use Rattle.trace.proofs.Writes.{write_uncounted, write_unlimited, write_formless, write_too_long, write_roomless, write_done}
 use borrow.Author.Rules.{rules}
 use Rattle.trace.proofs.write.Statement.{statement}
 use Rattle.trace.proofs.write.Tie as tie
@@ -83,7 +83,7 @@ answer-with-requires c κs = search rules
 returns : tie.Need-returns
 returns c =
     let e = sym c.before.before.count-stands.ensures ∙ not-true _ c.before.if1.true in
-    rw (write-uncounted (task c.before.before.before.before.before.before.before) e) (write-gave c.answer-with.ensures refl)
+    rw (write_uncounted (task c.before.before.before.before.before.before.before) e) (write-gave c.answer-with.ensures refl)
 
 parameters-stand-requires : tie.Need-parameters-stand-requires
 parameters-stand-requires c κs = search rules
@@ -95,7 +95,7 @@ returns-2 : tie.Need-returns-2
 returns-2 c =
     let k = c.before.before.before.before.before.before in
     let e = sym c.before.before.parameters-stand.ensures ∙ not-true _ c.before.if2.true in
-    rw (write-unlimited (task (begun k)) (counted k) e) (write-gave c.answer-with2.ensures refl)
+    rw (write_unlimited (task (begun k)) (counted k) e) (write-gave c.answer-with2.ensures refl)
 
 add-first : tie.Need-overflow-add-first
 add-first c = omega (arith, few (to-count c))
@@ -110,7 +110,7 @@ returns-3 : tie.Need-returns-3
 returns-3 c =
     let e = judged c.before.before in
     let k = c.before.before.before in
-    rw (write-formless (task (begun (to-count k))) (stand k) (rw e at c.before.if3.true))
+    rw (write_formless (task (begun (to-count k))) (stand k) (rw e at c.before.if3.true))
     (write-gave (rw e at c.answer-with3.ensures) refl)
 
 slice-relend-prefix-put-trace : tie.Need-slice-relend-prefix-put-trace
@@ -137,7 +137,7 @@ same_length c = search rules
 returns-4 : tie.Need-returns-4
 returns-4 c =
     let p = c.before.before.before.before.before in
-    rw (write-too-long (sound p) (long c.before)) (write-gave c.answer-with4.ensures (untouched p))
+    rw (write_too_long (sound p) (long c.before)) (write-gave c.answer-with4.ensures (untouched p))
 
 answer-with-requires-5 : tie.Need-answer-with-requires-5
 answer-with-requires-5 c κs = search rules
@@ -149,7 +149,7 @@ returns-5 : tie.Need-returns-5
 returns-5 c =
     let p = c.before.before.before.before.before.before.before in
     let s = size c.before.before in
-    rw (write-roomless (sound p) s.1 (omega (arith, s.0, ap length (untouched p), c.before.if4.true)))
+    rw (write_roomless (sound p) s.1 (omega (arith, s.0, ap length (untouched p), c.before.if4.true)))
     (write-gave c.answer-with5.ensures (untouched p))
 
 put-trace-requires-2 : tie.Need-put-trace-requires-2

@@ -1,11 +1,11 @@
 -- `accepted_log::steps::keep` meets its contract, by the laws of one attempt. Assumes nothing.
 use borrow.Author.Rules.{rules}
-use Rattle.accepted_log.proofs.Keeping.{kept-refused, kept-other, kept-own}
+use Rattle.accepted_log.proofs.Keeping.{kept_refused, kept_other, kept_own}
 use Rattle.accepted_log.proofs.steps.keep.Statement.{statement}
 use Rattle.accepted_log.proofs.steps.keep.Tie as tie
 
 returns : tie.Need-returns
-returns c = kept-refused _ _ _ _ _ c.if1.true
+returns c = kept_refused _ _ _ _ _ c.if1.true
 
 mul-if2 : tie.Need-overflow-mul-if2
 mul-if2 c = search rules
@@ -14,7 +14,7 @@ shared-slice-read-if2 : tie.Need-shared-slice-read-if2
 shared-slice-read-if2 c = search rules
 
 returns-2 : tie.Need-returns-2
-returns-2 c = kept-other _ _ _ _ _ c.before.before.if1.false c.if2.true
+returns-2 c = kept_other _ _ _ _ _ c.before.before.if1.false c.if2.true
 
 mul-time : tie.Need-overflow-mul-time
 mul-time c = search rules
@@ -50,7 +50,7 @@ same-length-2 : tie.Need-same-length-2
 same-length-2 c = search rules
 
 returns-3 : tie.Need-returns-3
-returns-3 c = kept-own _ _ _ _ _ c.before.before.before.before.if1.false c.before.before.if2.false
+returns-3 c = kept_own _ _ _ _ _ c.before.before.before.before.if1.false c.before.before.if2.false
 
 pub keep_spec : {M : Type 1} → statement M
 keep_spec =

@@ -64,17 +64,17 @@ loop-again c =
     let moved : a.from + v.i + 1 ≡ a.from + (v.i + 1) = omega arith in
     let put =
     rw (
-      part_at a.from v.i v.invariant.1.in-times,
-      part_at a.from v.i v.invariant.1.in-actions,
+      part_at a.from v.i v.invariant.1.in_times,
+      part_at a.from v.i v.invariant.1.in_actions,
       ← get_or-drop a.from a.processes.now v.i 0,
     ) at c.before.before.before.before.keep.ensures in
     (omega arith, rw moved at (left_next 1 (rw next at v.invariant.1) put few))
 
 same_length : tie.Need-same-length invariant-loop decreases-loop
-same_length c = c.before.loop.invariant.1.in-times.size
+same_length c = c.before.loop.invariant.1.in_times.size
 
 same-length-2 : tie.Need-same-length-2 invariant-loop decreases-loop
-same-length-2 c = c.before.loop.invariant.1.in-actions.size
+same-length-2 c = c.before.loop.invariant.1.in_actions.size
 
 returns : tie.Need-returns invariant-loop decreases-loop
 unfolding accepted_log

@@ -10,10 +10,10 @@ use Rattle.model.specs.Readings.{Lists, lists}
 use Rattle.model.specs.Writings.{events_of}
 use Rattle.model.specs.Executions.{attempts_of, attempts_from}
 use Rattle.model.proofs.Lists.{drop_end, part_is}
-use Rattle.model.proofs.Steps.{from, length-steps}
+use Rattle.model.proofs.Steps.{from, length_steps}
 use Rattle.execution.specs.Turns.{attempts_by_rows}
-use Rattle.execution.proofs.Blocks.{block-taken}
-use Rattle.execution.proofs.Attempts.{block-next}
+use Rattle.execution.proofs.Blocks.{block_taken}
+use Rattle.execution.proofs.Attempts.{block_next}
 use Rattle.accepted_log.specs.AcceptedLogs.{accepted_log}
 use Rattle.accepted_log.proofs.Keeping.{log_append, rows_few, Left, left_all, left_next, left_done}
 use Rattle.accepted_log.proofs.steps.keep_steps.Statement.{statement}
@@ -64,9 +64,9 @@ turn : (c : Block) → let v = (head c).loop in let l = steps (start c) in
 turn c =
     let s = start c in
     let v = (head c).loop in
-    block-next v.state (steps s) v.i (count c)
-    (block-taken v.state (steps s) v.answers v.i (count c) (omega (arith, few c, s.pre, v.inv.1))
-    (rw (v.inv.2.in-times.after, v.inv.2.in-actions.after) at (simp part_is at c.run-steps.ensures)))
+    block_next v.state (steps s) v.i (count c)
+    (block_taken v.state (steps s) v.answers v.i (count c) (omega (arith, few c, s.pre, v.inv.1))
+    (rw (v.inv.2.in_times.after, v.inv.2.in_actions.after) at (simp part_is at c.run-steps.ensures)))
 
 answer-rows-requires : tie.Need-answer-rows-requires invariant-loop decreases-loop
 answer-rows-requires c κs = search rules
@@ -150,22 +150,22 @@ loop-again c =
     let l = from v.i (steps (start d)) in
     let rows = take (count d) (left d) in
     let log = accepted_log (start d).args.process (attempts_by_rows l rows) in
-    let put = rw (v.inv.2.in-times.after, v.inv.2.in-actions.after) at c.before.before.before.before.keep-block.ensures in
+    let put = rw (v.inv.2.in_times.after, v.inv.2.in_actions.after) at c.before.before.before.before.keep-block.ensures in
     let short : length log ≤ count d = omega (arith, rows_few (start d).args.process l rows, length-take (count d) (left d)) in
     (omega (arith, few d), length-left d, left_next {xs = log} (count d) (rw (turn d, log_append) at v.inv.2) put short)
 
 same_length : tie.Need-same-length invariant-loop decreases-loop
-same_length c = c.before.loop.invariant.2.in-times.size
+same_length c = c.before.loop.invariant.2.in_times.size
 
 same-length-2 : tie.Need-same-length-2 invariant-loop decreases-loop
-same-length-2 c = c.before.loop.invariant.2.in-actions.size
+same-length-2 c = c.before.loop.invariant.2.in_actions.size
 
 returns : tie.Need-returns invariant-loop decreases-loop
 unfolding attempts_of accepted_log
 returns c =
     let s = c.before.before.before.before.before.before in
     let v = c.before.loop in
-    let all : length (events_of (steps s)) ≡ v.i = omega (arith, length-steps (steps s), s.requires, v.invariant.0, c.loop-test.false) in
+    let all : length (events_of (steps s)) ≡ v.i = omega (arith, length_steps (steps s), s.requires, v.invariant.0, c.loop-test.false) in
     let none = drop_end (events_of (steps s)) v.i (omega arith) (omega arith) in
     left_done (rw none at v.invariant.2)
 

@@ -1,6 +1,6 @@
 -- `deadline_layout::conversions::arrived_in` meets its contract: b is taken from the first time in checking, and nothing elsewhere. Assumes nothing.
 use mathlib.Core.Path.{refl}
-use Rattle.deadline_layout.proofs.Converting.{arrives-checking, arrives-plain}
+use Rattle.deadline_layout.proofs.Converting.{arrives_checking, arrives_plain}
 use borrow.Author.Rules.{rules}
 use Rattle.deadline_layout.proofs.conversions.arrived_in.Statement.{statement}
 use Rattle.deadline_layout.proofs.conversions.arrived_in.Tie as tie
@@ -25,7 +25,7 @@ returns c =
     let read = c.before.before.before in
     let a = read.before.before.before.before.args in
     let place = read.before.before.place_of.ensures in
-    arrives-checking a.deadlines.now a.i a.b (rw place at read.before.Stage-at.ensures) (rw place at read.first-at.ensures)
+    arrives_checking a.deadlines.now a.i a.b (rw place at read.before.Stage-at.ensures) (rw place at read.first-at.ensures)
     c.location-at.ensures c.before.before.if1.true c.before.less.ensures
 
 location-at-requires-2 : tie.Need-location-at-requires-2
@@ -36,7 +36,7 @@ returns-2 c =
     let read = c.before.before in
     let a = read.before.before.before.before.args in
     let place = read.before.before.place_of.ensures in
-    arrives-plain a.deadlines.now a.i a.b (rw place at read.before.Stage-at.ensures) (rw place at read.first-at.ensures)
+    arrives_plain a.deadlines.now a.i a.b (rw place at read.before.Stage-at.ensures) (rw place at read.first-at.ensures)
     c.location-at2.ensures c.before.if1.false refl
 
 pub arrived-in-spec : {M : Type 1} → statement M

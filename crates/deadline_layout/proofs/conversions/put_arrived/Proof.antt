@@ -1,10 +1,10 @@
 -- `deadline_layout::conversions::put_arrived` meets its contract: what stands before the entries, and then the entries one by one. Assumes nothing.
 use Prim.Native.Nat.{◌-◌}
 use borrow.Author.Rules.{rules}
-use Rattle.layout.proofs.Saving.{EntriesWritten, all-written}
+use Rattle.layout.proofs.Saving.{EntriesWritten, all_written}
 use Rattle.deadlines.specs.Matching.{arrived}
 use Rattle.deadline_layout.specs.Encodings.{state_with_in}
-use Rattle.deadline_layout.proofs.Converting.{arrived-start, arrived-written}
+use Rattle.deadline_layout.proofs.Converting.{arrived_start, arrived_written}
 use Rattle.deadline_layout.proofs.conversions.put_arrived.Statement.{statement}
 use Rattle.deadline_layout.proofs.conversions.put_arrived.Tie as tie
 
@@ -24,7 +24,7 @@ loop-holds : tie.Need-loop-init invariant-loop decreases-loop
 loop-holds c =
     let a = c.before.before.before.before.before.before.before in
     rw c.before.before.before.copy.ensures
-    (arrived-start a.args.deadlines.now a.requires.1.0 a.requires.1.1 a.args.out.now a.requires.0)
+    (arrived_start a.args.deadlines.now a.requires.1.0 a.requires.1.1 a.args.out.now a.requires.0)
 
 arrived-in-requires : tie.Need-arrived-in-requires invariant-loop decreases-loop
 arrived-in-requires c κs = search rules
@@ -43,7 +43,7 @@ loop-again c =
     let v = c.before.before.before.before.before.before.loop in
     let a = c.before.before.before.before.before.before.before.before.before.before.before.before.before.before in
     rw c.before.before.put-entry.ensures
-    (arrived-written a.args.deadlines.now a.requires.1.0 a.requires.1.1 v.out v.i v.invariant
+    (arrived_written a.args.deadlines.now a.requires.1.0 a.requires.1.1 v.out v.i v.invariant
     c.before.before.before.before.before.loop-test.true
     c.before.before.before.before.arrived-in.ensures)
 
@@ -51,7 +51,7 @@ same_length : tie.Need-same-length invariant-loop decreases-loop
 same_length c = search rules
 
 returns : tie.Need-returns invariant-loop decreases-loop
-returns c = let v = c.before.loop in all-written _ v.out v.i v.invariant c.loop-test.false
+returns c = let v = c.before.loop in all_written _ v.out v.i v.invariant c.loop-test.false
 
 pub put-arrived-spec : {M : Type 1} → statement M
 put-arrived-spec =

@@ -3,8 +3,8 @@ use Prim.Native.Nat.{◌-◌}
 use borrow.Author.Rules.{rules}
 use Rattle.layout.specs.Encodings.{state_in}
 use Rattle.deadlines.specs.Matching.{matched}
-use Rattle.deadline_layout.proofs.Converting.{dated-start, dated-written}
-use Rattle.deadline_layout.proofs.Saving.{EntriesWritten, all-written}
+use Rattle.deadline_layout.proofs.Converting.{dated_start, dated_written}
+use Rattle.deadline_layout.proofs.Saving.{EntriesWritten, all_written}
 use Rattle.deadline_layout.proofs.conversions.put_dated.Statement.{statement}
 use Rattle.deadline_layout.proofs.conversions.put_dated.Tie as tie
 
@@ -27,7 +27,7 @@ loop-holds : tie.Need-loop-init invariant-loop decreases-loop
 loop-holds c =
     let a = c.before.before.before.before.before.before.before.before in
     rw c.before.before.before.before.copy.ensures
-    (dated-start a.args.table.now a.requires.1.0 a.requires.1.1 a.args.out.now a.requires.0)
+    (dated_start a.args.table.now a.requires.1.0 a.requires.1.1 a.args.out.now a.requires.0)
 
 location-in-requires : tie.Need-location-in-requires invariant-loop decreases-loop
 location-in-requires c κs = search rules
@@ -58,7 +58,7 @@ loop-again c =
     let v = c.before.before.before.before.before.before.before.before.loop in
     let a = c.before.before.before.before.before.before.before.before.before.before.before.before.before.before.before.before.before in
     rw c.before.before.put-entry.ensures
-    (dated-written a.args.table.now a.requires.1.0 a.requires.1.1 v.out v.i v.invariant
+    (dated_written a.args.table.now a.requires.1.0 a.requires.1.1 v.out v.i v.invariant
     c.before.before.before.before.before.before.before.loop-test.true
     (rw c.before.before.before.before.before.before.location-in.ensures at c.before.before.before.dated.ensures))
 
@@ -66,7 +66,7 @@ same_length : tie.Need-same-length invariant-loop decreases-loop
 same_length c = search rules
 
 returns : tie.Need-returns invariant-loop decreases-loop
-returns c = let v = c.before.loop in all-written _ v.out v.i v.invariant c.loop-test.false
+returns c = let v = c.before.loop in all_written _ v.out v.i v.invariant c.loop-test.false
 
 pub put-dated-spec : {M : Type 1} → statement M
 put-dated-spec =

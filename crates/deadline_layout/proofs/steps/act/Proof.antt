@@ -9,7 +9,7 @@ use Rattle.rules.specs.Judging.{judged}
 use Rattle.rules.proofs.Slots.{slot_fits}
 use Rattle.layout.specs.Steps.{scene_in}
 use Rattle.deadline_layout.specs.Encodings.{deadline_stride, deadline_length, stage_place_with, first_place}
-use Rattle.deadline_layout.proofs.Acts.{acted-accepted, acted-refused}
+use Rattle.deadline_layout.proofs.Acts.{acted_accepted, acted_refused}
 use Rattle.deadline_layout.proofs.steps.act.Statement.{statement}
 use Rattle.deadline_layout.proofs.steps.act.Tie as tie
 
@@ -17,14 +17,14 @@ slot-of-requires : tie.Need-slot-of-requires
 slot-of-requires c κs = search rules
 
 -- the place of the acting process is one of the 96
-own-fits : (c : tie.After-slot-of) → c.slot_of.result < 96
-own-fits c = search (rules, slot_fits)
+own_fits : (c : tie.After-slot-of) → c.slot_of.result < 96
+own_fits c = search (rules, slot_fits)
 
 own-place : (c : tie.After-place-of) → c.place_of.result + deadline_stride ≤ deadline_length
-own-place c = omega (arith, c.place_of.ensures, own-fits c.before)
+own-place c = omega (arith, c.place_of.ensures, own_fits c.before)
 
 place-of-requires : tie.Need-place-of-requires
-place-of-requires c κs = omega (arith, own-fits c)
+place-of-requires c κs = omega (arith, own_fits c)
 
 slice-read-transition-of : tie.Need-slice-read-transition-of
 slice-read-transition-of c = search rules
@@ -58,7 +58,7 @@ judge-requires c κs = search rules
 put-action-requires : tie.Need-put-action-requires
 put-action-requires c κs =
     let slot = c.before.before.before.before.before.before.before.before.before.before.before.before.before.before.before in
-    (slot.before.before.requires, own-fits slot)
+    (slot.before.before.requires, own_fits slot)
 
 -- the answer, of the own entry and the row
 judged-is : (c : tie.After-judge)
@@ -86,7 +86,7 @@ returns c =
     let met = c.before.before.before.before.before.before in
     let slot = met.before.before.before.before.before.before.before.before.before.before.before.before in
     let a = slot.before.before.args in
-    acted-accepted a.table.now a.found a.action a.process a.time slot.slot_of.result slot.slot_of.ensures
+    acted_accepted a.table.now a.found a.action a.process a.time slot.slot_of.result slot.slot_of.ensures
     met.before.before.before.before.before.before.before.before.before.transition-of.ensures (judged-is met)
     c.before.before.before.before.if1.true c.before.before.put-action.ensures
 
@@ -98,7 +98,7 @@ returns-2 c =
     let met = c.before.before in
     let slot = met.before.before.before.before.before.before.before.before.before.before.before.before in
     let a = slot.before.before.args in
-    acted-refused a.table.now a.found a.action a.process a.time slot.slot_of.result slot.slot_of.ensures
+    acted_refused a.table.now a.found a.action a.process a.time slot.slot_of.result slot.slot_of.ensures
     met.before.before.before.before.before.before.before.before.before.transition-of.ensures (judged-is met) c.if1.false
 
 pub act-spec : {M : Type 1} → statement M

@@ -1,7 +1,7 @@
 -- `deadline_layout::steps::stands_at` meets its contract, stage by stage. Assumes nothing.
 use native.Mathlib.Omega.{arith}
 use borrow.Author.Rules.{rules}
-use Rattle.deadline_layout.proofs.Looks.{idle-stands, critical-stands, past-stands, checking-stands, timed-stands}
+use Rattle.deadline_layout.proofs.Looks.{idle_stands, critical_stands, past_stands, checking_stands, timed_stands}
 use Rattle.deadline_layout.proofs.steps.stands_at.Statement.{statement}
 use Rattle.deadline_layout.proofs.steps.stands_at.Tie as tie
 
@@ -23,7 +23,7 @@ are-zero-requires c κs = search rules
 returns : tie.Need-returns
 returns c =
     let a = c.before.before.before.before.before.before.before in
-    idle-stands _ _ _ _ a.requires.0 _ a.requires.1 c.before.before.before.before.Stage-at.ensures c.before.before.before.if1.true
+    idle_stands _ _ _ _ a.requires.0 _ a.requires.1 c.before.before.before.before.Stage-at.ensures c.before.before.before.if1.true
     (rw (c.before.last-at.ensures, c.before.before.first-at.ensures) at c.are-zero.ensures)
 
 mul-are-of-arrival : tie.Need-overflow-mul-are-of-arrival
@@ -38,7 +38,7 @@ are-of-arrival-requires c κs = search rules
 returns-2 : tie.Need-returns-2
 returns-2 c =
     let a = c.before.before.before.before.before.before.before in
-    timed-stands _ _ _ _ a.requires.0 _ a.requires.1 c.before.before.before.before.Stage-at.ensures c.before.before.before.if1.false
+    timed_stands _ _ _ _ a.requires.0 _ a.requires.1 c.before.before.before.before.Stage-at.ensures c.before.before.before.if1.false
     (λ z. omega arith) (λ z. omega arith) (omega arith) c.are-of-arrival.ensures
 
 are-of-arrival-requires-2 : tie.Need-are-of-arrival-requires-2
@@ -47,7 +47,7 @@ are-of-arrival-requires-2 c κs = search rules
 returns-3 : tie.Need-returns-3
 returns-3 c =
     let a = c.before.before.before.before.before.before.before in
-    checking-stands _ _ _ _ a.requires.0 _ a.requires.1 c.before.before.before.before.Stage-at.ensures
+    checking_stands _ _ _ _ a.requires.0 _ a.requires.1 c.before.before.before.before.Stage-at.ensures
     c.before.if3.true c.are-of-arrival2.ensures
 
 mul-are-of-arrival-2 : tie.Need-overflow-mul-are-of-arrival-2
@@ -62,7 +62,7 @@ are-of-arrival-requires-3 c κs = search rules
 returns-4 : tie.Need-returns-4
 returns-4 c =
     let a = c.before.before.before.before.before.before.before.before.before in
-    timed-stands _ _ _ _ a.requires.0 _ a.requires.1 c.before.before.before.before.before.before.Stage-at.ensures
+    timed_stands _ _ _ _ a.requires.0 _ a.requires.1 c.before.before.before.before.before.before.Stage-at.ensures
     c.before.before.before.before.before.if1.false
     c.before.before.before.if3.false (λ z. omega arith) (omega arith) c.are-of-arrival3.ensures
 
@@ -78,14 +78,14 @@ are-zero-requires-2 c κs = search rules
 returns-5 : tie.Need-returns-5
 returns-5 c =
     let a = c.before.before.before.before.before.before.before.before.before.before.before in
-    critical-stands _ _ _ _ a.requires.0 _ a.requires.1 c.before.before.before.before.before.before.before.before.Stage-at.ensures
+    critical_stands _ _ _ _ a.requires.0 _ a.requires.1 c.before.before.before.before.before.before.before.before.Stage-at.ensures
     c.before.before.before.if5.true
     (rw (c.before.last-at2.ensures, c.before.before.first-at2.ensures) at c.are-zero2.ensures)
 
 returns-6 : tie.Need-returns-6
 returns-6 c =
     let a = c.before.before.before.before.before.before.before.before.before in
-    past-stands _ _ _ _ a.requires.0 _ a.requires.1 c.before.before.before.before.before.before.Stage-at.ensures c.if6.true
+    past_stands _ _ _ _ a.requires.0 _ a.requires.1 c.before.before.before.before.before.before.Stage-at.ensures c.if6.true
 
 mul-are-of-arrival-3 : tie.Need-overflow-mul-are-of-arrival-3
 mul-are-of-arrival-3 c = search rules
@@ -99,7 +99,7 @@ are-of-arrival-requires-4 c κs = search rules
 returns-7 : tie.Need-returns-7
 returns-7 c =
     let a = c.before.before.before.before.before.before.before.before.before.before.before in
-    timed-stands _ _ _ _ a.requires.0 _ a.requires.1 c.before.before.before.before.before.before.before.before.Stage-at.ensures
+    timed_stands _ _ _ _ a.requires.0 _ a.requires.1 c.before.before.before.before.before.before.before.before.Stage-at.ensures
     c.before.before.before.before.before.before.before.if1.false
     c.before.before.before.before.before.if3.false c.before.before.before.if5.false c.before.before.if6.false c.are-of-arrival4.ensures
 

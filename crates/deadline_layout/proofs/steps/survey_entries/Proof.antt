@@ -8,7 +8,7 @@ use borrow.Author.Tests.{not-true, not-false}
 use Rattle.rules.specs.declared.survey.Survey.{Survey}
 use Rattle.rules.specs.Survey.{nothing}
 use Rattle.deadline_layout.specs.Steps.{entries_noted_with}
-use Rattle.deadline_layout.proofs.Turns.{left, noted-end, turn-fault, turn-late, turn_on}
+use Rattle.deadline_layout.proofs.Turns.{left, noted_end, turn_fault, turn_late, turn_on}
 use Rattle.deadline_layout.proofs.steps.survey_entries.Statement.{statement}
 use Rattle.deadline_layout.proofs.steps.survey_entries.Tie as tie
 
@@ -68,7 +68,7 @@ returns c =
     let t = c.before.before.before in
     let v = t.before.loop in
     c.fault.ensures
-    ∙ turn-fault _ _ _ _ t.before.before.before.before.before.requires v.i (omega (arith, t.loop-test.true)) v.found
+    ∙ turn_fault _ _ _ _ t.before.before.before.before.before.requires v.i (omega (arith, t.loop-test.true)) v.found
     c.before.before.stands_at.ensures (not-true _ c.before.if1.true)
     ∙ v.invariant.1
 
@@ -83,7 +83,7 @@ returns-2 c =
     let t = c.before.before.before.before.before.before in
     let v = t.before.loop in
     c.fault2.ensures
-    ∙ turn-late _ _ _ _ t.before.before.before.before.before.requires v.i (omega (arith, t.loop-test.true)) v.found
+    ∙ turn_late _ _ _ _ t.before.before.before.before.before.requires v.i (omega (arith, t.loop-test.true)) v.found
     c.before.before.before.before.before.stands_at.ensures (not-false _ c.before.before.before.before.if1.false)
     c.before.before.before.note-at.ensures c.before.if2.true
     ∙ v.invariant.1
@@ -111,7 +111,7 @@ returns-3 c =
     let t = start c.before.before.before in
     let v = t.before.loop in
     c.fault3.ensures
-    ∙ turn-fault _ _ _ _ t.before.before.before.before.before.pre (v.i + 1) (omega (arith, t.loop-test.taken))
+    ∙ turn_fault _ _ _ _ t.before.before.before.before.before.pre (v.i + 1) (omega (arith, t.loop-test.taken))
     c.before.before.before.before.before.note-at.result c.before.before.stands-at2.ensures (not-true _ c.before.if3.true)
     ∙ so_far c.before.before.before
 
@@ -129,7 +129,7 @@ returns-4 c =
     let t = start c.before.before.before.before.before.before in
     let v = t.before.loop in
     c.fault4.ensures
-    ∙ turn-late _ _ _ _ t.before.before.before.before.before.pre (v.i + 1) (omega (arith, t.loop-test.taken))
+    ∙ turn_late _ _ _ _ t.before.before.before.before.before.pre (v.i + 1) (omega (arith, t.loop-test.taken))
     c.before.before.before.before.before.before.before.before.note-at.result c.before.before.before.before.before.stands-at2.ensures
     (not-false _ c.before.before.before.before.if3.false)
     c.before.before.before.note-at2.ensures c.before.if4.true
@@ -159,7 +159,7 @@ returns-5 c =
     let t = start-2 c.before.before.before in
     let v = t.before.loop in
     c.fault5.ensures
-    ∙ turn-fault _ _ _ _ t.before.before.before.before.before.pre (v.i + 2) (omega (arith, t.loop-test.taken))
+    ∙ turn_fault _ _ _ _ t.before.before.before.before.before.pre (v.i + 2) (omega (arith, t.loop-test.taken))
     c.before.before.before.before.before.note-at2.result c.before.before.stands-at3.ensures (not-true _ c.before.if5.true)
     ∙ so-far-2 c.before.before.before
 
@@ -177,7 +177,7 @@ returns-6 c =
     let t = start-2 c.before.before.before.before.before.before in
     let v = t.before.loop in
     c.fault6.ensures
-    ∙ turn-late _ _ _ _ t.before.before.before.before.before.pre (v.i + 2) (omega (arith, t.loop-test.taken))
+    ∙ turn_late _ _ _ _ t.before.before.before.before.before.pre (v.i + 2) (omega (arith, t.loop-test.taken))
     c.before.before.before.before.before.before.before.before.note-at2.result c.before.before.before.before.before.stands-at3.ensures
     (not-false _ c.before.before.before.before.if5.false)
     c.before.before.before.note-at3.ensures c.before.if6.true
@@ -207,7 +207,7 @@ returns-7 c =
     let t = start-3 c.before.before.before in
     let v = t.before.loop in
     c.fault7.ensures
-    ∙ turn-fault _ _ _ _ t.before.before.before.before.before.pre (v.i + 3) (omega (arith, t.loop-test.taken))
+    ∙ turn_fault _ _ _ _ t.before.before.before.before.before.pre (v.i + 3) (omega (arith, t.loop-test.taken))
     c.before.before.before.before.before.note-at3.result c.before.before.stands-at4.ensures (not-true _ c.before.if7.true)
     ∙ so-far-3 c.before.before.before
 
@@ -225,7 +225,7 @@ returns-8 c =
     let t = start-3 c.before.before.before.before.before.before in
     let v = t.before.loop in
     c.fault8.ensures
-    ∙ turn-late _ _ _ _ t.before.before.before.before.before.pre (v.i + 3) (omega (arith, t.loop-test.taken))
+    ∙ turn_late _ _ _ _ t.before.before.before.before.before.pre (v.i + 3) (omega (arith, t.loop-test.taken))
     c.before.before.before.before.before.before.before.before.note-at3.result c.before.before.before.before.before.stands-at4.ensures
     (not-false _ c.before.before.before.before.if7.false)
     c.before.before.before.note-at4.ensures c.before.if8.true
@@ -263,7 +263,7 @@ returns-9 : tie.Need-returns-9 invariant-loop decreases-loop invariant-loop2 dec
 returns-9 c =
     let v = c.before.before.before.before.loop2 in
     c.fault9.ensures
-    ∙ turn-fault _ _ _ _ c.before.before.before.before.before.before.before.before.before.before.requires v.i (omega arith) v.found
+    ∙ turn_fault _ _ _ _ c.before.before.before.before.before.before.before.before.before.before.requires v.i (omega arith) v.found
     c.before.before.stands-at5.ensures (not-true _ c.before.if9.true) ∙ v.invariant.1
 
 note-at-requires-5 : tie.Need-note-at-requires-5 invariant-loop decreases-loop invariant-loop2 decreases-loop2
@@ -276,7 +276,7 @@ returns-10 : tie.Need-returns-10 invariant-loop decreases-loop invariant-loop2 d
 returns-10 c =
     let v = c.before.before.before.before.before.before.before.loop2 in
     c.fault10.ensures
-    ∙ turn-late _ _ _ _ c.before.before.before.before.before.before.before.before.before.before.before.before.before.requires v.i (omega arith)
+    ∙ turn_late _ _ _ _ c.before.before.before.before.before.before.before.before.before.before.before.before.before.requires v.i (omega arith)
     v.found c.before.before.before.before.before.stands-at5.ensures (not-false _ c.before.before.before.before.if9.false)
     c.before.before.before.note-at5.ensures c.before.if10.true
     ∙ v.invariant.1
@@ -300,7 +300,7 @@ loop2-again c =
 returns-11 : tie.Need-returns-11 invariant-loop decreases-loop invariant-loop2 decreases-loop2
 returns-11 c =
     let v = c.before.loop2 in
-    sym (noted-end _ _ _ _ c.before.before.before.before.before.before.before.requires v.i v.found (omega arith)) ∙ v.invariant.1
+    sym (noted_end _ _ _ _ c.before.before.before.before.before.before.before.requires v.i v.found (omega arith)) ∙ v.invariant.1
 
 pub survey-entries-spec : {M : Type 1} → statement M
 survey-entries-spec =

@@ -14,7 +14,7 @@ use Rattle.layout.proofs.Surveys.{stand_few}
 use Rattle.deadline_layout.specs.Encodings.{deadline_length}
 use Rattle.deadline_layout.specs.Places.{entries_from}
 use Rattle.deadline_layout.specs.Steps.{pass_with}
-use Rattle.deadline_layout.proofs.Surveys.{pass_ready, pass-is, above-is, standing-not, pass-faulty, above-not, all_sound}
+use Rattle.deadline_layout.proofs.Surveys.{pass_ready, pass_is, above_is, standing_not, pass_faulty, above_not, all_sound}
 use Rattle.deadline_layout.proofs.steps.survey_table.Statement.{statement}
 use Rattle.deadline_layout.proofs.steps.survey_table.Tie as tie
 
@@ -51,7 +51,7 @@ fault-requires c κs = search rules
 returns : tie.Need-returns
 returns c =
     let a = c.before.before.before.before.before.before.before.before.before.before.args in
-    c.fault.ensures ∙ standing-not a.table.now a.acting (sym c.before.before.numbers-stand.ensures ∙ not-true _ c.before.if1.true)
+    c.fault.ensures ∙ standing_not a.table.now a.acting (sym c.before.before.numbers-stand.ensures ∙ not-true _ c.before.if1.true)
 
 -- the numbers stand, so n is at most 96
 stands : (c : tie.Else1)
@@ -104,7 +104,7 @@ passed : (c : tie.After-survey-entries)
     c.survey-entries.result ≡ pass_with a.table.now a.acting)
 passed c =
     let a = c.before.before.before.before.before.before.before.before.before.before.before.before.before.before.args in
-    pass-is a.table.now a.acting c.before.before.before.scene-of.ensures c.before.before.before.before.place_of.ensures
+    pass_is a.table.now a.acting c.before.before.before.scene-of.ensures c.before.before.before.before.place_of.ensures
     c.survey-entries.ensures
 
 fault-requires-2 : tie.Need-fault-requires-2
@@ -114,7 +114,7 @@ returns-2 : tie.Need-returns-2
 returns-2 c =
     let met = c.before.before.before in
     let a = met.before.before.before.before.before.before.before.before.before.before.before.before.before.before.args in
-    c.fault2.ensures ∙ pass-faulty a.table.now a.acting (stands met.before.before.before.before.before) (passed met) c.before.if2.true
+    c.fault2.ensures ∙ pass_faulty a.table.now a.acting (stands met.before.before.before.before.before) (passed met) c.before.if2.true
 
 mul-bits : tie.Need-overflow-mul-bits
 mul-bits c = omega (arith, ends c.before.before.before.before.before.before)
@@ -138,7 +138,7 @@ zeros : (c : tie.After-bits)
     eqb c.bits.result 0 ≡ are_zero (entries_from l (count_in l)))
 zeros c =
     let a = c.before.before.before.before.before.before.before.before.before.before.before.before.before.before.before.before.before.before in
-    above-is a.args.table.now a.args.acting c.bits.result a.requires
+    above_is a.args.table.now a.args.acting c.bits.result a.requires
     c.before.before.before.before.before.before.before.before.place_of.ensures c.bits.ensures
 
 fault-requires-3 : tie.Need-fault-requires-3
@@ -150,7 +150,7 @@ returns-3 c =
     let met = looked.before.before.before.before in
     let a = met.before.before.before.before.before.before.before.before.before.before.before.before.before.before.args in
     c.fault3.ensures
-    ∙ above-not a.table.now a.acting (stands met.before.before.before.before.before) (passed met) looked.before.before.if2.false
+    ∙ above_not a.table.now a.acting (stands met.before.before.before.before.before) (passed met) looked.before.before.if2.false
     (sym (zeros looked) ∙ ne_eqb _ 0 c.before.if3.true)
 
 returns-4 : tie.Need-returns-4

@@ -6,7 +6,7 @@ use borrow.Author.Rules.{rules}
 use lib.ListN.{length}
 use Rattle.model.proofs.Lists.{length_mapped}
 use Rattle.layout.proofs.Saving.{header-put, put_long}
-use Rattle.deadline_layout.proofs.Saving.{EntriesWritten, header_written, entry-written, all-written}
+use Rattle.deadline_layout.proofs.Saving.{EntriesWritten, header_written, entry_written, all_written}
 use Rattle.deadline_layout.proofs.tables.put_table.Statement.{statement}
 use Rattle.deadline_layout.proofs.tables.put_table.Tie as tie
 
@@ -51,13 +51,13 @@ loop-again : tie.Need-loop-preserved invariant-loop decreases-loop
 loop-again c =
     let v = c.before.before.before.before.before.before.loop in
     rw c.before.before.put-entry.ensures
-    (entry-written _ v.table v.i v.invariant _ c.before.before.before.before.before.loop-test.true)
+    (entry_written _ v.table v.i v.invariant _ c.before.before.before.before.before.loop-test.true)
 
 same_length : tie.Need-same-length invariant-loop decreases-loop
 same_length c = search rules
 
 returns : tie.Need-returns invariant-loop decreases-loop
-returns c = let v = c.before.loop in all-written _ v.table v.i v.invariant c.loop-test.false
+returns c = let v = c.before.loop in all_written _ v.table v.i v.invariant c.loop-test.false
 
 pub put-table-spec : {M : Type 1} → statement M
 put-table-spec =

@@ -11,7 +11,7 @@ use Rattle.model.specs.Writings.{events_of}
 use Rattle.model.specs.Executions.{attempts_from}
 use Rattle.text.specs.Puts.{Put}
 use Rattle.text.proofs.Putting.{put_first}
-use Rattle.text.proofs.Wholes.{after-names}
+use Rattle.text.proofs.Wholes.{after_names}
 use Rattle.intervals.specs.Intervals.{interval_names}
 use Rattle.intervals.specs.Parts.{parts_text, open_after, pass_text}
 use Rattle.intervals.proofs.parts.put_run.Statement.{statement}
@@ -29,7 +29,7 @@ attempts c = let a = (start c).args in attempts_from a.first (events_of (lent a.
 so_far : (c : tie.After-put-steps) →
     Put (start c).args.out.now c.put-steps.new.0 0 (interval_names ++ parts_text (attempts c))
     (c.before.before.before.before.put-text.result + c.put-steps.result.size)
-so_far c = after-names c.before.before.before.before.put-text.ensures refl c.put-steps.ensures.0
+so_far c = after_names c.before.before.before.before.put-text.ensures refl c.put-steps.ensures.0
 
 -- whether one is
 opened : (c : tie.After-put-steps) {b : Bool} → c.put-steps.result.opened ≡ b → open_after false (attempts c) ≡ b

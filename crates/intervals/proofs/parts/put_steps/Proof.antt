@@ -11,12 +11,12 @@ use Rattle.model.specs.Readings.{Lists, lists}
 use Rattle.model.specs.Writings.{events_of}
 use Rattle.model.specs.Executions.{attempts_of, attempts_from}
 use Rattle.model.proofs.Lists.{drop_end, part_is}
-use Rattle.model.proofs.Steps.{from, length-steps}
+use Rattle.model.proofs.Steps.{from, length_steps}
 use Rattle.text.proofs.Putting.{Left, left_all, left_next, left_done}
-use Rattle.execution.proofs.Blocks.{block-taken}
+use Rattle.execution.proofs.Blocks.{block_taken}
 use Rattle.execution.specs.Turns.{attempts_by_rows}
 use Rattle.intervals.specs.Parts.{parts_text, open_after}
-use Rattle.execution.proofs.Attempts.{block-next}
+use Rattle.execution.proofs.Attempts.{block_next}
 use Rattle.intervals.proofs.Passes.{parts_append, open_append}
 use Rattle.intervals.proofs.parts.put_steps.Statement.{statement}
 use Rattle.intervals.proofs.parts.put_steps.Tie as tie
@@ -66,8 +66,8 @@ turn : (c : Block) → let v = (head c).loop in let l = steps (start c) in
 turn c =
     let s = start c in
     let v = (head c).loop in
-    block-next v.state (steps s) v.i (count c)
-    (block-taken v.state (steps s) v.answers v.i (count c) (omega (arith, few c, s.pre.1, v.inv.2))
+    block_next v.state (steps s) v.i (count c)
+    (block_taken v.state (steps s) v.answers v.i (count c) (omega (arith, few c, s.pre.1, v.inv.2))
     (simp part_is at c.run-steps.ensures))
 
 answer-rows-requires : tie.Need-answer-rows-requires invariant-loop decreases-loop
@@ -177,7 +177,7 @@ unfolding attempts_of parts_text open_after
 returns c =
     let s = c.before.before.before.before.before.before.before in
     let v = c.before.loop in
-    let all : length (events_of (steps s)) ≡ v.i = omega (arith, length-steps (steps s), s.requires.1, v.invariant.0, c.loop-test.false) in
+    let all : length (events_of (steps s)) ≡ v.i = omega (arith, length_steps (steps s), s.requires.1, v.invariant.0, c.loop-test.false) in
     let none = drop_end (events_of (steps s)) v.i (omega arith) (omega arith) in
     (left_done (rw none at v.invariant.3) (omega arith), (rw none at v.invariant.4, omega (arith, v.invariant.0, v.invariant.1, s.requires.0)))
 

@@ -7,7 +7,7 @@ use Rattle.rules.proofs.Slots.{slot_fits}
 use Rattle.layout.specs.Encodings.{state_in, counts_length, summary_length}
 use Rattle.layout.specs.Countings.{wait_in, counts_counted, waited_put, accepted_in}
 use Rattle.layout.proofs.Counting.{waits_part, waits_kept, waits_put, waits_rest, put_length}
-use Rattle.layout.proofs.Waiting.{part-long, part-told, few-processes, past-part, part-processes}
+use Rattle.layout.proofs.Waiting.{part_long, part_told, few_processes, past_part, part_processes}
 use Rattle.layout.proofs.counts.count_accepted.Statement.{statement}
 use Rattle.layout.proofs.counts.count_accepted.Tie as tie
 
@@ -15,11 +15,11 @@ slot-of-requires : tie.Need-slot-of-requires
 slot-of-requires c κs = search rules
 
 -- the place of the acting process is one of the 96
-own-fits : (c : tie.After-slot-of) → c.slot_of.result < 96
-own-fits c = search (rules, slot_fits)
+own_fits : (c : tie.After-slot-of) → c.slot_of.result < 96
+own_fits c = search (rules, slot_fits)
 
 waited-in-requires : tie.Need-waited-in-requires
-waited-in-requires c κs = search (rules, own-fits c.before)
+waited-in-requires c κs = search (rules, own_fits c.before)
 
 wrapping-add-u64-requires : tie.Need-wrapping-add-u64-requires
 wrapping-add-u64-requires c κs = search rules
@@ -34,10 +34,10 @@ put-counts-requires : tie.Need-put-counts-requires
 put-counts-requires c κs = search rules
 
 -- the wait
-wait-is : (c : tie.After-wrapping-add-u64)
+wait_is : (c : tie.After-wrapping-add-u64)
     → (let a = c.before.before.before.before.before.before.args in
     c.wrapping-add-u64.result ≡ wait_in a.summary.now a.process a.unused)
-wait-is c =
+wait_is c =
     c.wrapping-add-u64.ensures
     ∙ rw (c.before.waited-in.ensures, c.before.before.before.slot_of.ensures)
 
@@ -50,16 +50,16 @@ counted c =
     ∙ rw (
       c.before.counts-after.ensures,
       c.before.before.counts-in.ensures,
-      wait-is c.before.before.before.before.before,
+      wait_is c.before.before.before.before.before,
     )
 
-counted-long : (c : tie.After-put-counts) → length c.put-counts.new.0 ≡ summary_length
-counted-long c = ap length c.put-counts.ensures ∙ simp length-set c.before.before.before.before.before.before.before.before.before.before.before.requires.0
+counted_long : (c : tie.After-put-counts) → length c.put-counts.new.0 ≡ summary_length
+counted_long c = ap length c.put-counts.ensures ∙ simp length-set c.before.before.before.before.before.before.before.before.before.before.before.requires.0
 
 -- they leave the waits so far
-waits-stay : (c : tie.After-put-counts)
+waits_stay : (c : tie.After-put-counts)
     → drop counts_length c.put-counts.new.0 ≡ drop counts_length c.before.before.before.before.before.before.before.before.before.before.before.args.summary.now
-waits-stay c = ap (drop counts_length) c.put-counts.ensures ∙ waits_kept c.before.before.before.before.before.before.before.before.before.before.before.args.summary.now _
+waits_stay c = ap (drop counts_length) c.put-counts.ensures ∙ waits_kept c.before.before.before.before.before.before.before.before.before.before.before.args.summary.now _
 
 -- The waits so far
 
@@ -88,18 +88,18 @@ wait-on-requires : tie.Need-wait-on-requires
 wait-on-requires c κs =
     let a = c.before.before.before.before.before.before.before.before.before.before.before.before.before.before.before.before.before.args in
     let h = c.before.before.before.before.before.before.before.before.before.before.before.before.before.before.before.before.before.requires in
-    let put = counted-long c.before.before.before.before.before.before in
+    let put = counted_long c.before.before.before.before.before.before in
     let l = c.before.before.before.before.before.before.put-counts.new.0 in (
       ap length (waits_part l put) ∙ length-drop counts_length l ∙ omega (arith, put),
       (
-        part-long a.table.now h.1.0 h.1.1.0,
+        part_long a.table.now h.1.0 h.1.1.0,
         (
-          few-processes a.table.now h.1.0 h.1.1.0,
+          few_processes a.table.now h.1.0 h.1.1.0,
           (
-            part-told a.table.now h.1.0 h.1.1.0,
+            part_told a.table.now h.1.0 h.1.1.0,
             (
-              past-part a.table.now h.1.0 h.1.1.0,
-              λ i. rw (waits_part l put, waits-stay c.before.before.before.before.before.before) (h.1.1.1 i),
+              past_part a.table.now h.1.0 h.1.1.0,
+              λ i. rw (waits_part l put, waits_stay c.before.before.before.before.before.before) (h.1.1.1 i),
             ),
           ),
         ),
@@ -118,10 +118,10 @@ grown c =
     ⊎_elim
     (λ w. let back : c.if1.summary ≡ take counts_length l ++ (w.4.last.0 ++ drop (summary_length - counts_length) (drop counts_length l)) = w.7 in
     back
-    ∙ waits_put l (counted-long c.before.before.before)
+    ∙ waits_put l (counted_long c.before.before.before)
     (state_in a.table.now).processes a.unused (w.4.ensures ∙ ap (λ (qs : List Process). waited_on a.unused qs (take
     (summary_length - counts_length) (drop counts_length l)))
-    (part-processes a.table.now h.1.0 h.1.1.0))
+    (part_processes a.table.now h.1.0 h.1.1.0))
     ∙ ap (λ (k : List ℕ). waited_put k (state_in a.table.now).processes a.unused) e)
     (λ w. w.1 ∙ waits_rest l (state_in a.table.now).processes w.0.left ∙ ap (λ (k : List ℕ). waited_put k (state_in
     a.table.now).processes a.unused) e)
@@ -132,7 +132,7 @@ grown-long c =
     let a = c.before.before.before.before.before.before.before.before.before.before.before.before.before.before.args in
     ap length (grown c)
     ∙ put_length (counts_counted a.summary.now a.action a.process a.unused) (state_in a.table.now).processes a.unused
-    (ap length (sym (counted c.before.before.before)) ∙ counted-long c.before.before.before)
+    (ap length (sym (counted c.before.before.before)) ∙ counted_long c.before.before.before)
 
 does-clear-requires : tie.Need-does-clear-requires
 does-clear-requires c κs = search rules
@@ -140,7 +140,7 @@ does-clear-requires c κs = search rules
 put-waited-requires : tie.Need-put-waited-requires
 put-waited-requires c κs = (
   grown-long c.before.before.before,
-  own-fits c.before.before.before.before.before.before.before.before.before.before.before.before.before.before,
+  own_fits c.before.before.before.before.before.before.before.before.before.before.before.before.before.before,
 )
 
 same_length : tie.Need-same-length
@@ -151,7 +151,7 @@ same_length c =
 returns : tie.Need-returns
 unfolding accepted_in
 returns c = (
-  wait-is c.before.before.before.before.before.before.before.before.before.before.before.before.before.before,
+  wait_is c.before.before.before.before.before.before.before.before.before.before.before.before.before.before,
   c.before.before.put-waited.ensures
       ∙ rw (
         sym c.before.before.before.before.before.does-clear.ensures ∙ c.before.before.before.before.if2.true,
@@ -166,7 +166,7 @@ same-length-2 c = grown-long c.before.before ∙ sym c.before.before.before.befo
 returns-2 : tie.Need-returns-2
 unfolding accepted_in
 returns-2 c = (
-  wait-is c.before.before.before.before.before.before.before.before.before.before,
+  wait_is c.before.before.before.before.before.before.before.before.before.before,
   grown c.before.before ∙ sym (rw (sym c.before.does-clear.ensures ∙ c.if2.false)),
 )
 

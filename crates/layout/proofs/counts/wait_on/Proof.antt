@@ -2,10 +2,10 @@
 use Rattle.std.proofs.Common.{◌≡◌, ◌+◌, ◌-◌, ◌*◌, ◌%◌, ◌^◌, ◌<◌, ◌≤◌, length, get_or, refl, ap, ◌∙◌, arith, length-set, rules}
 use native.Mathlib.Nat.{sub_self}
 use Rattle.statistics.specs.Waitings.{gains_of, waited_from}
-use Rattle.statistics.proofs.Waits.{one-more-gone, more-gone, waited-from-all}
+use Rattle.statistics.proofs.Waits.{one_more_gone, more_gone, waited_from_all}
 use Rattle.layout.specs.Encodings.{processes_in}
 use Rattle.layout.specs.Countings.{stage_in}
-use Rattle.layout.proofs.Waiting.{stage-in, stage-in-few}
+use Rattle.layout.proofs.Waiting.{stage-in, stage_in_few}
 use Rattle.layout.proofs.counts.wait_on.Statement.{statement}
 use Rattle.layout.proofs.counts.wait_on.Tie as tie
 
@@ -64,7 +64,7 @@ stage-fits c =
     omega (
       arith,
       c.Stage-at.ensures,
-      stage-in-few a.entries.now c.before.before.before.before.before.before.before.before.requires.1.1.1.0 c.before.before.loop2.i,
+      stage_in_few a.entries.now c.before.before.before.before.before.before.before.before.requires.1.1.1.0 c.before.before.loop2.i,
     )
 
 mul-wrapping-add-u64 : tie.Need-overflow-mul-wrapping-add-u64 invariant-loop2 decreases-loop2 invariant-loop decreases-loop
@@ -103,7 +103,7 @@ loop2-again c =
       omega (arith, v2.invariant.0),
       omega arith,
       length-set v2.waited v2.i c.wrapping-add-u64.result ∙ v2.invariant.2,
-      one-more-gone (gains_of a.unused) (stage_in a.entries.now) (v.block * 8) v2.i c.wrapping-add-u64.result v.waited v2.waited
+      one_more_gone (gains_of a.unused) (stage_in a.entries.now) (v.block * 8) v2.i c.wrapping-add-u64.result v.waited v2.waited
           v2.invariant.0 v2.invariant.3
           (c.wrapping-add-u64.ensures
           ∙ (λ i. (get_or v2.waited v2.i 0 + get_or (gains.ensures i) (c.before.before.Stage-at.ensures i) 0) % 2 ^ 64)),
@@ -123,7 +123,7 @@ loop-again c =
     let e : v.block * 8 + (v2.i - v.block * 8) ≡ (v.block + 1) * 8 = omega (arith, v2.invariant.0, v2.invariant.1) in (
       omega (arith, c.before.before.before.before.before.before.before.requires.1.1.0, c.before.before.loop-test.true),
       v2.invariant.2,
-      more-gone (gains_of a.unused) (stage_in a.entries.now) (v.block * 8) (v2.i - v.block * 8) a.waited.now v.waited v2.waited
+      more_gone (gains_of a.unused) (stage_in a.entries.now) (v.block * 8) (v2.i - v.block * 8) a.waited.now v.waited v2.waited
           v.invariant.2 v2.invariant.3
           ∙ ap (λ k. waited_from (gains_of a.unused) (stage_in a.entries.now) 0 k a.waited.now) e,
     )
@@ -136,7 +136,7 @@ returns c =
     let a = c.before.before.before.before.before.args in
     let h = c.before.before.before.before.before.requires in
     let v = c.before.loop in
-    v.invariant.2 ∙ waited-from-all a.unused (processes_in a.entries.now) a.waited.now h.1.1.1.1.1 (stage_in a.entries.now)
+    v.invariant.2 ∙ waited_from_all a.unused (processes_in a.entries.now) a.waited.now h.1.1.1.1.1 (stage_in a.entries.now)
     (stage-in a.entries.now h.1.1.1.0) a.n (v.block * 8) (omega arith) h.1.1.1.1.0
 
 pub wait-on-spec : {M : Type 1} → statement M

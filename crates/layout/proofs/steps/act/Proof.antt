@@ -6,7 +6,7 @@ use Rattle.layout.specs.Encodings.{b_in}
 use Rattle.rules.specs.Judging.{check_from, judged}
 use Rattle.rules.proofs.Slots.{slot_fits}
 use Rattle.layout.specs.Steps.{scene_in}
-use Rattle.layout.proofs.Acts.{acted-accepted, acted-refused}
+use Rattle.layout.proofs.Acts.{acted_accepted, acted_refused}
 use Rattle.layout.proofs.steps.act.Statement.{statement}
 use Rattle.layout.proofs.steps.act.Tie as tie
 
@@ -14,11 +14,11 @@ slot-of-requires : tie.Need-slot-of-requires
 slot-of-requires c κs = search rules
 
 -- the place of the acting process is one of the 96
-own-fits : (c : tie.After-slot-of) → c.slot_of.result < 96
-own-fits c = search (rules, slot_fits)
+own_fits : (c : tie.After-slot-of) → c.slot_of.result < 96
+own_fits c = search (rules, slot_fits)
 
 location-in-requires : tie.Need-location-in-requires
-location-in-requires c κs = search (rules, own-fits c.before)
+location-in-requires c κs = search (rules, own_fits c.before)
 
 slice-read-transition-of : tie.Need-slice-read-transition-of
 slice-read-transition-of c = search rules
@@ -53,7 +53,7 @@ judge-requires c κs = search rules
 put-action-requires : tie.Need-put-action-requires
 put-action-requires c κs = (
   c.before.before.before.before.before.before.before.before.before.before.before.before.before.before.before.before.before.requires,
-  own-fits c.before.before.before.before.before.before.before.before.before.before.before.before.before.before.before,
+  own_fits c.before.before.before.before.before.before.before.before.before.before.before.before.before.before.before,
 )
 
 -- the answer, of the own entry and the row
@@ -75,7 +75,7 @@ returns c =
     let met = c.before.before.before.before.before.before in
     let a = met.before.before.before.before.before.before.before.before.before.before.before.before.before.before.args in
     let slot = met.before.before.before.before.before.before.before.before.before.before.before.before in
-    acted-accepted a.table.now a.found a.action a.process a.time slot.slot_of.result slot.slot_of.ensures
+    acted_accepted a.table.now a.found a.action a.process a.time slot.slot_of.result slot.slot_of.ensures
     met.before.before.before.before.before.before.before.before.before.before.location-in.ensures
     met.before.before.before.before.before.before.before.before.transition-of.ensures (judged-is met)
     c.before.before.before.before.if1.true
@@ -89,7 +89,7 @@ returns-2 c =
     let met = c.before.before in
     let a = met.before.before.before.before.before.before.before.before.before.before.before.before.before.before.args in
     let slot = met.before.before.before.before.before.before.before.before.before.before.before.before in
-    acted-refused a.table.now a.found a.action a.process a.time slot.slot_of.result slot.slot_of.ensures
+    acted_refused a.table.now a.found a.action a.process a.time slot.slot_of.result slot.slot_of.ensures
     met.before.before.before.before.before.before.before.before.before.before.location-in.ensures
     met.before.before.before.before.before.before.before.before.transition-of.ensures (judged-is met) c.if1.false
 

@@ -5,7 +5,7 @@ use Rattle.layout.specs.Encodings.{stride}
 use Rattle.layout.specs.Places.{entries_in}
 use Rattle.rules.specs.Survey.{nothing, unsound}
 use Rattle.layout.specs.Steps.{entries_noted}
-use Rattle.layout.proofs.Surveys.{noted-next, noted-end}
+use Rattle.layout.proofs.Surveys.{noted_next, noted_end}
 use Rattle.layout.proofs.steps.survey_entries.Statement.{statement}
 use Rattle.layout.proofs.steps.survey_entries.Tie as tie
 
@@ -56,7 +56,7 @@ next : (c : tie.After-note-numbers invariant-loop decreases-loop)
 next c =
     let v = c.before.before.before.before.before.loop in
     let a = c.before.before.before.before.before.before.before.before.before.args in
-    sym (noted-next a.limits.now a.scene (v.i / stride + 1) (v.i / stride) refl a.entries.now v.i v.found
+    sym (noted_next a.limits.now a.scene (v.i / stride + 1) (v.i / stride) refl a.entries.now v.i v.found
     c.note-numbers.result (omega arith)
     (rw (c.before.before.Since-at.ensures, c.before.before.before.Stage-at.ensures) at c.note-numbers.ensures))
     ∙ v.invariant.4
@@ -83,7 +83,7 @@ returns-2 : tie.Need-returns-2 invariant-loop decreases-loop
 returns-2 c =
     let v = c.before.loop in
     let a = c.before.before.before.before.before.args in
-    sym (noted-end a.limits.now a.scene (v.i / stride + 1) a.entries.now v.i v.found (omega arith)) ∙ v.invariant.4
+    sym (noted_end a.limits.now a.scene (v.i / stride + 1) a.entries.now v.i v.found (omega arith)) ∙ v.invariant.4
 
 pub survey-entries-spec : {M : Type 1} → statement M
 survey-entries-spec =

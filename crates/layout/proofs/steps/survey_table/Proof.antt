@@ -8,7 +8,7 @@ use Rattle.rules.specs.Survey.{numbers_stand}
 use Rattle.layout.specs.Encodings.{count_in, table_parameters, clock_in, word_in}
 use Rattle.layout.specs.Places.{entries_from}
 use Rattle.layout.specs.Steps.{pass_in}
-use Rattle.layout.proofs.Surveys.{stand_few, parts_long, pass-is, above-is, standing-not, pass-faulty, above-not, all_sound}
+use Rattle.layout.proofs.Surveys.{stand_few, parts_long, pass_is, above_is, standing_not, pass_faulty, above_not, all_sound}
 use Rattle.layout.proofs.steps.survey_table.Statement.{statement}
 use Rattle.layout.proofs.steps.survey_table.Tie as tie
 
@@ -45,7 +45,7 @@ fault-requires c κs = search rules
 returns : tie.Need-returns
 returns c =
     let a = c.before.before.before.before.before.before.before.before.before.before.args in
-    c.fault.ensures ∙ standing-not a.table.now a.acting (sym c.before.before.numbers-stand.ensures ∙ not-true _ c.before.if1.true)
+    c.fault.ensures ∙ standing_not a.table.now a.acting (sym c.before.before.numbers-stand.ensures ∙ not-true _ c.before.if1.true)
 
 -- the numbers stand, so n is at most 96
 stands : (c : tie.Else1) → (let l = c.before.before.before.before.before.before.before.before.before.args.table.now in numbers_stand
@@ -95,14 +95,14 @@ passed : (c : tie.After-survey-entries)
     c.survey-entries.result ≡ pass_in a.table.now a.acting)
 passed c =
     let a = c.before.before.before.before.before.before.before.before.before.before.before.before.before.before.args in
-    pass-is a.table.now a.acting c.before.before.before.scene-of.ensures c.before.before.before.before.place_of.ensures
+    pass_is a.table.now a.acting c.before.before.before.scene-of.ensures c.before.before.before.before.place_of.ensures
     c.survey-entries.ensures
 
 returns-2 : tie.Need-returns-2
 returns-2 c =
     let met = c.before.before.before in
     let a = met.before.before.before.before.before.before.before.before.before.before.before.before.before.before.args in
-    c.fault2.ensures ∙ pass-faulty a.table.now a.acting (stands met.before.before.before.before.before) (passed met) c.before.if2.true
+    c.fault2.ensures ∙ pass_faulty a.table.now a.acting (stands met.before.before.before.before.before) (passed met) c.before.if2.true
 
 mul-are-zero : tie.Need-overflow-mul-are-zero
 mul-are-zero c = omega (
@@ -139,7 +139,7 @@ zeros : (c : tie.After-are-zero)
     → (let l = c.before.before.before.before.before.before.before.before.before.before.before.before.before.before.before.before.before.before.args.table.now in c.are-zero.result ≡ are_zero (entries_from l (count_in l)))
 zeros c =
     let a = c.before.before.before.before.before.before.before.before.before.before.before.before.before.before.before.before.before.before in
-    above-is a.args.table.now a.args.acting a.requires c.before.before.before.before.before.before.before.before.place_of.ensures
+    above_is a.args.table.now a.args.acting a.requires c.before.before.before.before.before.before.before.before.place_of.ensures
     c.are-zero.ensures
 
 returns-3 : tie.Need-returns-3
@@ -148,7 +148,7 @@ returns-3 c =
     let met = looked.before.before.before.before in
     let a = met.before.before.before.before.before.before.before.before.before.before.before.before.before.before.args in
     c.fault3.ensures
-    ∙ above-not a.table.now a.acting (stands met.before.before.before.before.before) (passed met) looked.before.before.if2.false
+    ∙ above_not a.table.now a.acting (stands met.before.before.before.before.before) (passed met) looked.before.before.if2.false
     (sym (zeros looked) ∙ not-true _ c.before.if3.true)
 
 returns-4 : tie.Need-returns-4

@@ -1,6 +1,6 @@
 -- `layout::tables::put_header` meets its contract: five numbers, and behind them the values of a. Assumes nothing.
 use Rattle.std.proofs.Common.{◌≡◌, length, ap, ◌∙◌, arith, length-set, rules}
-use Rattle.layout.proofs.Saving.{header-stored, header-left, put_long}
+use Rattle.layout.proofs.Saving.{header_stored, header_left, put_long}
 use Rattle.layout.proofs.tables.put_header.Statement.{statement}
 use Rattle.layout.proofs.tables.put_header.Tie as tie
 
@@ -38,7 +38,7 @@ size c = search rules
 returns : tie.Need-returns
 returns c =
     let a = c.before.before.before.before.before.before.before.before.before.args in
-    header-stored a.table.now a.t2 a.clock a.word (size c) c.before.before.before.before.before.before.before.if1.true
+    header_stored a.table.now a.t2 a.clock a.word (size c) c.before.before.before.before.before.before.before.if1.true
     c.before.before.copy.ensures
 
 same_length : tie.Need-same-length
@@ -48,7 +48,7 @@ same_length c =
     ∙ put_long a.table.now a.t2 (size c) a.clock a.word c.before.before.before.before.before.before.before.if1.true
 
 returns-2 : tie.Need-returns-2
-returns-2 c = let a = c.before.before.args in header-left a.table.now a.t2 a.clock a.word c.if1.false
+returns-2 c = let a = c.before.before.args in header_left a.table.now a.t2 a.clock a.word c.if1.false
 
 pub put-header-spec : {M : Type 1} → statement M
 put-header-spec =

@@ -1,7 +1,7 @@
 -- `layout::tables::put_table` meets its contract: what stands before the entries, and then these one by one. Assumes nothing.
 use Rattle.std.proofs.Common.{◌≡◌, ◌-◌, length, ◌∙◌, arith, rules}
 use Rattle.model.proofs.Lists.{length_mapped}
-use Rattle.layout.proofs.Saving.{EntriesWritten, header-put, put_long, header_written, entry-written, all-written}
+use Rattle.layout.proofs.Saving.{EntriesWritten, header-put, put_long, header_written, entry_written, all_written}
 use Rattle.layout.proofs.tables.put_table.Statement.{statement}
 use Rattle.layout.proofs.tables.put_table.Tie as tie
 
@@ -46,13 +46,13 @@ loop-again : tie.Need-loop-preserved invariant-loop decreases-loop
 loop-again c =
     let v = c.before.before.before.before.before.before.loop in
     rw c.before.before.put-entry.ensures
-    (entry-written _ v.table v.i v.invariant _ c.before.before.before.before.before.loop-test.true)
+    (entry_written _ v.table v.i v.invariant _ c.before.before.before.before.before.loop-test.true)
 
 same_length : tie.Need-same-length invariant-loop decreases-loop
 same_length c = search rules
 
 returns : tie.Need-returns invariant-loop decreases-loop
-returns c = let v = c.before.loop in all-written _ v.table v.i v.invariant c.loop-test.false
+returns c = let v = c.before.loop in all_written _ v.table v.i v.invariant c.loop-test.false
 
 pub put-table-spec : {M : Type 1} → statement M
 put-table-spec =

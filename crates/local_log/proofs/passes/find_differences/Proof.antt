@@ -1,7 +1,7 @@
 -- `local_log::passes::find_differences` meets its contract: the places passed and those left come to the whole pass. Assumes nothing.
 use Rattle.std.proofs.Common.{◌≡◌, ◌-◌, ◌≤◌, min, length, sym, refl, ◌∙◌, arith, rules}
 use Rattle.local_log.specs.Passes.{differences, noted, pass_of}
-use Rattle.local_log.proofs.Turns.{pass_left, pass-next, local-stops, other-stops, pass-ends}
+use Rattle.local_log.proofs.Turns.{pass_left, pass_next, local_stops, other_stops, pass_ends}
 use Rattle.local_log.proofs.passes.find_differences.Statement.{statement}
 use Rattle.local_log.proofs.passes.find_differences.Tie as tie
 
@@ -55,7 +55,7 @@ loop-again c =
     let v = c.before.before.before.before.before.before.before.loop in
     let a = c.before.before.before.before.before.before.before.before.before.before.before.args in
     let kept = differences v.i v.smallest v.largest in
-    let next = pass-next a.stamps.now a.times.now v.i (omega arith) kept (omega arith) (omega arith) in
+    let next = pass_next a.stamps.now a.times.now v.i (omega arith) kept (omega arith) (omega arith) in
     (omega arith, v.invariant.1, rw (c.before.lesser.ensures, c.greater.ensures) (sym next ∙ v.invariant.2))
 
 returns : tie.Need-returns invariant-loop decreases-loop
@@ -63,21 +63,21 @@ returns c =
     let v = c.before.loop in
     let a = c.before.before.before.before.before.args in
     let kept = differences v.i v.smallest v.largest in
-    sym (pass-ends a.stamps.now a.times.now v.i (omega arith) kept) ∙ v.invariant.2
+    sym (pass_ends a.stamps.now a.times.now v.i (omega arith) kept) ∙ v.invariant.2
 
 returns-2 : tie.Need-returns-2 invariant-loop decreases-loop
 returns-2 c =
     let v = c.before.before.before.loop in
     let a = c.before.before.before.before.before.before.before.args in
     let kept = differences v.i v.smallest v.largest in
-    sym (local-stops a.stamps.now a.times.now v.i (omega arith) kept c.if1.true) ∙ v.invariant.2
+    sym (local_stops a.stamps.now a.times.now v.i (omega arith) kept c.if1.true) ∙ v.invariant.2
 
 returns-3 : tie.Need-returns-3 invariant-loop decreases-loop
 returns-3 c =
     let v = c.before.before.before.before.before.loop in
     let a = c.before.before.before.before.before.before.before.before.before.args in
     let kept = differences v.i v.smallest v.largest in
-    sym (other-stops a.stamps.now a.times.now v.i (omega arith) kept (omega arith) c.if2.true) ∙ v.invariant.2
+    sym (other_stops a.stamps.now a.times.now v.i (omega arith) kept (omega arith) c.if2.true) ∙ v.invariant.2
 
 pub find-differences-spec : {M : Type 1} → statement M
 find-differences-spec =

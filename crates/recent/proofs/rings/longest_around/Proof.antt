@@ -6,7 +6,7 @@ use borrow.Author.Rules.{rules}
 use Rattle.recent.specs.Boards.{most_kept}
 use Rattle.recent.specs.Encodings.{entries_from}
 use Rattle.recent.proofs.Places.{ring_straight, ring_around}
-use Rattle.recent.proofs.Passing.{passes-fell, passes-both}
+use Rattle.recent.proofs.Passing.{passes_fell, passes_both}
 use Rattle.recent.proofs.rings.longest_around.Statement.{statement}
 use Rattle.recent.proofs.rings.longest_around.Tie as tie
 
@@ -29,7 +29,7 @@ returns-2 : tie.Need-returns-2
 returns-2 c =
     let a = c.before.before.before.before.args in
     rw (ring_around a.board.now a.first a.count (search rules) (search rules))
-    (passes-fell (entries_from a.board.now 0 (a.first + a.count - most_kept)) c.before.longest-in2.ensures c.if2.true)
+    (passes_fell (entries_from a.board.now 0 (a.first + a.count - most_kept)) c.before.longest-in2.ensures c.if2.true)
 
 sub-longest-in : tie.Need-overflow-sub-longest-in
 sub-longest-in c = search rules
@@ -42,7 +42,7 @@ returns-3 c =
     let a = c.before.before.before.before.before.args in
     let past : a.first + a.count - most_kept - 0 ≡ a.first + a.count - most_kept = omega arith in
     rw (ring_around a.board.now a.first a.count (search rules) (search rules))
-    (passes-both (entries_from a.board.now 0 (a.first + a.count - most_kept)) c.before.before.longest-in2.ensures c.before.if2.false
+    (passes_both (entries_from a.board.now 0 (a.first + a.count - most_kept)) c.before.before.longest-in2.ensures c.before.if2.false
     (rw past at c.longest-in3.ensures))
 
 pub longest-around-spec : {M : Type 1} → statement M

@@ -4,7 +4,7 @@ use Prim.Native.Nat.{◌-◌}
 use mathlib.Core.Bool.{true≢false, false≢true}
 use borrow.Author.Rules.{rules}
 use Rattle.recent.specs.Encodings.{entries_from}
-use Rattle.recent.proofs.Passing.{Passing, passing_start, passing-falls, passing-next, passing_end}
+use Rattle.recent.proofs.Passing.{Passing, passing_start, passing_falls, passing_next, passing_end}
 use Rattle.recent.proofs.Places.{entries_to, entries_end}
 use Rattle.recent.proofs.rings.longest_in.Statement.{statement}
 use Rattle.recent.proofs.rings.longest_in.Tie as tie
@@ -35,7 +35,7 @@ returns : tie.Need-returns invariant-loop decreases-loop
 returns c =
     let v = c.before.before.before.loop in
     record {
-      falls = λ _. passing-falls v.invariant (entries_to _ v.place _ c.before.before.loop-test.true) c.if1.true;
+      falls = λ _. passing_falls v.invariant (entries_to _ v.place _ c.before.before.loop-test.true) c.if1.true;
       passed = λ e. absurd (true≢false e);
     }
 
@@ -67,7 +67,7 @@ loop-again : tie.Need-loop-preserved invariant-loop decreases-loop
 loop-again c =
     let v = c.before.before.before.before.before.loop in
     rw c.greater.ensures
-    (passing-next v.invariant (entries_to _ v.place _ c.before.before.before.before.loop-test.true) c.before.before.if1.false)
+    (passing_next v.invariant (entries_to _ v.place _ c.before.before.before.before.loop-test.true) c.before.before.if1.false)
 
 returns-2 : tie.Need-returns-2 invariant-loop decreases-loop
 returns-2 c =

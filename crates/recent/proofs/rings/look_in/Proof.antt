@@ -5,7 +5,7 @@ use native.Mathlib.Omega.{arith}
 use borrow.Author.Rules.{rules}
 use lib.Seq.{length-take-le}
 use Rattle.recent.specs.Encodings.{board_length}
-use Rattle.recent.proofs.Sights.{no_sight, front-looks}
+use Rattle.recent.proofs.Sights.{no_sight, front_looks}
 use Rattle.recent.proofs.rings.look_in.Statement.{statement}
 use Rattle.recent.proofs.rings.look_in.Tie as tie
 
@@ -22,7 +22,7 @@ look-whole-requires : tie.Need-look-whole-requires
 look-whole-requires c κs = length-take-le board_length c.before.before.before.args.board.now c.before.if1.false
 
 returns-2 : tie.Need-returns-2
-returns-2 c = front-looks _ c.before.before.if1.false _ c.look-whole.ensures
+returns-2 c = front_looks _ c.before.before.if1.false _ c.look-whole.ensures
 
 pub look-in-spec : {M : Type 1} → statement M
 look-in-spec =

@@ -9,7 +9,7 @@ use Rattle.model.proofs.Tests.{clash}
 use Rattle.recent.specs.Encodings.{board_length}
 use Rattle.recent.specs.Looking.{HeaderStands, Rested}
 use Rattle.recent.proofs.Outcomes.{width_stands_iff}
-use Rattle.recent.proofs.Sights.{first_in, count_in, since_in, no_sight, sight, fall-seen, late-seen, seen}
+use Rattle.recent.proofs.Sights.{first_in, count_in, since_in, no_sight, sight, fall_seen, late_seen, seen}
 use Rattle.recent.proofs.rings.look_kept.Statement.{statement}
 use Rattle.recent.proofs.rings.look_kept.Tie as tie
 
@@ -61,7 +61,7 @@ no-board-requires-2 c κs = search rules
 returns-2 : tie.Need-returns-2
 returns-2 c =
     no_sight _ _ c.no-board2.ensures
-    (fall-seen _ _ (rested c.before.before.before) c.before.before.longest-around.ensures c.before.if2.true)
+    (fall_seen _ _ (rested c.before.before.before) c.before.before.longest-around.ensures c.before.if2.true)
 
 shared-slice-read-if3 : tie.Need-shared-slice-read-if3
 shared-slice-read-if3 c = search rules
@@ -72,7 +72,7 @@ no-board-requires-3 c κs = search rules
 returns-3 : tie.Need-returns-3
 returns-3 c =
     let passed = c.before.before.before.before.before.longest-around.ensures.passed c.before.before.before.before.if2.false in
-    no_sight _ _ c.no-board3.ensures (late-seen _ _ (rested c.before.before.before.before.before.before) passed c.before.if3.true)
+    no_sight _ _ c.no-board3.ensures (late_seen _ _ (rested c.before.before.before.before.before.before) passed c.before.if3.true)
 
 returns-4 : tie.Need-returns-4
 returns-4 c =

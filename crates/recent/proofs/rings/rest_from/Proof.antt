@@ -4,7 +4,7 @@ use mathlib.Core.Bool.{true≢false, false≢true}
 use native.Mathlib.Omega.{arith}
 use borrow.Author.Rules.{rules}
 use Rattle.recent.specs.Looking.{Resting}
-use Rattle.recent.proofs.Resting.{resting_start, resting-falls, resting-next}
+use Rattle.recent.proofs.Resting.{resting_start, resting_falls, resting_next}
 use Rattle.recent.proofs.rings.rest_from.Statement.{statement}
 use Rattle.recent.proofs.rings.rest_from.Tie as tie
 
@@ -34,7 +34,7 @@ returns c =
     let v = c.before.before.before.before.loop in
     let tests = c.before.before.before in
     record {
-      falls = λ _. resting-falls v.invariant tests.loop-test.true c.before.before.before.before.before.before.requires.1.1 c.if2.true;
+      falls = λ _. resting_falls v.invariant tests.loop-test.true c.before.before.before.before.before.before.requires.1.1 c.if2.true;
       rested = λ e. absurd (true≢false e);
     }
 
@@ -55,21 +55,21 @@ loop-again c =
     let v = c.before.before.before.before.before.loop in
     let pre = c.before.before.before.before.before.before.before.requires in
     rw c.wrapped-place.ensures
-    (resting-next v.invariant c.before.before.before.before.loop-test.true pre.1.0 pre.1.1 c.before.if2.false
+    (resting_next v.invariant c.before.before.before.before.loop-test.true pre.1.0 pre.1.1 c.before.if2.false
     c.before.before.if1.false)
 
 returns-2 : tie.Need-returns-2 invariant-loop decreases-loop
 returns-2 c =
     record {
       falls = λ e. absurd (false≢true e);
-      rested = λ _. record { resting = c.before.loop.invariant; counts-first = λ h. absurd (omega arith) };
+      rested = λ _. record { resting = c.before.loop.invariant; counts_first = λ h. absurd (omega arith) };
     }
 
 returns-3 : tie.Need-returns-3 invariant-loop decreases-loop
 returns-3 c =
     record {
       falls = λ e. absurd (false≢true e);
-      rested = λ _. record { resting = c.before.before.before.loop.invariant; counts-first = λ _. c.if1.true };
+      rested = λ _. record { resting = c.before.before.before.loop.invariant; counts_first = λ _. c.if1.true };
     }
 
 pub rest-from-spec : {M : Type 1} → statement M

@@ -5,7 +5,7 @@ use lib.ListN.{length-take}
 use borrow.Author.Rules.{rules}
 use Rattle.model.specs.declared.Answer.{Answer}
 use Rattle.model.specs.Reports.{report_text}
-use Rattle.model.proofs.Given.{gave-answer, gave-out}
+use Rattle.model.proofs.Given.{gave_answer, gave_out}
 use Rattle.text.proofs.Wholes.{Whole, whole}
 use Rattle.replay.proofs.reports.render.Statement.{statement}
 use Rattle.replay.proofs.reports.render.Tie as tie
@@ -17,8 +17,8 @@ rendered c =
     let s = c.before.before.before.before in
     let e = c.report.ensures in
     let done : c.report.result.code ≡ 0 = e.1 (omega (arith, s.requires)) in
-    let answer = gave-answer e.0 in
-    rw (answer, gave-out e.0) (whole (report_text s.args.text.now) s.args.out.now (sym (ap (λ (a : Answer). a.code) answer) ∙ done))
+    let answer = gave_answer e.0 in
+    rw (answer, gave_out e.0) (whole (report_text s.args.text.now) s.args.out.now (sym (ap (λ (a : Answer). a.code) answer) ∙ done))
 
 report-requires : tie.Need-report-requires
 report-requires c κs = search rules

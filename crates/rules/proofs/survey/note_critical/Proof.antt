@@ -20,15 +20,15 @@ module _ (acting k lowest : ℕ) (f : Survey) (is : lowest ≡ cond (eqb f.criti
       (λ z. let e : lowest ≡ k = rw z at is in rw e (simp (ne_eqb k acting (λ own. other (e ∙ own)), z)))
       (λ z. let e : lowest ≡ f.critical = rw z at is in rw e (by_test (eqb k acting) (λ t. simp t) (λ t. simp (t, z))))
 
-lowest-is : (c : tie.Joined1)
+lowest_is : (c : tie.Joined1)
     → (let a = c.before.args in c.if1.lowest ≡ cond (eqb a.found.critical 0) a.process a.found.critical)
-lowest-is c = ⊎_elim (λ w. w.1 ∙ sym (simp (eq-eqb _ _ w.0.taken))) (λ w. w.1 ∙ sym (simp (ne_eqb _ _ w.0.left))) c.if1.branch
+lowest_is c = ⊎_elim (λ w. w.1 ∙ sym (simp (eq-eqb _ _ w.0.taken))) (λ w. w.1 ∙ sym (simp (ne_eqb _ _ w.0.left))) c.if1.branch
 
 returns : tie.Need-returns
-returns c = stays _ _ _ _ (lowest-is c.before) c.if2.true
+returns c = stays _ _ _ _ (lowest_is c.before) c.if2.true
 
 returns-2 : tie.Need-returns-2
-returns-2 c = noted _ _ _ _ (lowest-is c.before) c.if2.false
+returns-2 c = noted _ _ _ _ (lowest_is c.before) c.if2.false
 
 pub note-critical-spec : {M : Type 1} → statement M
 note-critical-spec = tie.close (tie.spec returns returns-2)

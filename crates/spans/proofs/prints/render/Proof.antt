@@ -5,7 +5,7 @@ use lib.ListN.{length-take}
 use borrow.Author.Rules.{rules}
 use Rattle.model.specs.declared.Answer.{Answer}
 use Rattle.model.specs.Reports.{report_text}
-use Rattle.model.proofs.Given.{gave-answer, gave-out}
+use Rattle.model.proofs.Given.{gave_answer, gave_out}
 use Rattle.text.proofs.Wholes.{Whole, whole}
 use Rattle.spans.specs.Prints.{printed_text}
 use Rattle.spans.proofs.Printed.{written, reported}
@@ -18,8 +18,8 @@ intervals : (c : tie.After-write-intervals) → c.write-intervals.result.code �
 intervals c done =
     let s = c.before.before.before.before in
     let e = c.write-intervals.ensures in
-    let answer = gave-answer e in
-    rw (answer, gave-out e) (written s.args.text.now s.args.out.now (sym (ap (λ (a : Answer). a.code) answer) ∙ done))
+    let answer = gave_answer e in
+    rw (answer, gave_out e) (written s.args.text.now s.args.out.now (sym (ap (λ (a : Answer). a.code) answer) ∙ done))
 
 -- what `report` answers and leaves after another answer
 reports : (c : tie.After-report) → let s = c.before.before.before.before.before.before.before.before.before.before in
@@ -31,9 +31,9 @@ reports c =
     let w = d.write-intervals in
     let e = c.report.ensures in
     let done : c.report.result.code ≡ 0 = e.1 (omega (arith, s.requires, w.auto.1.0)) in
-    let answer = gave-answer e.0 in
-    rw (reported text s.args.out.now (omega (arith, s.requires)) (rw (gave-answer w.ensures) at c.before.before.if1.false))
-    (rw (answer, gave-out e.0) (whole (report_text text) w.new.1.0 (sym (ap (λ (a : Answer). a.code) answer) ∙ done)))
+    let answer = gave_answer e.0 in
+    rw (reported text s.args.out.now (omega (arith, s.requires)) (rw (gave_answer w.ensures) at c.before.before.if1.false))
+    (rw (answer, gave_out e.0) (whole (report_text text) w.new.1.0 (sym (ap (λ (a : Answer). a.code) answer) ∙ done)))
 
 write-intervals-requires : tie.Need-write-intervals-requires
 write-intervals-requires c κs = search rules

@@ -1,7 +1,7 @@
 -- `statistics::soundness::each_stands` meets its contract: the waits so far that are left stand just where all do. Assumes nothing.
 use Rattle.std.proofs.Common.{◌≡◌, ◌-◌, ◌≤◌, drop, sym, refl, ◌∙◌, ⊎_elim, arith, rules, le-leb}
 use Rattle.model.specs.Summaries.{waited_sound}
-use Rattle.statistics.proofs.Laws.{waits-at, all-stand, one-late}
+use Rattle.statistics.proofs.Laws.{waits_at, all_stand, one_late}
 use Rattle.statistics.proofs.soundness.each_stands.Statement.{statement}
 use Rattle.statistics.proofs.soundness.each_stands.Tie as tie
 
@@ -30,7 +30,7 @@ loop-again : tie.Need-loop-preserved invariant-loop decreases-loop
 loop-again c =
     let a = c.before.before.before.before.args in
     let v = c.before.before.before.loop in
-    (omega arith, simp (le-leb _ _ c.if1.false) at (sym (waits-at a.clock a.waited.now v.i (search rules))) ∙ v.invariant.1)
+    (omega arith, simp (le-leb _ _ c.if1.false) at (sym (waits_at a.clock a.waited.now v.i (search rules))) ∙ v.invariant.1)
 
 returns : tie.Need-returns invariant-loop decreases-loop
 -- the loop runs to its end, or breaks at one past the clock
@@ -38,8 +38,8 @@ returns c =
     let a = c.before.before.args in
     let v = c.before.loop in
     ⊎_elim
-    (λ w. all-stand a.clock a.waited.now v.i (omega (arith, w.left, v.invariant.0)) v.invariant.1)
-    (λ w. one-late a.clock a.waited.now v.i w.0.taken w.2.taken v.invariant.1)
+    (λ w. all_stand a.clock a.waited.now v.i (omega (arith, w.left, v.invariant.0)) v.invariant.1)
+    (λ w. one_late a.clock a.waited.now v.i w.0.taken w.2.taken v.invariant.1)
     c.loop-test.branch
 
 pub each-stands-spec : {M : Type 1} → statement M

@@ -23,10 +23,10 @@ others-are c =
     (λ w. simp (ne_eqb _ _ w.0.left) w.1))
     c.if1.branch
 
-unused-is : (c : tie.After-unused-time) → (let a = c.before.before.args in
+unused_is : (c : tie.After-unused-time) → (let a = c.before.before.args in
     let others = others_before a.named a.state.processes a.action a.acting in
     c.unused-time.result ≡ unused_beside others a.action a.clock a.state.clock)
-unused-is c =
+unused_is c =
     let a = c.before.before.args in
     c.unused-time.ensures ∙ ap (λ o. unused_beside o a.action a.clock a.state.clock) (others-are c.before)
 
@@ -38,13 +38,13 @@ wait-on-requires c κs =
     (h.1.0, (h.1.1.0, λ i. omega (arith, h.1.1.1 i, c.before.before.unused-time.ensures, most)))
 
 returns : tie.Need-returns
-returns c = (unused-is c.before.before.before, c.wait-on.ensures)
+returns c = (unused_is c.before.before.before, c.wait-on.ensures)
 
 returns-2 : tie.Need-returns-2
 returns-2 c =
     let a = c.before.before.before.args in
     let rest = sym (waited_on_zero a.state.processes a.waited.now) in
-    (unused-is c.before, rest ∙ ap (λ d. waited_on d a.state.processes a.waited.now) (sym c.if3.false))
+    (unused_is c.before, rest ∙ ap (λ d. waited_on d a.state.processes a.waited.now) (sym c.if3.false))
 
 pub wait-after-spec : {M : Type 1} → statement M
 wait-after-spec =

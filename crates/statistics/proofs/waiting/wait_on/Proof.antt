@@ -4,7 +4,7 @@ use native.Mathlib.Nat.{sub_self}
 use Rattle.model.specs.States.{idle}
 use Rattle.statistics.specs.Waitings.{gains_of, stage_at, waited_from}
 use Rattle.model.proofs.Lists.{length_mapped}
-use Rattle.statistics.proofs.Waits.{stage_few, one-more-gone, more-gone, waited-from-all}
+use Rattle.statistics.proofs.Waits.{stage_few, one_more_gone, more_gone, waited_from_all}
 use Rattle.statistics.proofs.waiting.wait_on.Statement.{statement}
 use Rattle.statistics.proofs.waiting.wait_on.Tie as tie
 
@@ -102,7 +102,7 @@ loop2-again c =
     let v2 = c.before.before.before.before.before.loop2 in (
       omega (arith, v2.invariant.0),
       omega arith,
-      one-more-gone (gains_of a.unused) (stage_at a.t2.processes) (v.block * 8) v2.i c.wrapping-add-u64.result v.waited v2.waited
+      one_more_gone (gains_of a.unused) (stage_at a.t2.processes) (v.block * 8) v2.i c.wrapping-add-u64.result v.waited v2.waited
           v2.invariant.0 v2.invariant.2
           (c.wrapping-add-u64.ensures ∙ (λ i. (get_or v2.waited v2.i 0 + get_or (gains.ensures i) (stage_is c.before.before i) 0) % 2 ^ 64)),
     )
@@ -121,7 +121,7 @@ loop-again c =
     let e : v.block * 8 + (v2.i - v.block * 8) ≡ (v.block + 1) * 8 = omega (arith, v2.invariant.0, v2.invariant.1) in (
       omega arith,
       v.invariant.1,
-      more-gone (gains_of a.unused) (stage_at a.t2.processes) (v.block * 8) (v2.i - v.block * 8) a.waited.now v.waited v2.waited
+      more_gone (gains_of a.unused) (stage_at a.t2.processes) (v.block * 8) (v2.i - v.block * 8) a.waited.now v.waited v2.waited
           v.invariant.2 v2.invariant.2
           ∙ ap (λ k. waited_from (gains_of a.unused) (stage_at a.t2.processes) 0 k a.waited.now) e,
     )
@@ -131,7 +131,7 @@ returns c =
     let a = c.before.before.before.before.args in
     let h = c.before.before.before.before.requires in
     let v = c.before.loop in
-    v.invariant.2 ∙ waited-from-all a.unused a.t2.processes a.waited.now h.1.1 (stage_at a.t2.processes) (λ i. refl)
+    v.invariant.2 ∙ waited_from_all a.unused a.t2.processes a.waited.now h.1.1 (stage_at a.t2.processes) (λ i. refl)
     a.t2.parameters.n (v.block * 8) (omega arith) h.1.0
 
 pub wait-on-spec : {M : Type 1} → statement M

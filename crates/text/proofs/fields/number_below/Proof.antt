@@ -91,8 +91,8 @@ mul_next c = search rules
 wide-requires : tie.Need-wide-requires invariant-loop decreases-loop
 wide-requires c κs = search rules
 
-add-next : tie.Need-overflow-add-next invariant-loop decreases-loop
-add-next c = search rules
+add_next : tie.Need-overflow-add-next invariant-loop decreases-loop
+add_next c = search rules
 
 returns-6 : tie.Need-returns-6 invariant-loop decreases-loop
 returns-6 c = simp (le-leb _ _ (rw c.before.wide.ensures at c.if6.true)) at (digit-turn c.before.before)
@@ -131,7 +131,7 @@ number-below-spec =
     returns-5
     mul_next
     wide-requires
-    add-next
+    add_next
     returns-6
     add-i
     loop-less

@@ -7,7 +7,7 @@ use borrow.Author.Tests.{eq-eqb, ne_eqb}
 use lib.ListN.{length, drop}
 use Rattle.model.specs.Readings.{starts_with}
 use Rattle.model.proofs.Lists.{drop_end}
-use Rattle.text.proofs.Turns.{starts-short, starts-at}
+use Rattle.text.proofs.Turns.{starts_short, starts_at}
 use Rattle.text.proofs.fields.starts_with.Statement.{statement}
 use Rattle.text.proofs.fields.starts_with.Tie as tie
 
@@ -24,7 +24,7 @@ returns : tie.Need-returns invariant-loop decreases-loop
 returns c =
     let v = c.before.before.loop in
     let a = c.before.before.before.args in
-    sym (starts-short a.w.now a.s.now v.i (omega arith) (omega arith) (omega arith)) ∙ v.invariant.2
+    sym (starts_short a.w.now a.s.now v.i (omega arith) (omega arith) (omega arith)) ∙ v.invariant.2
 
 shared-slice-read-if2 : tie.Need-shared-slice-read-if2 invariant-loop decreases-loop
 shared-slice-read-if2 c = search rules
@@ -36,7 +36,7 @@ returns-2 : tie.Need-returns-2 invariant-loop decreases-loop
 returns-2 c =
     let v = c.before.before.before.before.before.loop in
     let a = c.before.before.before.before.before.before.args in
-    simp (ne_eqb _ _ c.if2.true) at (sym (starts-at a.w.now a.s.now v.i (omega arith) (omega arith))) ∙ v.invariant.2
+    simp (ne_eqb _ _ c.if2.true) at (sym (starts_at a.w.now a.s.now v.i (omega arith) (omega arith))) ∙ v.invariant.2
 
 add-i : tie.Need-overflow-add-i invariant-loop decreases-loop
 add-i c = search rules
@@ -48,7 +48,7 @@ loop-again : tie.Need-loop-preserved invariant-loop decreases-loop
 loop-again c =
     let v = c.before.before.before.before.before.loop in
     let a = c.before.before.before.before.before.before.args in
-    (omega arith, omega arith, simp (eq-eqb _ _ c.if2.false) at (sym (starts-at a.w.now a.s.now v.i (omega arith) (omega arith))) ∙ v.invariant.2)
+    (omega arith, omega arith, simp (eq-eqb _ _ c.if2.false) at (sym (starts_at a.w.now a.s.now v.i (omega arith) (omega arith))) ∙ v.invariant.2)
 
 returns-3 : tie.Need-returns-3 invariant-loop decreases-loop
 unfolding starts_with

@@ -9,8 +9,8 @@ use Rattle.model.specs.declared.Field.TheVariants.{Value}
 use Rattle.model.specs.Texts.{comma, newline, number_bound}
 use Rattle.model.specs.Readings.{number_at, numbers_from, numbers_at}
 use Rattle.model.proofs.Lists.{part_is}
-use Rattle.grammar.proofs.Fields.{took_le, number-was}
-use Rattle.text.proofs.Turns.{numbers-next, numbers-bad, numbers-last, numbers-none}
+use Rattle.grammar.proofs.Fields.{took_le, number_was}
+use Rattle.text.proofs.Turns.{numbers_next, numbers_bad, numbers_last, numbers_none}
 use borrow.Author.Rules.{rules}
 use Rattle.text.proofs.numbers.numbers_at.Statement.{statement}
 use Rattle.text.proofs.numbers.numbers_at.Tie as tie
@@ -24,7 +24,7 @@ decreases-loop s more line numbers₀ at₀ i₀ numbers at i = more - i
 
 -- a number that is read stands in what is left
 within : (s : List ℕ) (at end v k : ℕ) → at ≤ length s → number_at number_bound end (drop at s) ≡ Value v k → at + k ≤ length s
-within s at end v k h e = omega (arith, took_le (number-was number_bound end (drop at s) v k (omega arith) e).0, length-drop at s)
+within s at end v k h e = omega (arith, took_le (number_was number_bound end (drop at s) v k (omega arith) e).0, length-drop at s)
 
 -- the number that is read before a comma, and the last
 read : (c : tie.After-known-told invariant-loop decreases-loop)
@@ -69,7 +69,7 @@ returns c =
     let a = c.before.before.before.before.before.before.before.before.args in
     let e = rw part_is at (sym c.before.before.before.number-at.ensures ∙ c.before.enum_told.given.1) in
     c.line-fails.ensures
-    ∙ (sym (numbers-bad a.line a.more v.i v.at v.numbers a.s.now (omega arith) e) ∙ v.invariant.2)
+    ∙ (sym (numbers_bad a.line a.more v.i v.at v.numbers a.s.now (omega arith) e) ∙ v.invariant.2)
 
 with-number-requires : tie.Need-with-number-requires invariant-loop decreases-loop
 with-number-requires c κs = search rules
@@ -93,7 +93,7 @@ loop-again c =
       omega arith,
       within _ v.at comma _ _ v.invariant.1 e,
       rw c.with_number.ensures
-          (sym (numbers-next a.line a.more v.i v.at v.numbers a.s.now _ _ (omega arith) e) ∙ v.invariant.2),
+          (sym (numbers_next a.line a.more v.i v.at v.numbers a.s.now _ _ (omega arith) e) ∙ v.invariant.2),
     )
 
 sub-number-at-2 : tie.Need-overflow-sub-number-at-2 invariant-loop decreases-loop
@@ -123,7 +123,7 @@ returns-2 c =
     let a = c.before.before.before.before.before.before.before.before.args in
     let e = rw part_is at (sym c.before.before.before.number-at2.ensures ∙ c.before.enum-told2.given.1) in
     c.line-fails2.ensures
-    ∙ (sym (numbers-none a.line a.more v.i v.at v.numbers a.s.now (omega arith) e) ∙ v.invariant.2)
+    ∙ (sym (numbers_none a.line a.more v.i v.at v.numbers a.s.now (omega arith) e) ∙ v.invariant.2)
 
 with-number-requires-2 : tie.Need-with-number-requires-2 invariant-loop decreases-loop
 with-number-requires-2 c κs = search rules
@@ -137,7 +137,7 @@ returns-3 : tie.Need-returns-3 invariant-loop decreases-loop
 returns-3 c =
     let v = c.before.before.before.before.before.before.before.loop in
     let a = c.before.before.before.before.before.before.before.before.before.args in
-    let e = numbers-last a.line a.more v.i v.at v.numbers a.s.now (omega arith) _ _ (read-last c.before) in
+    let e = numbers_last a.line a.more v.i v.at v.numbers a.s.now (omega arith) _ _ (read-last c.before) in
     rw c.with-number2.ensures (sym e ∙ v.invariant.2)
 
 pub numbers-at-spec : {M : Type 1} → statement M

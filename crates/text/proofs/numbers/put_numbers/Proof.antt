@@ -8,7 +8,7 @@ use native.Mathlib.Nat.{add_assoc}
 use lib.ListN.{length, get_or, drop, take, length-take}
 use lib.Seq.{get_or-take}
 use Rattle.text.specs.Puts.{most_numbers}
-use Rattle.text.proofs.Putting.{put_one, Left, left_all, left_next, left_after, left_last, tail_text, digits_first, tail_at, tail-end, digits_narrow}
+use Rattle.text.proofs.Putting.{put_one, Left, left_all, left_next, left_after, left_last, tail_text, digits_first, tail_at, tail_end, digits_narrow}
 use borrow.Author.Rules.{rules}
 use Rattle.text.proofs.numbers.put_numbers.Statement.{statement}
 use Rattle.text.proofs.numbers.put_numbers.Tie as tie
@@ -105,7 +105,7 @@ returns c =
     let a = turn.before.before.before.before.before.before.before.before.args in
     let ws : List ℕ = take most_numbers a.rest.now in
     let q = counted turn.before.before.before.before.before in
-    let e = tail-end ws v.i (omega arith) (omega arith) in
+    let e = tail_end ws v.i (omega arith) (omega arith) in
     let left = left_after turn.before.before.before.put-digits.ensures (rw e at v.invariant.2) in (
       rw (digits_first a.first ws) (left_last left (put_one c.before.before.put-byte2.ensures) (omega arith)),
       omega arith,

@@ -34,8 +34,8 @@ to-count c = c.before.before.before.before
 named : (c : tie.Else2) → (let a = (begun (to-count c)).args in starts_with limit_names (drop a.at a.text.now) ≡ true)
 named c = rw part_is at (sym c.before.starts_with.ensures ∙ not-false _ c.if2.false)
 
-after-names : (c : tie.Else2) → (let a = (begun (to-count c)).args in a.at + 9 ≤ length a.text.now)
-after-names c =
+after_names : (c : tie.Else2) → (let a = (begun (to-count c)).args in a.at + 9 ≤ length a.text.now)
+after_names c =
     let a = (begun (to-count c)).args in
     omega (arith, length-drop a.at a.text.now, took_le (starts_took limit_names _ (named c)))
 
@@ -44,16 +44,16 @@ after-names c =
 abbrev to-names : tie.After-limits-at → tie.Else2
 to-names c = c.before.before
 
-lines-read : (c : tie.After-limits-at)
+lines_read : (c : tie.After-limits-at)
     → (let a = (begun (to-count (to-names c))).args in
     limits_from a.n 1 0 (replicate 96 0) (drop (a.at + 9) a.text.now) ≡ c.limits-at.result)
-lines-read c = rw part_is at (sym c.limits-at.ensures.0)
+lines_read c = rw part_is at (sym c.limits-at.ensures.0)
 
 after-lines : (c : tie.After-limits-at)
     → (let a = (begun (to-count (to-names c))).args in a.at + 9 + c.limits-at.result.size ≤ length a.text.now)
 after-lines c =
     let a = (begun (to-count (to-names c))).args in
-    omega (arith, length-drop (a.at + 9) a.text.now, rw part_is at c.limits-at.ensures.1, after-names (to-names c))
+    omega (arith, length-drop (a.at + 9) a.text.now, rw part_is at c.limits-at.ensures.1, after_names (to-names c))
 
 count-stands-requires : tie.Need-count-stands-requires
 count-stands-requires c κs = search rules
@@ -93,10 +93,10 @@ add_start : tie.Need-overflow-add-start
 add_start c = search rules
 
 sub-limits-at : tie.Need-overflow-sub-limits-at
-sub-limits-at c = after-names c
+sub-limits-at c = after_names c
 
 part-limits-at-start : tie.Need-slice-bounds-limits-at-start
-part-limits-at-start c = after-names c
+part-limits-at-start c = after_names c
 
 part-limits-at-end : tie.Need-slice-bounds-limits-at-end
 part-limits-at-end c = search rules
@@ -111,7 +111,7 @@ returns-3 : tie.Need-returns-3
 returns-3 c =
     let k = c.before.before.before in
     let e = to-names k in
-    c.scan-fails3.ensures ∙ rw (counted (to-count e), named e, lines-read k) (simp (ne_eqb _ _ c.before.if3.true))
+    c.scan-fails3.ensures ∙ rw (counted (to-count e), named e, lines_read k) (simp (ne_eqb _ _ c.before.if3.true))
 
 add-end : tie.Need-overflow-add-end
 add-end c = omega (arith, after-lines c.before.before.before)
@@ -129,7 +129,7 @@ returns-4 : tie.Need-returns-4
 returns-4 c =
     let k = c.before.before.before.before.before in
     let e = to-names k in
-    c.judge-limits.ensures ∙ rw (counted (to-count e), named e, lines-read k) (simp (eq-eqb _ _ c.before.before.before.if3.false))
+    c.judge-limits.ensures ∙ rw (counted (to-count e), named e, lines_read k) (simp (eq-eqb _ _ c.before.before.before.if3.false))
 
 pub after-values-spec : {M : Type 1} → statement M
 after-values-spec =

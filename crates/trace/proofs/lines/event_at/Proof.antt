@@ -8,7 +8,7 @@ use Rattle.model.specs.declared.Field.TheVariants.{Value}
 use Rattle.model.specs.Texts.{comma, time_bound, number_bound}
 use Rattle.model.specs.Readings.{number_at, word_at, event_at}
 use Rattle.model.proofs.Lists.{part_is}
-use Rattle.grammar.proofs.Fields.{took_le, number-was, word_was}
+use Rattle.grammar.proofs.Fields.{took_le, number_was, word_was}
 use borrow.Author.Rules.{rules}
 use Rattle.trace.proofs.lines.event_at.Statement.{statement}
 use Rattle.trace.proofs.lines.event_at.Tie as tie
@@ -29,7 +29,7 @@ read1 : (c : tie.After-known-told) → number_at time_bound comma (s1 c) ≡ Val
 read1 c = sym c.before.before.before.time-at.ensures ∙ c.before.first.given.1
 
 fits1 : (c : tie.After-known-told) → k1 c ≤ length (s1 c)
-fits1 c = took_le (number-was time_bound comma _ _ _ (omega arith) (read1 c)).0
+fits1 c = took_le (number_was time_bound comma _ _ _ (omega arith) (read1 c)).0
 
 abbrev to1 : tie.After-known-told2 → tie.After-known-told
 to1 c = c.before.before.before.before.before
@@ -47,7 +47,7 @@ read2 : (c : tie.After-known-told2) → number_at number_bound comma (s2 c) ≡ 
 read2 c = rw part_is at (sym c.before.before.before.number-at.ensures ∙ c.before.second.given.1)
 
 fits2 : (c : tie.After-known-told2) → k2 c ≤ length (s2 c)
-fits2 c = took_le (number-was number_bound comma _ _ _ (omega arith) (read2 c)).0
+fits2 c = took_le (number_was number_bound comma _ _ _ (omega arith) (read2 c)).0
 
 abbrev to2 : tie.After-known-told3 → tie.After-known-told2
 to2 c = c.before.before.before.before.before

@@ -7,7 +7,7 @@ use borrow.Author.Rules.{rules}
 use lib.ListN.{length, drop, replicate, length-drop}
 use Rattle.model.specs.Readings.{limit_line, limits_from}
 use Rattle.model.proofs.Lists.{part_is}
-use Rattle.trace.proofs.Limits.{limit_within, limits-next, limits_stop, limits-end}
+use Rattle.trace.proofs.Limits.{limit_within, limits_next, limits_stop, limits_end}
 use Rattle.trace.proofs.lines.limits_at.Statement.{statement}
 use Rattle.trace.proofs.lines.limits_at.Tie as tie
 
@@ -85,14 +85,14 @@ loop-again c =
     let k = c.before.before.before.before in
     let v = k.before.before.before.loop in
     let s = k.before.before.before.before.before.args in
-    let next = limits-next s.n v.i v.at v.a s.s.now k.before.before.loop-test.true _ (line_read k) c.before.before.if1.false in
+    let next = limits_next s.n v.i v.at v.a s.s.now k.before.before.loop-test.true _ (line_read k) c.before.before.if1.false in
     (omega arith, within k, sym next ∙ v.invariant.2)
 
 returns-2 : tie.Need-returns-2 invariant-loop decreases-loop
 returns-2 c =
     let v = c.before.loop in
     let s = c.before.before.before.args in
-    (sym (limits-end s.n v.i v.at v.a s.s.now c.loop-test.false) ∙ v.invariant.2, v.invariant.1)
+    (sym (limits_end s.n v.i v.at v.a s.s.now c.loop-test.false) ∙ v.invariant.2, v.invariant.1)
 
 pub limits-at-spec : {M : Type 1} → statement M
 limits-at-spec =

@@ -8,8 +8,8 @@ use lib.ListN.{length, drop}
 use Rattle.model.specs.declared.Row.TheVariants.{Step}
 use Rattle.model.specs.Readings.{event_at}
 use Rattle.model.proofs.Lists.{part_is}
-use Rattle.grammar.proofs.Bodies.{Along, along_start, along-step, along-more, along-inside}
-use Rattle.trace.proofs.Rows.{answer-steps, answer-fault}
+use Rattle.grammar.proofs.Bodies.{Along, along_start, along_step, along_more, along_inside}
+use Rattle.trace.proofs.Rows.{answer_steps, answer_fault}
 use Rattle.trace.proofs.steps.count_events.Statement.{statement}
 use Rattle.trace.proofs.steps.count_events.Tie as tie
 
@@ -66,17 +66,17 @@ enum-known-row : tie.Need-enum-known-row invariant-loop decreases-loop
 enum-known-row c = search rules
 
 add_at : tie.Need-overflow-add-at invariant-loop decreases-loop
-add_at c = omega (arith, along-inside (text c) (first c) (start c) (past c) _ _ _ (width c) (more c) (step-read c))
+add_at c = omega (arith, along_inside (text c) (first c) (start c) (past c) _ _ _ (width c) (more c) (step-read c))
 
 add-count : tie.Need-overflow-add-count invariant-loop decreases-loop
 add-count c = omega (arith, c.before.before.before.before.before.before.loop.invariant.fewer)
 
 loop-less : tie.Need-loop-smaller invariant-loop decreases-loop
-loop-less c = omega (arith, along-more (text c) (first c) (start c) (past c) _ _ _ (width c) (more c) (step-read c))
+loop-less c = omega (arith, along_more (text c) (first c) (start c) (past c) _ _ _ (width c) (more c) (step-read c))
 
 loop-again : tie.Need-loop-preserved invariant-loop decreases-loop
 loop-again c =
-    along-step (text c) (first c) (start c) (past c) _ _ _ (width c) (more c) (step-read c) c.before.before.before.before.before.before.loop.invariant
+    along_step (text c) (first c) (start c) (past c) _ _ _ (width c) (more c) (step-read c) c.before.before.before.before.before.before.loop.invariant
 
 enum-known-row-2 : tie.Need-enum-known-row-2 invariant-loop decreases-loop
 enum-known-row-2 c = search rules
@@ -86,13 +86,13 @@ returns c =
     let v = c.before.before.before.before.before.before.loop in
     let p = c.before.before.before.before.before.before.before.before in
     let e = rw part_is at (sym c.before.before.before.event-at.ensures ∙ c.before.row2.given.1) in
-    answer-fault p.args.s.now p.args.first v.at v.count v.invariant p.requires.0 _ _ c.before.before.before.before.before.loop-test.true e
+    answer_fault p.args.s.now p.args.first v.at v.count v.invariant p.requires.0 _ _ c.before.before.before.before.before.loop-test.true e
 
 returns-2 : tie.Need-returns-2 invariant-loop decreases-loop
 returns-2 c =
     let v = c.before.loop in
     let a = c.before.before.before.args in
-    answer-steps a.s.now a.first v.at v.count v.invariant c.loop-test.false
+    answer_steps a.s.now a.first v.at v.count v.invariant c.loop-test.false
 
 pub count-events-spec : {M : Type 1} → statement M
 count-events-spec =

@@ -9,9 +9,9 @@ use lib.ListN.{length, drop}
 use Rattle.model.specs.declared.Row.TheVariants.{Step, Unread}
 use Rattle.model.specs.Readings.{event_at, lists, room}
 use Rattle.model.proofs.Lists.{part_is}
-use Rattle.grammar.proofs.Bodies.{along-more, along-inside}
-use Rattle.trace.proofs.Rows.{answer-steps, answer-fault}
-use Rattle.trace.proofs.Stores.{Storing, storing_start, storing-step, storing-place, storing-end, storing-fault}
+use Rattle.grammar.proofs.Bodies.{along_more, along_inside}
+use Rattle.trace.proofs.Rows.{answer_steps, answer_fault}
+use Rattle.trace.proofs.Stores.{Storing, storing_start, storing_step, storing_place, storing_end, storing_fault}
 use Rattle.trace.proofs.steps.store_events.Statement.{statement}
 use Rattle.trace.proofs.steps.store_events.Tie as tie
 
@@ -53,7 +53,7 @@ step-read c = rw part_is at (sym c.before.before.before.event-at.ensures ∙ c.b
 -- the lists have a place for it
 place : (c : tie.After-known-told invariant-loop decreases-loop)
     → let v = (turn c).loop in past c < room (lists v.times v.processes v.actions)
-place c = storing-place (turn c).loop.invariant _ _ _ (width c) (more c) (step-read c)
+place c = storing_place (turn c).loop.invariant _ _ _ (width c) (more c) (step-read c)
 
 -- the line that is no step
 fault : (c : tie.After-known-told2 invariant-loop decreases-loop)
@@ -102,16 +102,16 @@ slice-write-actions : tie.Need-slice-write-actions invariant-loop decreases-loop
 slice-write-actions c = omega (arith, place c)
 
 add_at : tie.Need-overflow-add-at invariant-loop decreases-loop
-add_at c = omega (arith, along-inside (text c) (first c) (start c) (past c) _ _ _ (width c) (more c) (step-read c))
+add_at c = omega (arith, along_inside (text c) (first c) (start c) (past c) _ _ _ (width c) (more c) (step-read c))
 
 add-i : tie.Need-overflow-add-i invariant-loop decreases-loop
 add-i c = omega (arith, (turn c).loop.invariant.along.fewer)
 
 loop-less : tie.Need-loop-smaller invariant-loop decreases-loop
-loop-less c = omega (arith, along-more (text c) (first c) (start c) (past c) _ _ _ (width c) (more c) (step-read c))
+loop-less c = omega (arith, along_more (text c) (first c) (start c) (past c) _ _ _ (width c) (more c) (step-read c))
 
 loop-again : tie.Need-loop-preserved invariant-loop decreases-loop
-loop-again c = storing-step (turn c).loop.invariant _ _ _ (width c) (more c) (step-read c)
+loop-again c = storing_step (turn c).loop.invariant _ _ _ (width c) (more c) (step-read c)
 
 enum-known-row-2 : tie.Need-enum-known-row-2 invariant-loop decreases-loop
 enum-known-row-2 c = search rules
@@ -130,8 +130,8 @@ returns c =
     let v = c.before.before.before.before.before.before.loop in
     let p = c.before.before.before.before.before.before.before.before.before.before.before in
     let h = c.before.before.before.before.before.loop-test.true in (
-      answer-fault p.args.s.now p.args.first v.at v.i v.invariant.along p.requires.0 _ _ h (fault c),
-      storing-fault v.invariant _ _ h (fault c),
+      answer_fault p.args.s.now p.args.first v.at v.i v.invariant.along p.requires.0 _ _ h (fault c),
+      storing_fault v.invariant _ _ h (fault c),
     )
 
 same-length-4 : tie.Need-same-length-4 invariant-loop decreases-loop
@@ -147,7 +147,7 @@ returns-2 : tie.Need-returns-2 invariant-loop decreases-loop
 returns-2 c =
     let v = c.before.loop in
     let a = c.before.before.before.before.before.before.args in
-    (answer-steps a.s.now a.first v.at v.i v.invariant.along c.loop-test.false, storing-end v.invariant c.loop-test.false)
+    (answer_steps a.s.now a.first v.at v.i v.invariant.along c.loop-test.false, storing_end v.invariant c.loop-test.false)
 
 pub store-events-spec : {M : Type 1} → statement M
 store-events-spec =

@@ -7,7 +7,7 @@ use borrow.Author.Tests.{not-true, not-false}
 use Rattle.model.specs.Readings.{Lists, lists}
 use Rattle.model.specs.Writings.{events_of, formless_from}
 use Rattle.model.proofs.Steps.{from}
-use Rattle.trace.proofs.Traces.{formless-here, formless-next, formless-end}
+use Rattle.trace.proofs.Traces.{formless_here, formless_next, formless_end}
 use borrow.Author.Rules.{rules}
 use Rattle.trace.proofs.texts.formless.Statement.{statement}
 use Rattle.trace.proofs.texts.formless.Tie as tie
@@ -62,7 +62,7 @@ returns c =
     let v = c.before.before.before.before.before.before.loop in
     let s = c.before.before.before.before.before.before.before.before.before.before.before.before in
     let e = sym c.before.has-form.ensures ∙ not-true _ c.if1.true in
-    formless-here (given s) v.i (omega arith) s.args.first e ∙ v.invariant.1
+    formless_here (given s) v.i (omega arith) s.args.first e ∙ v.invariant.1
 
 add-i : tie.Need-overflow-add-i invariant-loop decreases-loop
 add-i c = search rules
@@ -75,13 +75,13 @@ loop-again c =
     let v = c.before.before.before.before.before.before.loop in
     let s = c.before.before.before.before.before.before.before.before.before.before.before.before in
     let e = sym c.before.has-form.ensures ∙ not-false _ c.if1.false in
-    (omega arith, formless-next (given s) v.i (omega arith) s.args.first e ∙ v.invariant.1)
+    (omega arith, formless_next (given s) v.i (omega arith) s.args.first e ∙ v.invariant.1)
 
 returns-2 : tie.Need-returns-2 invariant-loop decreases-loop
 returns-2 c =
     let v = c.before.loop in
     let s = c.before.before.before.before.before.before.before in
-    sym (formless-end (given s) v.i (s.args.first + v.i) (omega arith)) ∙ v.invariant.1
+    sym (formless_end (given s) v.i (s.args.first + v.i) (omega arith)) ∙ v.invariant.1
 
 pub formless-spec : {M : Type 1} → statement M
 formless-spec =

@@ -6,7 +6,7 @@ use Rattle.model.specs.Readings.{Lists, lists}
 use Rattle.model.specs.Writings.{events_of}
 use Rattle.text.proofs.Putting.{Left, left_all, left_next}
 use Rattle.model.proofs.Steps.{from}
-use Rattle.trace.proofs.Traces.{text_at, text-end}
+use Rattle.trace.proofs.Traces.{text_at, text_end}
 use Rattle.trace.proofs.Sizes.{left_nothing, left_long}
 use borrow.Author.Rules.{rules}
 use Rattle.trace.proofs.texts.put_events.Statement.{statement}
@@ -93,7 +93,7 @@ returns-2 : tie.Need-returns-2 invariant-loop decreases-loop
 returns-2 c =
     let v = c.before.loop in
     let s = c.before.before.before.before.before.before.before.before in
-    left_nothing (rw (text-end (given s) v.i (omega arith)) at v.invariant.2) v.invariant.1
+    left_nothing (rw (text_end (given s) v.i (omega arith)) at v.invariant.2) v.invariant.1
 
 pub put-events-spec : {M : Type 1} → statement M
 put-events-spec =

@@ -13,13 +13,13 @@ use Rattle.trace.proofs.texts.put_head.Tie as tie
 
 -- There is a value of a for each process, where the values are copied
 
-limits-long : (c : tie.After-a) → (let k = c.before.before.args.parameters in k.n ≤ length k.a)
-limits-long c =
+limits_long : (c : tie.After-a) → (let k = c.before.before.args.parameters in k.n ≤ length k.a)
+limits_long c =
     let size : length c.before.before.args.parameters.a ≡ 96 = search rules in
     omega (arith, c.before.before.requires)
 
 limits-many : (c : tie.After-a) → (let k = c.before.before.args.parameters in length (take k.n k.a) ≡ k.n)
-limits-many c = length-take-le _ _ (limits-long c)
+limits-many c = length-take-le _ _ (limits_long c)
 
 abbrev copied : tie.After-put-limits-arg → tie.After-a
 copied c = c.before.before.before.before.before.before.before.before.before.before.before.before.before.before.before.before
@@ -87,7 +87,7 @@ add-put-limits-2 : tie.Need-overflow-add-put-limits-2
 add-put-limits-2 c = search rules
 
 array-share-prefix-a : tie.Need-array-share-prefix-a
-array-share-prefix-a c = limits-long (copied c)
+array-share-prefix-a c = limits_long (copied c)
 
 slice-aggregate-put-limits : tie.Need-slice-aggregate-put-limits
 slice-aggregate-put-limits c = sym (limits-many (copied c.before))

@@ -7,83 +7,82 @@ use Rattle.model.proofs.Tests.{clash, and_true_iff}
 use Rattle.model.proofs.Lists.{part_is}
 use Rattle.model.proofs.OwnLimits.{limits_parts}
 use Rattle.values.specs.Bits.{are_zero}
-use Rattle.values.proofs.Values.{no_limit, not_stand, not_within, rest-decides}
+use Rattle.values.proofs.Values.{no_limit, not_stand, not_within, rest_decides}
 use Rattle.values.proofs.limits.parameters_stand.Statement.{statement}
 use Rattle.values.proofs.limits.parameters_stand.Tie as tie
 
-count-stands-requires : tie.Need-count-stands-requires
+count-stands-requires : tie.Need-count_stands-requires
 count-stands-requires c κs = search rules
 
-returns : tie.Need-returns
-returns c = simp (sym c.before.count-stands.ensures ∙ not-true _ c.if1.true)
+returns : tie.Need-returns-then-not-count_stands
+returns c = simp (sym c.count_stands.ensures ∙ c.if-not-count_stands.true)
 
-count-is : (c : tie.Else1) → count_stands c.before.before.before.args.n ≡ true
-count-is c = sym c.before.count-stands.ensures ∙ not-false _ c.if1.false
+count_is : (c : tie.Else-not-count_stands) → count_stands c.args.n ≡ true
+count_is c = sym c.count_stands.ensures ∙ c.if-not-count_stands.false
 
-count-from : (c : tie.Else1) → 1 ≤ c.before.before.before.args.n
-count-from c = let n = c.before.before.before.args.n in leb-true 1 n ((and_true_iff (leb 1 n) (leb n 96)).0 (count-is c)).0
+count-from : (c : tie.Else-not-count_stands) → 1 ≤ c.args.n
+count-from c = let n = c.args.n in leb-true 1 n ((and_true_iff (leb 1 n) (leb n 96)).0 (count_is c)).0
 
-count-to : (c : tie.Else1) → c.before.before.before.args.n ≤ 96
-count-to c = let n = c.before.before.before.args.n in leb-true n 96 ((and_true_iff (leb 1 n) (leb n 96)).0 (count-is c)).1
+count-to : (c : tie.Else-not-count_stands) → c.args.n ≤ 96
+count-to c = let n = c.args.n in leb-true n 96 ((and_true_iff (leb 1 n) (leb n 96)).0 (count_is c)).1
 
-returns-2 : tie.Need-returns-2
+returns-2 : tie.Need-returns-then-a-ne96
 returns-2 c =
-    let args = c.before.before.before.before.args in
-    not_stand _ (λ e. c.if2.true (limits_parts (parameters_of args.n args.b args.c args.a.now) e).size)
+    let args = c.args in
+    not_stand _ (λ e. c.if-a-ne96.true (limits_parts (parameters_of args.n args.b args.c args.a.now) e).size)
 
-returns-3 : tie.Need-returns-3
+returns-3 : tie.Need-returns-then-b-lt2
 returns-3 c =
-    let args = c.before.before.before.before.before.args in
+    let args = c.args in
     not_stand _ (λ e. clash (limits_parts (parameters_of args.n args.b args.c args.a.now) e).own
-    (no_limit args.n args.b args.a.now (count-from c.before.before) (omega arith) c.if3.true))
+    (no_limit args.n args.b args.a.now (count-from c.before.before) (omega arith) c.if-b-lt2.true))
 
-returns-4 : tie.Need-returns-4
+returns-4 : tie.Need-returns-then-c-b
 returns-4 c =
-    let args = c.before.before.before.before.before.before.args in
-    not_stand _ (λ e. absurd (omega (arith, (limits_parts (parameters_of args.n args.b args.c args.a.now) e).order, c.if4.true)))
+    let args = c.args in
+    not_stand _ (λ e. absurd (omega (arith, (limits_parts (parameters_of args.n args.b args.c args.a.now) e).order, c.if-c-b.true)))
 
-returns-5 : tie.Need-returns-5
+returns-5 : tie.Need-returns-then-c-gt10000000
 returns-5 c =
-    let args = c.before.before.before.before.before.before.before.args in
-    not_stand _ (λ e. absurd (omega (arith, (limits_parts (parameters_of args.n args.b args.c args.a.now) e).most, c.if5.true)))
+    let args = c.args in
+    not_stand _ (λ e. absurd (omega (arith, (limits_parts (parameters_of args.n args.b args.c args.a.now) e).most, c.if-c-gt10000000.true)))
 
-slice-aggregate-all-faults : tie.Need-slice-aggregate-all-faults
-slice-aggregate-all-faults c = sym (length-take-le _ _ (omega (arith, count-to c.before.before.before.before.before)))
+slice-aggregate-all-faults : tie.Need-slice_bounds-all_faults-end
+slice-aggregate-all-faults c = sym (length-take-le _ _ (omega (arith, count-to c.before.before.before.before)))
 
-all-faults-requires : tie.Need-all-faults-requires
+all-faults-requires : tie.Need-all_faults-requires
 all-faults-requires c κs = search rules
 
-returns-6 : tie.Need-returns-6
+returns-6 : tie.Need-returns-then-all_faults-ge9223372036854775808
 returns-6 c =
-    let args = c.before.before.before.before.before.before.before.before.before.before.args in
-    not_within args.n args.b args.c args.a.now (sym c.before.all-faults.ensures ∙ le-ltb _ _ c.if6.true)
+    let args = c.args in
+    not_within args.n args.b args.c args.a.now (sym c.all_faults.ensures ∙ le-ltb _ _ c.if-all_faults-ge9223372036854775808.true)
 
-mul-are-zero : tie.Need-overflow-mul-are-zero
-mul-are-zero c = omega (arith, count-to c.before.before.before.before.before.before.before)
+mul-are-zero : tie.Need-offset_bounds-a-count
+mul-are-zero c = omega (arith, count-to c.before.before.before.before.before.before)
 
-sub-are-zero : tie.Need-overflow-sub-are-zero
-sub-are-zero c = omega (arith, count-to c.before.before.before.before.before.before.before)
+sub-are-zero : tie.Need-slice_bounds-are_zero-count
+sub-are-zero c = omega (arith, count-to c.before.before.before.before.before.before)
 
-part-are-zero-start : tie.Need-slice-bounds-are-zero-start
-part-are-zero-start c = omega (arith, count-to c.before.before.before.before.before.before.before)
+part-are-zero-start : tie.Need-slice_bounds-are_zero-start
+part-are-zero-start c = omega (arith, count-to c.before.before.before.before.before.before)
 
-part-are-zero-end : tie.Need-slice-bounds-are-zero-end
+part-are-zero-end : tie.Need-slice_bounds-are_zero-end
 part-are-zero-end c = search rules
 
-are-zero-requires : tie.Need-are-zero-requires
+are-zero-requires : tie.Need-are_zero-requires
 are-zero-requires c κs = search rules
 
-returns-7 : tie.Need-returns-7
+returns-7 : tie.Need-returns
 returns-7 c =
-    let args = c.before.before.before.before.before.before.before.before.before.before.before.before.args in
-    let few = c.before.before.before.before.before.before.before.before.before in
-    c.are-zero.ensures
+    let args = c.args in
+    c.are_zero.ensures
     ∙ ap are_zero (part_is args.a.now args.n)
-    ∙ rest-decides args.n args.b args.c args.a.now (count-is few) (omega arith) (omega arith) (omega arith)
-    (sym c.before.before.before.all-faults.ensures ∙ lt-ltb _ _ c.before.before.if6.false)
+    ∙ rest_decides args.n args.b args.c args.a.now (count_is c.before.before.before.before.before.before.before.before) (omega arith) (omega arith) (omega arith)
+    (sym c.all_faults.ensures ∙ lt-ltb _ _ c.if-all_faults-ge9223372036854775808.false)
 
-pub parameters-stand-spec : {M : Type 1} → statement M
-parameters-stand-spec =
+pub parameters_stand_spec : {M : Type 1} → statement M
+parameters_stand_spec =
     tie.close
     (tie.spec
     count-stands-requires
