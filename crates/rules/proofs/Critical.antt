@@ -1,5 +1,5 @@
 -- The lowest critical process after an action, from the lowest of those besides the acting one, and the other way round. Assumes nothing.
-use Rattle.std.proofs.Common.{◌≡◌, ℕ, zero, suc, ◌+◌, ◌<◌, ◌≤◌, Bool, true, false, cond, eqb, ◌≢◌, List, [], ◌∷◌, length, get_or, drop, set, sym, refl, ◌∙◌, arith, le-ltb, lt-ltb, eq-eqb, ne_eqb}
+use Rattle.std.proofs.Common.{◌≡◌, ℕ, zero, suc, ◌+◌, ◌<◌, ◌≤◌, Bool, true, false, cond, eqb, ◌≢◌, List, [], ◌∷◌, length, get_or, drop, set, sym, refl, ap, ◌∙◌, arith, le-ltb, lt-ltb, eq-eqb, ne_eqb}
 use Rattle.model.specs.declared.Location.{Location}
 use Rattle.model.specs.declared.Process.{Process}
 use Rattle.model.specs.Stages.{critical}
@@ -95,7 +95,7 @@ unfolding critical_by others_from
 others_past acting k [] i q e z h = refl
 others_past acting k (r ∷ qs) zero q e z h =
     let f : acting ≡ k = omega arith in
-    rw (own_not_other acting k r (omega arith)) (others_all acting (acting + 1) qs (omega arith) ∙ rw f)
+    rw (own_not_other acting k r (omega arith)) (others_all acting (acting + 1) qs (omega arith) ∙ ap (λ (j : ℕ). others_from acting (j + 1) qs) f)
 others_past acting k (r ∷ qs) (suc i) q e z h =
     by_test (other_critical acting k r)
     (λ c. let g = rw c at h in absurd (omega (arith, g (λ f. omega arith))))

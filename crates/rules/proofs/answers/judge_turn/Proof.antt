@@ -5,48 +5,51 @@ use Rattle.model.specs.Acts.{check_act}
 use Rattle.rules.specs.Judging.{turn_judged}
 use Rattle.rules.proofs.answers.judge_turn.Statement.{statement}
 use Rattle.rules.proofs.answers.judge_turn.Tie as tie
+use Rattle.rules.proofs.answers.judge_turn.Lts.{then-action-eq-CHECK+else-time-release, else-action-eq-CHECK}
 
-answer-with-requires : tie.Need-answer-with-requires
+answer-with-requires : tie.Need-answer_with-requires
 answer-with-requires c κs = search rules
 
-returns : tie.Need-returns
+returns : tie.Need-returns-then-place-transition
 unfolding turn_judged
-returns c = c.answer-with.ensures ∙ simp (ne_eqb _ _ c.before.if1.true)
+returns c = c.answer_with.ensures ∙ simp (ne_eqb _ _ c.if-place-transition.true)
 
-answer-with-requires-2 : tie.Need-answer-with-requires-2
+answer-with-requires-2 : tie.Need-answer_with-requires-then-time-release
 answer-with-requires-2 c κs = search rules
 
-returns-2 : tie.Need-returns-2
+returns-2 : tie.Need-returns-then-time-release
 unfolding turn_judged
 returns-2 c =
-    c.answer-with2.ensures
+    c.answer_with-then-time-release.ensures
     ∙ simp (
-      eq-eqb _ _ c.before.before.before.if1.false,
-      eq-eqb _ _ c.before.before.if2.true,
-      lt-ltb _ _ c.before.if3.true,
+      eq-eqb _ _ c.if-place-transition.false,
+      eq-eqb _ _ c.if-action-eq-CHECK.true,
+      lt-ltb _ _ c.if-time-release.true,
     )
 
 lowest-requires : tie.Need-lowest-requires
 lowest-requires c κs = search rules
 
-answer-with-requires-3 : tie.Need-answer-with-requires-3
+answer-with-requires-3 : tie.Need-answer_with-requires-2
 answer-with-requires-3 c κs = search rules
 
 -- not a check, or one at or past its release
-not-early : (c : tie.Joined2)
-    → (let a = c.before.before.before.args in eqb a.action check_act && ltb a.time a.release ≡ false)
+not-early : (c : tie.Joined-action-eq-CHECK)
+    → (let a = c.args in eqb a.action check_act && ltb a.time a.release ≡ false)
 not-early c =
-    ⊎_elim (λ w. simp (eq-eqb _ _ w.0.taken, le-ltb _ _ w.1.left))
-    (λ w. simp (ne_eqb _ _ w.left)) c.if2.branch
+    elim c.if-action-eq-CHECK.branch [
+      then-action-eq-CHECK+else-time-release w ↦ simp (eq-eqb _ _ w.if-action-eq-CHECK.true, le-ltb _ _ w.if-time-release.false)
+    | else-action-eq-CHECK w ↦ simp (ne_eqb _ _ w.if-action-eq-CHECK.false)
+    ]
 
-returns-3 : tie.Need-returns-3
+returns-3 : tie.Need-returns
 unfolding turn_judged
 returns-3 c =
-    c.answer-with3.ensures
-    ∙ rw c.before.lowest.ensures (simp (eq-eqb _ _ c.before.before.before.if1.false, not-early c.before.before))
+    c.answer_with-2.ensures
+    ∙ rw c.lowest.ensures (simp (eq-eqb _ _ c.if-place-transition.false, not-early c.before.before))
 
-pub judge-turn-spec : {M : Type 1} → statement M
-judge-turn-spec =
+pub judge_turn_spec : {M : Type 1} → statement M
+judge_turn_spec =
     tie.close
     (tie.spec
     answer-with-requires

@@ -8,12 +8,12 @@ use Rattle.rules.specs.Survey.{numbers_stand}
 use Rattle.rules.proofs.limits.numbers_stand.Statement.{statement}
 use Rattle.rules.proofs.limits.numbers_stand.Tie as tie
 
-parameters-stand-requires : tie.Need-parameters-stand-requires
+parameters-stand-requires : tie.Need-parameters_stand-requires
 parameters-stand-requires c κs = search rules
 
-returns : tie.Need-returns
+returns : tie.Need-returns-then-not-parameters_stand
 unfolding numbers_stand
-returns c = simp (sym c.before.parameters-stand.ensures ∙ not-true _ c.if1.true)
+returns c = simp (sym c.parameters_stand.ensures ∙ c.if-not-parameters_stand.true)
 
 -- past the parameters, the clock and the word decide
 module _ (k : Parameters) (clock word : ℕ) (e : parameters_stand k ≡ true) where
@@ -25,15 +25,21 @@ module _ (k : Parameters) (clock word : ℕ) (e : parameters_stand k ≡ true) w
   unfolding numbers_stand
   word-decides h = simp (e, le-leb _ _ h)
 
-stand : (c : tie.Else1)
-    → (let args = c.before.before.before.args in parameters_stand (parameters_of args.n args.b args.c args.a.now) ≡ true)
-stand c = sym c.before.parameters-stand.ensures ∙ not-false _ c.if1.false
+stand : (c : tie.Else-not-parameters_stand)
+    → (let args = c.args in parameters_stand (parameters_of args.n args.b args.c args.a.now) ≡ true)
+stand c = sym c.parameters_stand.ensures ∙ c.if-not-parameters_stand.false
 
-returns-2 : tie.Need-returns-2
-returns-2 c = clock-decides _ _ _ (stand c.before) c.if2.true
+returns-2 : tie.Need-returns-then-clock-gt-LAST
+returns-2 c = clock-decides _ _ _ (stand c.before) c.if-clock-gt-LAST.true
 
-returns-3 : tie.Need-returns-3
-returns-3 c = word-decides _ _ _ (stand c.before) c.if2.false
+returns-3 : tie.Need-returns
+returns-3 c = word-decides _ _ _ (stand c.before) c.if-clock-gt-LAST.false
 
-pub numbers-stand-spec : {M : Type 1} → statement M
-numbers-stand-spec = tie.close (tie.spec parameters-stand-requires returns returns-2 returns-3)
+pub numbers_stand_spec : {M : Type 1} → statement M
+numbers_stand_spec =
+    tie.close
+    (tie.spec
+    parameters-stand-requires
+    returns
+    returns-2
+    returns-3)

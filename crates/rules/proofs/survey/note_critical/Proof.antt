@@ -1,11 +1,12 @@
 -- `rules::survey::note_critical` meets its contract: where there was a lowest, what was found stays, be that the acting one or not. Assumes
 -- nothing.
-use Rattle.std.proofs.Common.{◌≡◌, ℕ, cond, eqb, ◌≢◌, sym, ◌∙◌, ⊎_elim, eq-eqb, ne_eqb}
+use Rattle.std.proofs.Common.{◌≡◌, ℕ, cond, eqb, ◌≢◌, sym, ◌∙◌, eq-eqb, ne_eqb}
 use Rattle.model.proofs.Tests.{by_test}
 use Rattle.rules.specs.declared.survey.Survey.{Survey}
 use Rattle.rules.specs.Survey.{critical_at, critical_noted}
 use Rattle.rules.proofs.survey.note_critical.Statement.{statement}
 use Rattle.rules.proofs.survey.note_critical.Tie as tie
+use Rattle.rules.proofs.survey.note_critical.Lts.{then-lowest-eq0, else-lowest-eq0}
 
 -- the lowest so far is held against the acting process
 module _ (acting k lowest : ℕ) (f : Survey) (is : lowest ≡ cond (eqb f.critical 0) k f.critical) where
@@ -20,15 +21,23 @@ module _ (acting k lowest : ℕ) (f : Survey) (is : lowest ≡ cond (eqb f.criti
       (λ z. let e : lowest ≡ k = rw z at is in rw e (simp (ne_eqb k acting (λ own. other (e ∙ own)), z)))
       (λ z. let e : lowest ≡ f.critical = rw z at is in rw e (by_test (eqb k acting) (λ t. simp t) (λ t. simp (t, z))))
 
-lowest_is : (c : tie.Joined1)
-    → (let a = c.before.args in c.if1.lowest ≡ cond (eqb a.found.critical 0) a.process a.found.critical)
-lowest_is c = ⊎_elim (λ w. w.1 ∙ sym (simp (eq-eqb _ _ w.0.taken))) (λ w. w.1 ∙ sym (simp (ne_eqb _ _ w.0.left))) c.if1.branch
+lowest_is : (c : tie.Joined-lowest-eq0)
+    → (let a = c.args in c.if-lowest-eq0.lowest ≡ cond (eqb a.found.critical 0) a.process a.found.critical)
+lowest_is c =
+    elim c.if-lowest-eq0.branch [
+      then-lowest-eq0 w ↦ w.lowest-is ∙ sym (simp (eq-eqb _ _ w.if-lowest-eq0.true))
+    | else-lowest-eq0 w ↦ w.lowest-is ∙ sym (simp (ne_eqb _ _ w.if-lowest-eq0.false))
+    ]
 
-returns : tie.Need-returns
-returns c = stays _ _ _ _ (lowest_is c.before) c.if2.true
+returns : tie.Need-returns-then-lowest-acting
+returns c = stays _ _ _ _ (lowest_is c.before) c.if-lowest-acting.true
 
-returns-2 : tie.Need-returns-2
-returns-2 c = noted _ _ _ _ (lowest_is c.before) c.if2.false
+returns-2 : tie.Need-returns
+returns-2 c = noted _ _ _ _ (lowest_is c.before) c.if-lowest-acting.false
 
-pub note-critical-spec : {M : Type 1} → statement M
-note-critical-spec = tie.close (tie.spec returns returns-2)
+pub note_critical_spec : {M : Type 1} → statement M
+note_critical_spec =
+    tie.close
+    (tie.spec
+    returns
+    returns-2)

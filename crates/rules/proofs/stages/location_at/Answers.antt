@@ -1,0 +1,36 @@
+-- `rules::stages::location_at` meets its contract: each arm is one of the tests. Assumes nothing.
+use Rattle.std.proofs.Common.{ne_eqb}
+use Rattle.rules.proofs.stages.location_at.Goals as goal
+
+pub returns-in-0 : goal.returns-in-0
+returns-in-0 c = rw c.in-0.is
+
+pub returns-in-1 : goal.returns-in-1
+returns-in-1 c = rw c.in-1.is
+
+pub returns-in-2 : goal.returns-in-2
+returns-in-2 c = rw c.in-2.is
+
+pub returns-in-3 : goal.returns-in-3
+returns-in-3 c = rw c.in-3.is
+
+pub returns-in-4 : goal.returns-in-4
+returns-in-4 c = rw c.in-4.is
+
+pub returns-in-5 : goal.returns-in-5
+returns-in-5 c = rw c.in-5.is
+
+pub returns-in-6 : goal.returns-in-6
+returns-in-6 c = rw c.in-6.is
+
+pub returns-in-7-to-18446744073709551615 : goal.returns-in-7-to-18446744073709551615
+returns-in-7-to-18446744073709551615 c =
+    simp (
+      ne_eqb _ _ c.in-7-to-18446744073709551615.in-7-to-18446744073709551615-own.rest.0.0.0.0.0.0.1,
+      ne_eqb _ _ c.in-7-to-18446744073709551615.in-7-to-18446744073709551615-own.rest.0.0.0.0.0.1,
+      ne_eqb _ _ c.in-7-to-18446744073709551615.in-7-to-18446744073709551615-own.rest.0.0.0.0.1,
+      ne_eqb _ _ c.in-7-to-18446744073709551615.in-7-to-18446744073709551615-own.rest.0.0.0.1,
+      ne_eqb _ _ c.in-7-to-18446744073709551615.in-7-to-18446744073709551615-own.rest.0.0.1,
+      ne_eqb _ _ c.in-7-to-18446744073709551615.in-7-to-18446744073709551615-own.rest.0.1,
+      ne_eqb _ _ c.in-7-to-18446744073709551615.in-7-to-18446744073709551615-own.rest.1,
+    )
