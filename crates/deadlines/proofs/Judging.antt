@@ -32,7 +32,7 @@ use Rattle.model.proofs.Tests.{by_test, by_cond, tests}
 use Rattle.rules.proofs.Pass.{Whole}
 use Rattle.rules.proofs.Pass as pass
 use Rattle.rules.proofs.Judged.{Goes, refuses, waits, moves, goes}
-use Rattle.deadlines.proofs.Matched.{add-zero, cond_map, dated_is, stage_arrived, length_arrived, entry_in, moved_same, outcome_matched, step_same}
+use Rattle.deadlines.proofs.Matched.{add-zero, cond_map, dated_is, stage_arrived, length_arrived, entry-in, moved_same, outcome_matched, step_same}
 use Rattle.deadlines.proofs.Matched.{sound_matched}
 use Rattle.deadlines.proofs.Passing.{Small, SurveyedWith, faulty, whole}
 
@@ -98,7 +98,7 @@ module _ (s : State) (act p m : ℕ) where
       (t-is : act ≢ wait_act → act ≤ last_act → t ≡ transition_of s.word act p m) where
     -- the location of the acting process, with its times and with its arrival
     own_dated : 1 ≤ p → p ≤ 96 → own ≡ dated_at k (1 + (p - 1)) (entry_of s p).location
-    own_dated from to = own_is from to ∙ ap (λ (q : DeadlineProcess). q.location) (entry_in s p)
+    own_dated from to = own_is from to ∙ ap (λ (q : DeadlineProcess). q.location) (entry-in s p)
 
     own_arrived : 1 ≤ p → p ≤ 96 → arrived_at k.b own ≡ (entry_of s p).location
     own_arrived from to = ap (arrived_at k.b) (own_dated from to) ∙ (dated_is k (1 + (p - 1)) (entry_of s p).location).back

@@ -198,9 +198,9 @@ module _ (s : State) where
   first_last_same = first_same 1 _ s.processes
 
   -- the entry of a process
-  pub entry_in : (p : ℕ) → entry_in (matched s) p ≡ entry_with (dated_at k (1 + (p - 1)) (entry_of s p).location)
+  pub entry-in : (p : ℕ) → entry_in (matched s) p ≡ entry_with (dated_at k (1 + (p - 1)) (entry_of s p).location)
   unfolding entry_in entry_of
-  entry_in p = dated-at k 1 s.processes (p - 1)
+  entry-in p = dated-at k 1 s.processes (p - 1)
 
   sight_same : (p : ℕ) → sight_with (matched s) p ≡ sight_of s p
   sight_same p = λ j. record {
@@ -208,8 +208,8 @@ module _ (s : State) where
     n = k.n;
     clock = s.clock;
     due = first_last_same j;
-    stage = (ap (λ (q : DeadlineProcess). stage_with q.location) (entry_in p) ∙ (dated_is k (1 + (p - 1)) (entry_of s p).location).stage) j;
-    release = (ap (λ (q : DeadlineProcess). first_of q.location) (entry_in p) ∙ (dated_is k (1 + (p - 1)) (entry_of s p).location).first) j;
+    stage = (ap (λ (q : DeadlineProcess). stage_with q.location) (entry-in p) ∙ (dated_is k (1 + (p - 1)) (entry_of s p).location).stage) j;
+    release = (ap (λ (q : DeadlineProcess). first_of q.location) (entry-in p) ∙ (dated_is k (1 + (p - 1)) (entry_of s p).location).first) j;
   }
 
   -- what an accepted action changes

@@ -80,4 +80,4 @@ module _ (P : State → Type 0)
   pub run_keeps : {s : State} (ds : List Call) → P s → P (run_of s ds)
   unfolding end_by
   run_keeps [] h = h
-  run_keeps (d ∷ ds) h = run_keeps ds (call_keeps d h)
+  run_keeps {s = s} (d ∷ ds) h = run_keeps {s = table_of s d} ds (call_keeps d h)

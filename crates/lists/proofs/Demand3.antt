@@ -8,7 +8,7 @@ use Rattle.model.specs.declared.State.{State}
 use Rattle.model.specs.declared.Outcome.{Outcome}
 use Rattle.model.specs.Facts.{Accepted}
 use Rattle.model.specs.Folds.{end_by, results_by}
-use Rattle.model.specs.Calls.{Call, call_of, handed_on, run_of, results_of}
+use Rattle.model.specs.Calls.{Call, call_of, handed_on, table_of, run_of, results_of}
 use Rattle.lists.specs.Demand3.{Span, OwedWithin, owed_wait, OneCritical, NamesTheOnly, EachNames, EveryList}
 use Rattle.lists.specs.Demand3.{SoundIsNotEnough, EveryTableSound}
 use Rattle.model.proofs.Tests.{if_eq}
@@ -61,7 +61,7 @@ unfolding results_by
 each_names [] g = tt
 each_names {s = s} (d ∷ ds) g =
     let g' = call_guarded d g in
-    (names_the_only (called s d) (one_critical g'), each_names ds g')
+    (names_the_only (called s d) (one_critical g'), each_names {s = table_of s d} ds g')
 
 -- The whole
 

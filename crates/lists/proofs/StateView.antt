@@ -13,7 +13,7 @@ use Rattle.theory.specs.Soundness.{Sound, Fresh}
 use Rattle.theory.specs.Lateness.{AllInTime}
 use Rattle.theory.proofs.OwnLimits.{largest_bounds}
 use Rattle.theory.proofs.Locations.{past_iff}
-use Rattle.lists.proofs.Ranks.{at_testing, at_entering, at_critical, rank_of, critical-at, trying_between, InTime, in-time, later}
+use Rattle.lists.proofs.Ranks.{at_remainder, at_testing, at_entering, at_critical, rank_of, critical-at, trying_between, InTime, in-time, later}
 use Rattle.lists.proofs.View.{Lock, View, Owns, Timely}
 use Rattle.lists.proofs.View.{Fresh as FreshView}
 
@@ -41,7 +41,7 @@ location-of s zero h = absurd (omega arith)
 location-of s (suc i) h = refl
 
 pub fresh_view : {k : Parameters} {s : State} → Fresh k s → FreshView (view_of s)
-fresh_view f = record { word = f.word_is; all = λ j. elim j [ zero ↦ refl | suc i ↦ ap rank_of (f.all (suc i)) ] }
+fresh_view {s = s} f = record { word = f.word_is; all = λ j. elim j as (λ (j : ℕ). (view_of s).rank j ≡ at_remainder) [ zero ↦ refl | suc i ↦ ap rank_of (f.all (suc i)) ] }
 
 -- Places
 

@@ -132,10 +132,10 @@ one_stays = record {
 }
 
 -- nobody is let in while process 1 comes and goes
-no_entry : (s : State) (k m : ℕ) → InSpan s (comes_back k m)
+no_entry : (k m : ℕ) (s : State) → InSpan s (comes_back k m)
 unfolding comes_back
-no_entry s zero m = tt
-no_entry s (suc k) m = inr (λ e. omega (arith, e.crit), inr (λ e. omega (arith, e.crit), no_entry _ k (m + 5)))
+no_entry zero m s = tt
+no_entry (suc k) m s = inr (λ e. omega (arith, e.crit), inr (λ e. omega (arith, e.crit), no_entry k (m + 5) _))
 
 pub coming_back : ComingBack
 unfolding comes_back end_by call_of step_of sound_of limits_stand own_stand limits_in entries_sound first_deadline first_by entry_of leaves transition_of effect
@@ -148,7 +148,7 @@ coming_back = record {
   runs_on = λ owed. omega (
     arith,
     owed (example_step try_act 1 0 ∷ []) (comes_back 10 0) [] 1 refl
-        (record { trying = record { from = omega arith; at = refl }; none = none_after_one; calls = no_entry _ 10 0 })
+        (record { trying = record { from = omega arith; at = refl }; none = none_after_one; calls = no_entry 10 0 _ })
         (record { from = omega arith; at = refl }),
   );
 }

@@ -15,7 +15,7 @@ use Rattle.model.specs.Acts.{crit_act, exit_act}
 use Rattle.model.specs.Answers.{step_of}
 use Rattle.model.specs.Folds.{results_by}
 use Rattle.model.specs.Summaries.{most_acts, code_of, accepted_counted, answer_counted}
-use Rattle.model.specs.Tallies.{Attempt}
+use Rattle.model.specs.Tallies.{Attempt, attempted}
 use Rattle.model.specs.Texts.{Event}
 use Rattle.model.specs.Executions.{codes_from}
 use Rattle.model.proofs.Tests.{by_cond, clash}
@@ -52,5 +52,6 @@ same_codes log r [] h room = refl
 same_codes log r (e ∷ es) h room =
     let j = judged r.outcome.state r.statistics e.action e.process e.time in
     let is = with_room h e.action e.process e.time (omega arith) j in
-    let rest = same_codes _ (record_next r e) es (along_judged h e.action e.process e.time j) (omega (arith, is.1)) in
+    let log' = attempted e (code_of (record_next r e)) ∷ log in
+    let rest = same_codes log' (record_next r e) es (along_judged h e.action e.process e.time j) (omega (arith, is.1)) in
     λ i. (is.0 i).answer.code ∷ (rest ∙ ap (λ (o : Outcome). codes_from o.state es) is.0) i

@@ -157,7 +157,7 @@ along_all : (log : List Attempt) (r : Recorded) (es : List Event) → Along log 
     → Along (log_by attempted log es (map code_of (records_of r es))) (record_all r es).outcome.state (record_all r es).statistics
 unfolding log_by results_by end_by
 along_all log r [] h = h
-along_all log r (e ∷ es) h = along_all _ (record_next r e) es
+along_all log r (e ∷ es) h = along_all (attempted e (code_of (record_next r e)) ∷ log) (record_next r e) es
     (along_judged h e.action e.process e.time
     (judged r.outcome.state r.statistics e.action e.process e.time))
 

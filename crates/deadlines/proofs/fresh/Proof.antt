@@ -6,47 +6,47 @@ use Rattle.deadlines.specs.Deadlines.{fresh_with}
 use Rattle.deadlines.proofs.fresh.Statement.{statement}
 use Rattle.deadlines.proofs.fresh.Tie as tie
 
-count-stands-requires : tie.Need-count-stands-requires
+count-stands-requires : tie.Need-count_stands-requires
 count-stands-requires c κs = search rules
 
 refused-requires : tie.Need-refused-requires
 refused-requires c κs = search rules
 
-returns : tie.Need-returns
+returns : tie.Need-returns-then-not-count_stands
 unfolding fresh_with
-returns c = c.refused.ensures ∙ simp (sym c.before.before.count-stands.ensures ∙ not-true _ c.before.if1.true)
+returns c = c.refused.ensures ∙ simp (sym c.count_stands.ensures ∙ c.if-not-count_stands.true)
 
-parameters-stand-requires : tie.Need-parameters-stand-requires
+parameters-stand-requires : tie.Need-parameters_stand-requires
 parameters-stand-requires c κs = search rules
 
-refused-requires-2 : tie.Need-refused-requires-2
+refused-requires-2 : tie.Need-refused-requires-then-not-parameters_stand
 refused-requires-2 c κs = search rules
 
-counted : (c : tie.Else1) → count_stands c.before.before.args.t1.n ≡ true
-counted c = sym c.before.count-stands.ensures ∙ not-false _ c.if1.false
+counted : (c : tie.Else-not-count_stands) → count_stands c.args.parameters.n ≡ true
+counted c = sym c.count_stands.ensures ∙ c.if-not-count_stands.false
 
-returns-2 : tie.Need-returns-2
+returns-2 : tie.Need-returns-then-not-parameters_stand
 unfolding fresh_with
 returns-2 c =
-    let counts = counted c.before.before.before.before.before.before in
-    c.refused2.ensures
-    ∙ simp (counts, rw counts at (sym c.before.before.parameters-stand.ensures ∙ not-true _ c.before.if2.true))
+    let counts = counted c.before.before.before.before.before in
+    c.refused-then-not-parameters_stand.ensures
+    ∙ simp (counts, rw counts at (sym c.parameters_stand.ensures ∙ c.if-not-parameters_stand.true))
 
-answer-with-requires : tie.Need-answer-with-requires
+answer-with-requires : tie.Need-answer_with-requires
 answer-with-requires c κs = search rules
 
-initial-with-requires : tie.Need-initial-with-requires
+initial-with-requires : tie.Need-initial_with-requires
 initial-with-requires c κs = search rules
 
-returns-3 : tie.Need-returns-3
+returns-3 : tie.Need-returns
 unfolding fresh_with
 returns-3 c =
-    let counts = counted c.before.before.before.before.before.before.before in
-    rw (c.before.answer-with.ensures, c.initial-with.ensures.0)
-    (simp (counts, rw counts at (sym c.before.before.before.parameters-stand.ensures ∙ not-false _ c.before.before.if2.false)))
+    let counts = counted c.before.before.before.before.before.before in
+    rw (c.answer_with.ensures, c.initial_with.ensures.0)
+    (simp (counts, rw counts at (sym c.parameters_stand.ensures ∙ c.if-not-parameters_stand.false)))
 
-pub fresh-spec : {M : Type 1} → statement M
-fresh-spec =
+pub fresh_spec : {M : Type 1} → statement M
+fresh_spec =
     tie.close
     (tie.spec
     count-stands-requires

@@ -3,10 +3,8 @@ use mathlib.Core.Path.{sym, ◌∙◌}
 use mathlib.Core.List.{[], ◌∷◌}
 use native.Mathlib.Omega.{arith}
 use lib.ListN.{length}
-use borrow.Author.Tests.{not-true, not-false}
 use Rattle.model.specs.Texts.{newline}
 use Rattle.text.proofs.Turns.{starts_append, line_short, line_ends}
-use borrow.Author.Rules.{rules}
 use Rattle.text.proofs.fields.line_is.Goals as goal
 
 pub returns-then-not-starts_with : goal.returns-then-not-starts_with

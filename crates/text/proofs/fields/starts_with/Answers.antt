@@ -1,10 +1,7 @@
 -- What the check of `fields::starts_with` does not find alone. Assumes nothing.
-use borrow.Author.Rules.{rules}
-use Prim.Native.Nat.{◌-◌, ◌≤◌}
-use mathlib.Core.Path.{◌≡◌, refl, sym, ◌∙◌}
+use mathlib.Core.Path.{refl, sym, ◌∙◌}
 use native.Mathlib.Omega.{arith}
 use borrow.Author.Tests.{eq-eqb, ne_eqb}
-use lib.ListN.{length, drop}
 use Rattle.model.specs.Readings.{starts_with}
 use Rattle.model.proofs.Lists.{drop_end}
 use Rattle.text.proofs.Turns.{starts_short, starts_at}

@@ -1,13 +1,8 @@
 -- `fields::starts_with` meets its contract. The invariant: what is left of the text starts with what is left of the word. Assumes nothing.
-use borrow.Author.Rules.{rules}
 use Prim.Native.Nat.{◌-◌, ◌≤◌}
-use mathlib.Core.Path.{◌≡◌, refl, sym, ◌∙◌}
-use native.Mathlib.Omega.{arith}
-use borrow.Author.Tests.{eq-eqb, ne_eqb}
+use mathlib.Core.Path.{◌≡◌}
 use lib.ListN.{length, drop}
 use Rattle.model.specs.Readings.{starts_with}
-use Rattle.model.proofs.Lists.{drop_end}
-use Rattle.text.proofs.Turns.{starts_short, starts_at}
 use Rattle.text.proofs.fields.starts_with.Given as goal
 
 abbrev pub invariant-loop-i : goal.invariant-loop-i

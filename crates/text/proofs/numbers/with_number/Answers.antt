@@ -2,7 +2,6 @@
 use mathlib.Core.Path.{sym}
 use native.Mathlib.Omega.{arith}
 use lib.Seq.{set_out}
-use borrow.Author.Rules.{rules}
 use Rattle.text.proofs.numbers.with_number.Goals as goal
 
 pub returns-else-i-lt4 : goal.returns-else-i-lt4

@@ -3,7 +3,6 @@ use native.Mathlib.Omega.{arith}
 use Rattle.model.specs.Texts.{number_text}
 use Rattle.grammar.proofs.Digits.{digits_word}
 use Rattle.text.proofs.Putting.{put_one, put_both}
-use borrow.Author.Rules.{rules}
 use Rattle.text.proofs.puts.put_number.Goals as goal
 
 pub overflow_add-result : goal.overflow_add-result

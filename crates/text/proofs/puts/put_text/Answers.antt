@@ -1,13 +1,10 @@
 -- What the check of `puts::put_text` does not find alone. Assumes nothing.
-use Prim.Native.Nat.{◌+◌, ◌-◌, ◌≤◌}
-use mathlib.Core.Path.{◌≡◌, refl, sym, ap, ◌∙◌}
+use mathlib.Core.Path.{refl, sym, ap, ◌∙◌}
 use native.Mathlib.Omega.{arith}
 use native.Mathlib.Nat.{add-zero}
-use lib.ListN.{length, drop, length-set}
-use lib.Seq.{sets}
+use lib.ListN.{length, length-set}
 use Rattle.model.proofs.Lists.{drop_end}
 use Rattle.text.proofs.Putting.{sets_at}
-use borrow.Author.Rules.{rules}
 use Rattle.text.proofs.puts.put_text.Goals as goal
 
 pub loop-i-init : goal.loop-i-init

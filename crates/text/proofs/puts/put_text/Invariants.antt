@@ -1,13 +1,8 @@
 -- `puts::put_text` meets its contract: what is left to put comes to the same as the whole. Assumes nothing.
 use Prim.Native.Nat.{◌+◌, ◌-◌, ◌≤◌}
-use mathlib.Core.Path.{◌≡◌, refl, sym, ap, ◌∙◌}
-use native.Mathlib.Omega.{arith}
-use native.Mathlib.Nat.{add-zero}
-use lib.ListN.{length, drop, length-set}
+use mathlib.Core.Path.{◌≡◌}
+use lib.ListN.{length, drop}
 use lib.Seq.{sets}
-use Rattle.model.proofs.Lists.{drop_end}
-use Rattle.text.proofs.Putting.{sets_at}
-use borrow.Author.Rules.{rules}
 use Rattle.text.proofs.puts.put_text.Given as goal
 
 abbrev pub invariant-loop-i : goal.invariant-loop-i

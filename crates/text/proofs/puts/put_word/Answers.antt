@@ -8,7 +8,6 @@ use Rattle.model.specs.Texts.{bytes, words, word_text}
 use Rattle.model.specs.Readings.{starts_with}
 use Rattle.text.proofs.Cells.{Tabled, cell}
 use Rattle.text.proofs.Putting.{put_one, put_both}
-use borrow.Author.Rules.{rules}
 use Rattle.text.proofs.puts.put_word.Goals as goal
 
 -- the constants of `words`
