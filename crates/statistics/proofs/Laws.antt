@@ -65,16 +65,16 @@ module _ (clock : ℕ) (x : Statistics) where
 
 -- Where there is room no count wraps
 
-one_more : (k : ℕ) → k < most_acts → one_more k ≡ k + 1
-one_more k h = mod-eq_of_lt (omega arith)
+one-more : (k : ℕ) → k < most_acts → one_more k ≡ k + 1
+one-more k h = mod-eq_of_lt (omega arith)
 
 module _ (k : Counts) where
   pub refused-after : Room k → refused_after k ≡ one_refused k
-  refused-after room = rw (one_more k.refused room.refused)
+  refused-after room = rw (one-more k.refused room.refused)
 
   pub accepted-after : (act wait : ℕ) → Room k → accepted_after k act wait ≡ counts_after k act wait
   accepted-after act wait room =
-      rw (one_more k.accepted room.accepted, one_more k.entries room.entries, one_more k.exits room.exits)
+      rw (one-more k.accepted room.accepted, one-more k.entries room.entries, one-more k.exits room.exits)
 
 -- The recorded step
 

@@ -1,4 +1,3 @@
 pub mod Counted
 pub mod Laws
 pub mod Waits
-pub mod Walks

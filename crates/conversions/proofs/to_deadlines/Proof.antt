@@ -33,92 +33,90 @@ entry-dated s i q e h =
     rw (row_at s.processes i q idle h, dated-at s.parameters 1 s.processes i, process)
     (ap entry_with (dated_fits s.parameters (1 + i) l (omega (arith, sound_past s e i, few)) few.opens few.closes (few.limit (1 + i))))
 
-abbrev invariant-loop : tie.invariant-loop
+abbrev invariant-loop : tie.invariant-loop-i
 invariant-loop state b c processes₀ i₀ processes i = Filled (dated_from state.parameters 1 state.processes) processes i
 
-abbrev decreases-loop : tie.decreases-loop
+abbrev decreases-loop : tie.decreases-loop-i
 decreases-loop state b c processes₀ i₀ processes i = 96 - i
 
 -- the wait tells whether the state is sound
-unsound : (c : tie.Then1 invariant-loop decreases-loop) → sound_of c.before.before.before.before.args.t1 ≡ false
-unsound c = (opposite (sound_iff_waits _)).1 (rw c.before.before.before.step.ensures at c.if1.true)
+unsound : (c : tie.Then-answer-ne0 invariant-loop decreases-loop) → sound_of c.args.state ≡ false
+unsound c = (opposite (sound_iff_waits _)).1 (rw c.step-looked.ensures at c.if-answer-ne0.true)
 
-sound : (c : tie.Else1 invariant-loop decreases-loop) → sound_of c.before.before.before.before.args.t1 ≡ true
-sound c = (sound_iff_waits _).1 (rw c.before.before.before.step.ensures at c.if1.false)
+sound : (c : tie.Else-answer-ne0 invariant-loop decreases-loop) → sound_of c.args.state ≡ true
+sound c = (sound_iff_waits _).1 (rw c.step-looked.ensures at c.if-answer-ne0.false)
 
-step-requires : tie.Need-step-requires invariant-loop decreases-loop
+step-requires : tie.Need-step-looked-requires invariant-loop decreases-loop
 step-requires c κs = search rules
 
-no-parameters-requires : tie.Need-no-parameters-requires invariant-loop decreases-loop
+no-parameters-requires : tie.Need-no_parameters-requires invariant-loop decreases-loop
 no-parameters-requires c κs = search rules
 
-fresh-requires : tie.Need-fresh-requires invariant-loop decreases-loop
+fresh-requires : tie.Need-fresh-none-requires invariant-loop decreases-loop
 fresh-requires c κs = search rules
 
-answer-with-requires : tie.Need-answer-with-requires invariant-loop decreases-loop
+answer-with-requires : tie.Need-answer_with-requires invariant-loop decreases-loop
 answer-with-requires c κs = search rules
 
-returns : tie.Need-returns invariant-loop decreases-loop
+returns : tie.Need-returns-then-answer-ne0 invariant-loop decreases-loop
 unfolding to_deadlines fresh_with
 returns c =
-    let f = c.before.before in
-    rw (c.answer-with.ensures, f.fresh.ensures, f.before.no-parameters.ensures, unsound f.before.before)
+    rw (c.answer_with.ensures, c.fresh-none.ensures, c.no_parameters.ensures, unsound c.before.before.before.before)
 
-loop-holds : tie.Need-loop-init invariant-loop decreases-loop
+loop-holds : tie.Need-loop-i-init invariant-loop decreases-loop
 loop-holds c =
-    let s = c.before.before.before.before.args.t1 in
+    let s = c.args.state in
     filled_none _ _ (length_dated s.parameters 1 s.processes ∙ search (rules, length_mapped)) refl
 
-mul-entry : tie.Need-overflow-mul-entry invariant-loop decreases-loop
+mul-entry : tie.Need-offset_bounds-state-i invariant-loop decreases-loop
 mul-entry c = search rules
 
-element-copy-out-entry : tie.Need-element-copy-out-entry invariant-loop decreases-loop
+element-copy-out-entry : tie.Need-bounds-state-i invariant-loop decreases-loop
 element-copy-out-entry c = search rules
 
-add-limit-of : tie.Need-overflow-add-limit-of invariant-loop decreases-loop
+add-limit-of : tie.Need-overflow_add-i invariant-loop decreases-loop
 add-limit-of c = search rules
 
-limit-of-requires : tie.Need-limit-of-requires invariant-loop decreases-loop
+limit-of-requires : tie.Need-limit_of-limit-requires invariant-loop decreases-loop
 limit-of-requires c κs = search rules
 
 dated-requires : tie.Need-dated-requires invariant-loop decreases-loop
 dated-requires c κs = search rules
 
-entry-with-requires : tie.Need-entry-with-requires invariant-loop decreases-loop
+entry-with-requires : tie.Need-entry_with-requires invariant-loop decreases-loop
 entry-with-requires c κs = search rules
 
-mul-processes : tie.Need-overflow-mul-processes invariant-loop decreases-loop
+mul-processes : tie.Need-offset_bounds-processes-i invariant-loop decreases-loop
 mul-processes c = search rules
 
-array-set-from-processes : tie.Need-array-set-from-processes invariant-loop decreases-loop
+array-set-from-processes : tie.Need-bounds-processes-i invariant-loop decreases-loop
 array-set-from-processes c = search rules
 
-add-i : tie.Need-overflow-add-i invariant-loop decreases-loop
+add-i : tie.Need-overflow_add-i-in-loop-i invariant-loop decreases-loop
 add-i c = search rules
 
-loop-less : tie.Need-loop-smaller invariant-loop decreases-loop
+loop-less : tie.Need-loop-i-smaller invariant-loop decreases-loop
 loop-less c = search rules
 
-loop-again : tie.Need-loop-preserved invariant-loop decreases-loop
+loop-again : tie.Need-loop-i-preserved invariant-loop decreases-loop
 loop-again c =
-    let f = c.before.before.before.before.before.before.before in
-    let v = f.before.loop in
-    let s = f.before.before.before.before.before.before.args.t1 in
+    let v = c.loop-i in
+    let s = c.args.state in
     let inside : v.i < length s.processes = omega (arith, length_dated s.parameters 1 s.processes) in
-    filled_next _ v.processes v.i _ idle_with v.invariant f.loop-test.true
-    (c.entry-with.ensures ∙ rw (c.before.dated.ensures, c.before.before.limit-of.ensures) (entry-dated s v.i _ (sound f.before.before) inside))
+    filled_next _ v.processes v.i _ idle_with v.invariant c.loop-i-test.true
+    (c.entry_with.ensures ∙ rw (c.dated.ensures, c.limit_of-limit.ensures) (entry-dated s v.i _ (sound c.before.before.before.before.before.before.before.before) inside))
 
-answer-with-requires-2 : tie.Need-answer-with-requires-2 invariant-loop decreases-loop
+answer-with-requires-2 : tie.Need-answer_with-requires-2 invariant-loop decreases-loop
 answer-with-requires-2 c κs = search rules
 
-returns-2 : tie.Need-returns-2 invariant-loop decreases-loop
+returns-2 : tie.Need-returns invariant-loop decreases-loop
 unfolding to_deadlines
 returns-2 c =
-    let v = c.before.before.before.loop in
-    rw (c.answer-with2.ensures, filled_whole _ _ v.i v.invariant c.before.before.loop-test.false, sound c.before.before.before.before)
+    let v = c.loop-i in
+    rw (c.answer_with-2.ensures, filled_whole _ _ v.i v.invariant c.loop-i-test.false, sound c.before.before.before.before)
 
-pub to-deadlines-spec : {M : Type 1} → statement M
-to-deadlines-spec =
+pub to_deadlines_spec : {M : Type 1} → statement M
+to_deadlines_spec =
     tie.close
     (tie.spec
     invariant-loop

@@ -6,40 +6,48 @@ use Rattle.model.proofs.Tests.{tests}
 use Rattle.statistics.proofs.soundness.fault_by.Statement.{statement}
 use Rattle.statistics.proofs.soundness.fault_by.Tie as tie
 
-counts-stand-requires : tie.Need-counts-stand-requires
+counts-stand-requires : tie.Need-counts_stand-requires
 counts-stand-requires c κs = search rules
 
-returns : tie.Need-returns
-returns c = simp (sym c.before.counts-stand.ensures ∙ not-true _ c.if1.true)
+returns : tie.Need-returns-then-not-counts_stand
+returns c = simp (sym c.counts_stand.ensures ∙ c.if-not-counts_stand.true)
 
-counts-sound : (c : tie.Else1) → counts_sound c.before.before.args.counts ≡ true
-counts-sound c = sym c.before.counts-stand.ensures ∙ not-false _ c.if1.false
+counts-sound : (c : tie.Else-not-counts_stand) → counts_sound c.args.counts ≡ true
+counts-sound c = sym c.counts_stand.ensures ∙ c.if-not-counts_stand.false
 
-returns-2 : tie.Need-returns-2
-returns-2 c = simp (counts-sound c.before, not-true c.before.before.before.args.stand c.if2.true)
+returns-2 : tie.Need-returns-then-not-stand
+returns-2 c = simp (counts-sound c.before, not-true c.args.stand c.if-not-stand.true-raw)
 
-sub-if3 : tie.Need-overflow-sub-if3
+sub-if3 : tie.Need-overflow_sub-counts
 sub-if3 c = omega (arith, simp tests at (counts-sound c.before.before))
 
-returns-3 : tie.Need-returns-3
+returns-3 : tie.Need-returns-then-counts
 returns-3 c =
-    let a = c.before.before.before.before.before.before.args in
+    let a = c.args in
     let e = counts-sound c.before.before.before.before in
     simp (
       e,
-      not-false a.stand c.before.before.before.if2.false,
+      not-false a.stand c.if-not-stand.false-raw,
       eq-eqb (a.counts.accepted + a.counts.refused) most_acts (omega (arith, simp tests at e)),
     )
 
-returns-4 : tie.Need-returns-4
+returns-4 : tie.Need-returns
 returns-4 c =
-    let a = c.before.before.before.before.before.before.args in
+    let a = c.args in
     let e = counts-sound c.before.before.before.before in
     simp (
       e,
-      not-false a.stand c.before.before.before.if2.false,
+      not-false a.stand c.if-not-stand.false-raw,
       ne_eqb (a.counts.accepted + a.counts.refused) most_acts (omega (arith, simp tests at e)),
     )
 
-pub fault-by-spec : {M : Type 1} → statement M
-fault-by-spec = tie.close (tie.spec counts-stand-requires returns returns-2 sub-if3 returns-3 returns-4)
+pub fault_by_spec : {M : Type 1} → statement M
+fault_by_spec =
+    tie.close
+    (tie.spec
+    counts-stand-requires
+    returns
+    returns-2
+    sub-if3
+    returns-3
+    returns-4)
