@@ -1,6 +1,6 @@
 -- Steps that are taken block by block, as many at a time as there are rows: where a block leads, and what it leaves in the rows.
 -- Assumes nothing.
-use Prim.Native.Nat.{ℕ, ◌+◌, ◌-◌, min}
+use Prim.Native.Nat.{ℕ, ◌-◌, min}
 use mathlib.Core.Path.{◌≡◌, sym, ap, ◌∙◌}
 use mathlib.Core.List.{List, ◌++◌, map-append}
 use native.Mathlib.Omega.{arith}

@@ -3,7 +3,7 @@
 #![tactic(auto)]
 
 ghost use Rattle.std.specs.Prelude.{◌≡◌, ◌<◌, length, replicate};
-ghost use Rattle.model.specs.Readings.{lent};
+ghost use Rattle.model.specs.Readings.{lent, lists};
 ghost use Rattle.model.specs.Writings.{events_of};
 ghost use Rattle.model.specs.Executions.{start_gave, started_of, executed_gave, executed_of};
 ghost use Rattle.execution.specs.Turns.{step_turn_of};
@@ -44,8 +44,8 @@ pub struct Started {
 
 // [7.46] [21.110] Reads a trace into three lists. A refusal tells the line that it is reported at, and then nothing is stored.
 pub fn start(text: &[u8], times: &mut [u64], processes: &mut [u64], actions: &mut [u64]) -> Started
-    ensures { start_gave result.found result.state (lent times.exit processes.exit actions.exit)
-        ≡ started_of text.now (lent times.entry processes.entry actions.entry) }
+    ensures { start_gave result.found result.state (lists times.new processes.new actions.new)
+        ≡ started_of text.now (lists times.old processes.old actions.old) }
 {
     let found = scan(text, times, processes, actions);
     let made = fresh(found.parameters);

@@ -51,8 +51,8 @@ unfolding call_of
 callable s d = by_test d.recorded
     (λ k. Made.by_record k (record {
       lifetimes = ([], tt);
-      lent = record { ref_ptr = (0, 0); now = d.lent };
-      left = record { ref_ptr = (0, 0); now = (call_of s d).statistics };
+      lent = record { ref_ptr = (0, 0); ghost_name = 0; now = d.lent };
+      left = record { ref_ptr = (0, 0); ghost_name = 0; now = (call_of s d).statistics };
       entry = refl;
       exit = refl;
       allowed = rw k;

@@ -75,7 +75,7 @@ unfolding results_by log_by
 log_onto log r [] [] = refl
 log_onto log r [] (b ∷ bs) = refl
 log_onto log r (e ∷ es) [] = refl
-log_onto log r (e ∷ es) (b ∷ bs) = log_onto _ (record_next r (event_in_row e)) es bs
+log_onto log r (e ∷ es) (b ∷ bs) = log_onto (attempted (event_in_row e) (code_of (record_next r (event_in_row e))) ∷ log) (record_next r (event_in_row e)) es bs
 
 -- a tally does not look at the answer that is given back
 tallied_started : {log : List Attempt} {r : Recorded} (p : Recorded) → Tallied log r → Tallied log (started p r)

@@ -4,7 +4,7 @@
 use Rattle.std.specs.Prelude.{ℕ, ◌+◌, ◌<◌, ◌≡◌, refl, ◌↔◌, true, false, List, map}
 use base.Logic.{emp}
 use contract.Lifetimes.{Lfts}
-use Rattle.std.specs.Borrow.{Bor}
+use Rattle.std.specs.Borrow.{MutBor}
 use borrow.Fn.World.{World, Pr}
 use borrow.Fn.Claims.{AllOf}
 use borrow.Fn.Read.{Read, no_know, all_models, r_last}
@@ -49,9 +49,9 @@ Steps s a p t o = step-reads.Post tt (s, (a, (p, (t, tt)))) o (s, (a, (p, (t, tt
 abbrev pub RecordsByValue : State → Statistics → ℕ → ℕ → ℕ → Recorded → Type 0
 RecordsByValue s x a p t r = record-reads.Post tt (s, (x, (a, (p, (t, tt))))) r (s, (x, (a, (p, (t, tt)))))
 
--- `record_step` takes a reference to a struct, and of such a function the checker makes no reading: its clause is read here, by the
--- law that the checker's readings use. `lent` is the reference at entry, and `left` at exit.
-module _ (κs : Lfts 1) (s : State) (lent : Bor Statistics) (a p t : ℕ) (o : Outcome) (left : Bor Statistics) where
+-- `record_step` takes a reference to a struct: its clause is read here, by the law that the checker's readings use. `lent` is the
+-- reference at entry, and `left` at exit.
+module _ (κs : Lfts 1) (s : State) (lent : MutBor Statistics) (a p t : ℕ) (o : Outcome) (left : MutBor Statistics) where
   abbrev clause : (w : World) → Pr w
   clause w =
       (record-step.clauses w.𝓛 w.𝓜.mem w.𝓡.run κs (s, (lent, (a, (p, (t, tt)))))).ensures
@@ -67,8 +67,8 @@ module _ (κs : Lfts 1) (s : State) (lent : Bor Statistics) (a p t : ℕ) (o : O
 -- [8.135] a call of `record_step` that is lent the summary x, and the result that it leaves
 pub record Records (s : State) (x : Statistics) (a p t : ℕ) (r : Recorded) : Type 0 where
   pub lifetimes : Lfts 1
-  pub lent : Bor Statistics
-  pub left : Bor Statistics
+  pub lent : MutBor Statistics
+  pub left : MutBor Statistics
   pub entry : lent.now ≡ x
   pub exit : left.now ≡ r.statistics
   pub allowed : RecordsStep lifetimes s lent a p t r.outcome left

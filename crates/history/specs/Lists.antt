@@ -1,7 +1,7 @@
 -- Section 8 of the specification: calls as rows of numbers, as `run` is lent them, and all that it gives back. A call is a row of
 -- `calls` with a row of `counts` and one of `waited`, the summary that it is lent; its answer goes to a row of `answers`. Assumes nothing.
 use Rattle.std.specs.Prelude.{ℕ, ◌≡◌, not, List, [], ◌∷◌, map, eqb, length, get_or, set, take}
-use Rattle.std.specs.Borrow.{Bor}
+use Rattle.std.specs.Borrow.{MutBor}
 use Rattle.model.specs.declared.Parameters.{Parameters}
 use Rattle.model.specs.declared.State.{State}
 use Rattle.model.specs.declared.Outcome.{Outcome}
@@ -48,7 +48,7 @@ abbrev pub rows : List Tuple → List Tuple → List Tuple → Rows
 rows counts waited answers = record { counts = counts; waited = waited; answers = answers }
 
 -- helper: three lists of rows as they are lent
-abbrev pub lent_rows : Bor (List Tuple) → Bor (List Tuple) → Bor (List Tuple) → Rows
+abbrev pub lent_rows : MutBor (List Tuple) → MutBor (List Tuple) → MutBor (List Tuple) → Rows
 lent_rows counts waited answers = rows counts.now waited.now answers.now
 
 -- [8.156] as many calls as the shortest of the first three lists has rows

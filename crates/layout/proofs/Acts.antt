@@ -24,7 +24,7 @@ use Rattle.rules.proofs.Slots.{slot_in}
 use Rattle.rules.proofs.Pass.{Whole, Surveyed}
 use Rattle.rules.proofs.Judged.{Goes, refuses, waits, moves, goes}
 use Rattle.layout.specs.Steps.{scene_in, row_in, answer_in, action_put, acted_in, survey_in}
-use Rattle.layout.proofs.Entries.{entry_in, entries_size}
+use Rattle.layout.proofs.Entries.{entry-in, entries_size}
 use Rattle.layout.proofs.Surveys.{tell_sound, Found, faulty, whole, survey_found}
 
 -- all that is given back is equal where its parts are
@@ -57,7 +57,7 @@ module _ (l : List ℕ) (long : length l ≡ table_length) (act p m : ℕ) where
     own_is : 1 ≤ p → p ≤ 96 → location_in l (slot_of p) ≡ (entry_of s p).location
     unfolding entry_of
     own_is from to =
-        ap (location_in l) (slot_in p to) ∙ sym (ap (λ (q : Process). q.location) (entry_in l long (p - 1) (omega arith) idle))
+        ap (location_in l) (slot_in p to) ∙ sym (ap (λ (q : Process). q.location) (entry-in l long (p - 1) (omega arith) idle))
 
     row : act ≢ wait_act → act ≤ last_act → row_in l act p m ≡ transition_of s.word act p m
     unfolding state_in

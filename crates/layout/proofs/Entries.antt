@@ -34,9 +34,9 @@ module _ (l : List ℕ) (long : length l ≡ table_length) where
       ∙ ap (λ (t : List ℕ). (entry_in l i).stage ∷ t) (drop_at l (since_place i) 0 (omega arith) ∙ ap (λ (k : ℕ). (entry_in l i).since ∷ drop k l) e)
 
   -- which entry they tell
-  pub entry_in : (i : ℕ) → i < 96 → (d : Process) → get_or (state_in l).processes i d ≡ entry (location_in l i)
+  pub entry-in : (i : ℕ) → i < 96 → (d : Process) → get_or (state_in l).processes i d ≡ entry (location_in l i)
   unfolding state_in
-  entry_in i more d =
+  entry-in i more d =
       told_at i (drop header_length l) d (omega (arith, length-drop header_length l))
       ∙ (λ j. entry (location_at (get_or-drop header_length l (stride * i) 0 j) (since-in j)))
     where

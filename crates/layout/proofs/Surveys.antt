@@ -13,7 +13,7 @@ use Rattle.layout.specs.Encodings.{header_length, stride, table_length, stage_pl
 use Rattle.layout.specs.Encodings.{processes_in, state_in, are_entries}
 use Rattle.layout.specs.Places.{numbers_at, entries_in, tells_location, entry_in, location_in, entries_from, first_entries}
 use Rattle.values.specs.Bits.{are_zero}
-use Rattle.layout.proofs.Entries.{left_sound, entry_in, entries_size, next_told, left-sound, above_are_zero, entries_next, entries_end, first_next}
+use Rattle.layout.proofs.Entries.{left_sound, entry-in, entries_size, next_told, left-sound, above_are_zero, entries_next, entries_end, first_next}
 use Rattle.layout.proofs.Entries.{zero_at, zeros_tell}
 use Rattle.layout.proofs.Numbers.{limits_size}
 use Rattle.model.proofs.Lists.{part_is}
@@ -94,7 +94,7 @@ module _ (l : List ℕ) (long : length l ≡ table_length) (acting : ℕ) where
       is_noted : next ≡ noted (scene_in l acting) (i + 1) (get_or s.processes i idle).location (limit_at (limits_told l) (i + 1)) f
       is_noted =
           numbers-noted (scene_in l acting) (i + 1) (entry_in l i).stage (entry_in l i).since (limit_at (limits_told l) (i + 1)) f (omega arith) e
-          ∙ ap (λ (q : Process). noted (scene_in l acting) (i + 1) q.location (limit_at (limits_told l) (i + 1)) f) (sym (entry_in l long i more idle))
+          ∙ ap (λ (q : Process). noted (scene_in l acting) (i + 1) q.location (limit_at (limits_told l) (i + 1)) f) (sym (entry-in l long i more idle))
 
       next_along : next.faulty ≡ 0 → Along (i + 1) next
       unfolding state_in
@@ -145,7 +145,7 @@ module _ (l : List ℕ) (long : length l ≡ table_length) (acting : ℕ) where
     unfolding noted
     idle_noted i h more f =
         ap (λ (to : Location). noted (scene_in l acting) (i + 1) to (limit_at (limits_told l) (i + 1)) f)
-        (sym (ap (λ (q : Process). q.location) (entry_in l long i more idle) ∙ idle_above i h))
+        (sym (ap (λ (q : Process). q.location) (entry-in l long i more idle) ∙ idle_above i h))
 
     above_passed : (j i : ℕ) (f : Survey) → i + j ≡ 96 → n ≤ i → Passed s acting i f → Passed s acting 96 f
     unfolding state_in

@@ -60,17 +60,17 @@ in_span : {s : State} {d : DeadlineState} → Matches s d → (es : List Event) 
 unfolding call_of
 in_span match [] h = tt
 in_span match (e ∷ es) (inl z) = inl (ap (map as_call) z)
-in_span match (e ∷ es) (inr h) = inr (
+in_span {s = s} match (e ∷ es) (inr h) = inr (
   λ k. h.0 (record { crit = k.crit; accepted = event_code match e ∙ k.accepted }),
-  in_span (events_match match e).states es h.1,
+  in_span {s = (step_by s e).state} (events_match match e).states es h.1,
 )
 
 stays : (w : ℕ) {s : State} {d : DeadlineState} → Matches s d → (es : List Event) → StaysWith d w es → NotWithdrawn s w (as_calls es)
 unfolding call_of
 stays w match [] h = tt
-stays w match (e ∷ es) h = (
+stays w {s = s} match (e ∷ es) h = (
   λ k. h.0 (record { withdraw = k.withdraw; own = k.own; accepted = event_code match e ∙ k.accepted }),
-  stays w (events_match match e).states es h.1,
+  stays w {s = (step_by s e).state} (events_match match e).states es h.1,
 )
 
 span : {s : State} {d : DeadlineState} {w : ℕ} {es : List Event} → Matches s d → SpanWith d w es → Span s w (as_calls es)
@@ -106,9 +106,9 @@ names_the_only {e = e} both h =
 each_names : {s : State} {d : DeadlineState} → Matches s d → (es : List Event) → EachNames (results_of s (as_calls es)) → EachNamesWith (steps_with d es)
 unfolding results_by call_of
 each_names match [] h = tt
-each_names match (e ∷ es) h = (
+each_names {s = s} match (e ∷ es) h = (
   λ a. names_the_only (events_match match e) (h.0 (sym (event_code match e) ∙ a)),
-  each_names (events_match match e).states es h.1,
+  each_names {s = (step_by s e).state} (events_match match e).states es h.1,
 )
 
 -- Not stuck

@@ -35,12 +35,20 @@ module _ {a b c : ℕ} where
   tries_to LocationsMatch.setting Tries.setting = TriesWith.setting
   tries_to LocationsMatch.checking Tries.checking = TriesWith.checking
   tries_to LocationsMatch.entering Tries.entering = TriesWith.entering
+  tries_to LocationsMatch.remainder h = elim h [ ]
+  tries_to LocationsMatch.critical h = elim h [ ]
+  tries_to LocationsMatch.resetting h = elim h [ ]
+  tries_to LocationsMatch.leaving h = elim h [ ]
 
   tries_fro : {l : Location} {q : DeadlineLocation} → LocationsMatch a b c l q → TriesWith q → Tries l
   tries_fro LocationsMatch.testing TriesWith.testing = Tries.testing
   tries_fro LocationsMatch.setting TriesWith.setting = Tries.setting
   tries_fro LocationsMatch.checking TriesWith.checking = Tries.checking
   tries_fro LocationsMatch.entering TriesWith.entering = Tries.entering
+  tries_fro LocationsMatch.remainder h = elim h [ ]
+  tries_fro LocationsMatch.critical h = elim h [ ]
+  tries_fro LocationsMatch.resetting h = elim h [ ]
+  tries_fro LocationsMatch.leaving h = elim h [ ]
 
   -- the last time is the deadline
   times_to : {l : Location} {q : DeadlineLocation} {x : ℕ} → LocationsMatch a b c l q → Deadline a c l x → (f : ℕ) × Times q f x
@@ -50,6 +58,8 @@ module _ {a b c : ℕ} where
   times_to LocationsMatch.entering Deadline.entering = (_, Times.entering)
   times_to LocationsMatch.resetting Deadline.resetting = (_, Times.resetting)
   times_to LocationsMatch.leaving Deadline.leaving = (_, Times.leaving)
+  times_to LocationsMatch.remainder h = elim h [ ]
+  times_to LocationsMatch.critical h = elim h [ ]
 
   times_fro : {l : Location} {q : DeadlineLocation} {f x : ℕ} → LocationsMatch a b c l q → Times q f x → Deadline a c l x
   times_fro LocationsMatch.testing Times.testing = Deadline.testing
@@ -58,6 +68,8 @@ module _ {a b c : ℕ} where
   times_fro LocationsMatch.entering Times.entering = Deadline.entering
   times_fro LocationsMatch.resetting Times.resetting = Deadline.resetting
   times_fro LocationsMatch.leaving Times.leaving = Deadline.leaving
+  times_fro LocationsMatch.remainder h = elim h [ ]
+  times_fro LocationsMatch.critical h = elim h [ ]
 
   module _ {m : ℕ} where
     -- an arrival is past, so that but for a check the first time is

@@ -3,7 +3,7 @@
 #![tactic(auto)]
 
 ghost use Rattle.std.specs.Prelude.{◌≡◌};
-ghost use Rattle.model.specs.Readings.{lent, read_gave, read_of};
+ghost use Rattle.model.specs.Readings.{lent, lists, read_gave, read_of};
 ghost use Rattle.model.specs.Writings.{events_of, write_gave, write_of};
 ghost use Rattle.round_trips.specs.Trips.{rewrite_of, not_read, reread_of, ComesBack, ReadsAlike, StepsComeBack};
 
@@ -19,13 +19,13 @@ pub fn rewrite(
     actions: &mut [u64],
     out: &mut [u8],
 ) -> Answer
-    ensures kept { lent times.exit processes.exit actions.exit
-        ≡ (read_of text.now (lent times.entry processes.entry actions.entry)).kept }
+    ensures kept { lists times.new processes.new actions.new
+        ≡ (read_of text.now (lists times.old processes.old actions.old)).kept }
     ensures written { write_gave result out.new
-        ≡ rewrite_of (read_of text.now (lent times.entry processes.entry actions.entry)) out.old }
-    ensures trip { ComesBack text.now (lent times.entry processes.entry actions.entry)
+        ≡ rewrite_of (read_of text.now (lists times.old processes.old actions.old)) out.old }
+    ensures trip { ComesBack text.now (lists times.old processes.old actions.old)
         out.old out.new }
-    ensures alike { ReadsAlike text.now (lent times.entry processes.entry actions.entry) (write_gave result out.new) }
+    ensures alike { ReadsAlike text.now (lists times.old processes.old actions.old) (write_gave result out.new) }
 {
     let reading = read(text, times, processes, actions);
     let answer = reading.answer;
@@ -66,12 +66,12 @@ pub fn reread(
 ) -> Reading
     ensures out { out.new
         ≡ (write_of parameters (events_of (lent times.entry processes.entry actions.entry)) out.old).out }
-    ensures read { read_gave result (lent times2.exit processes2.exit actions2.exit)
+    ensures read { read_gave result (lists times2.new processes2.new actions2.new)
         ≡ reread_of (write_of parameters (events_of (lent times.entry processes.entry actions.entry)) out.old)
-        (lent times2.entry processes2.entry actions2.entry) }
+        (lists times2.old processes2.old actions2.old) }
     ensures trip { StepsComeBack parameters (events_of (lent times.entry processes.entry actions.entry)) out.old
-        (lent times2.entry processes2.entry actions2.entry)
-        (read_gave result (lent times2.exit processes2.exit actions2.exit)) }
+        (lists times2.old processes2.old actions2.old)
+        (read_gave result (lists times2.new processes2.new actions2.new)) }
 {
     let answer = write(parameters, times, processes, actions, out);
     if answer.code != 0 {

@@ -7,7 +7,7 @@ mod steps;
 mod texts;
 
 ghost use Rattle.std.specs.Prelude.{◌≡◌};
-ghost use Rattle.model.specs.Readings.{lent, scan_gave, scanned_of, line_told, reading_from, read_gave, read_of};
+ghost use Rattle.model.specs.Readings.{lent, lists, scan_gave, scanned_of, line_told, reading_from, read_gave, read_of};
 ghost use Rattle.model.specs.Writings.{events_of, write_gave, write_of};
 ghost use Rattle.trace.specs.Passes.{answer_without_room};
 ghost use Rattle.trace.specs.ReadingTo.{reading_to_of, read_to_gave, read_to_of};
@@ -22,8 +22,8 @@ use values::{answer_with, copy, least, no_parameters};
 // [6.145] [6.90] [6.130] [6.133] [6.136] [6.140] [21.110] Scans a recording: its steps go to the three lists. A refused scan stores nothing,
 // and keeps the line that the refusal is reported at, that of 11 and 12 too.
 pub fn scan(text: &[u8], times: &mut [u64], processes: &mut [u64], actions: &mut [u64]) -> Scan
-    ensures { scan_gave result (lent times.exit processes.exit actions.exit)
-        ≡ scanned_of text.now (lent times.entry processes.entry actions.entry) }
+    ensures { scan_gave result (lists times.new processes.new actions.new)
+        ≡ scanned_of text.now (lists times.old processes.old actions.old) }
 {
     let head = head_of(text);
     if head.code != 0 {
@@ -82,8 +82,8 @@ fn reading_from(found: Scan) -> Reading
 // [6.90] [6.110] [6.130] [6.133] [6.136] [6.140] [21.110] Reads a recording: a scan of it, and what is told of that. The line of 11 and of 12
 // is dropped: 0 is told.
 pub fn read(text: &[u8], times: &mut [u64], processes: &mut [u64], actions: &mut [u64]) -> Reading
-    ensures { read_gave result (lent times.exit processes.exit actions.exit)
-        ≡ read_of text.now (lent times.entry processes.entry actions.entry) }
+    ensures { read_gave result (lists times.new processes.new actions.new)
+        ≡ read_of text.now (lists times.old processes.old actions.old) }
 {
     let found = scan(text, times, processes, actions);
     reading_from(found)
@@ -135,8 +135,8 @@ pub fn read_to(
     processes: &mut [u64],
     actions: &mut [u64],
 ) -> ReadingTo
-    ensures { read_to_gave result a.new (lent times.exit processes.exit actions.exit)
-        ≡ read_to_of text.now a.old (lent times.entry processes.entry actions.entry) }
+    ensures { read_to_gave result a.new (lists times.new processes.new actions.new)
+        ≡ read_to_of text.now a.old (lists times.old processes.old actions.old) }
 {
     if a.len() < 96 {
         return unread_to(answer_without_room(text));

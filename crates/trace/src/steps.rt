@@ -1,6 +1,6 @@
 // The lines of the steps: one pass that judges and counts them, and one that stores them. `first` is the line of the first step.
 ghost use Rattle.std.specs.Prelude.{◌≡◌, ◌≤◌, ◌<◌, length};
-ghost use Rattle.model.specs.Readings.{body_of, lent, room, stored};
+ghost use Rattle.model.specs.Readings.{body_of, lists, room, stored};
 ghost use Rattle.trace.specs.Passes.{counted_of, scan_found};
 
 use crate::lines::{event_at, scan_fails};
@@ -62,10 +62,10 @@ pub(crate) fn store_events(
 ) -> Counted
     requires first_nonzero { 0 < first }
     requires first_bound { first ≤ 65536 }
-    requires s_len_bound { length (body_of first s.now).events ≤ room (lent times processes actions) }
+    requires s_len_bound { length (body_of first s.now).events ≤ room (lists times.old processes.old actions.old) }
     ensures value { result ≡ counted_of (body_of first s.now) }
-    ensures actions_value { lent times.exit processes.exit actions.exit
-        ≡ stored (body_of first s.now).events (lent times.entry processes.entry actions.entry) }
+    ensures actions_value { lists times.new processes.new actions.new
+        ≡ stored (body_of first s.now).events (lists times.old processes.old actions.old) }
 {
     let mut at: usize = 0;
     let mut i: usize = 0;

@@ -7,36 +7,34 @@ use Rattle.model.specs.Readings.{lists, Read, read_of}
 use Rattle.trace.proofs.answer_without_room.Statement.{statement}
 use Rattle.trace.proofs.answer_without_room.Tie as tie
 
-was_read : (c : tie.After-read) → c.read.result ≡ (read_of c.before.before.before.before.before.args.text.now (lists [] [] [])).reading
-was_read c = ap (λ (r : Read). r.reading) c.read.ensures
+was_read : (c : tie.After-read-reading) → c.read-reading.result ≡ (read_of c.args.text.now (lists [] [] [])).reading
+was_read c = ap (λ (r : Read). r.reading) c.read-reading.ensures
 
-slice-aggregate-read : tie.Need-slice-aggregate-read
+slice-aggregate-read : tie.Need-slice_bounds-read-end
 slice-aggregate-read c = search rules
 
-slice-aggregate-read-2 : tie.Need-slice-aggregate-read-2
+slice-aggregate-read-2 : tie.Need-slice_bounds-read-end-2
 slice-aggregate-read-2 c = search rules
 
-slice-aggregate-read-3 : tie.Need-slice-aggregate-read-3
+slice-aggregate-read-3 : tie.Need-slice_bounds-read-end-3
 slice-aggregate-read-3 c = search rules
 
-read-requires : tie.Need-read-requires
+read-requires : tie.Need-read-reading-requires
 read-requires c κs = search rules
 
-answer-with-requires : tie.Need-answer-with-requires
+answer-with-requires : tie.Need-answer_with-requires
 answer-with-requires c κs = search rules
 
-returns : tie.Need-returns
+returns : tie.Need-returns-then-answer-eq0
 returns c =
-    let k = c.before.before.before.before.before.before.before in
-    c.answer-with.ensures ∙ rw (← was_read k) (simp (eq-eqb _ _ c.before.if1.true))
+    c.answer_with.ensures ∙ rw (← was_read c.before.before.before.before.before.before.before) (simp (eq-eqb _ _ c.if-answer-eq0.true))
 
-returns-2 : tie.Need-returns-2
+returns-2 : tie.Need-returns
 returns-2 c =
-    let k = c.before.before.before.before.before.before in
-    rw (← was_read k) (simp (ne_eqb _ _ c.if1.false))
+    rw (← was_read c.before.before.before.before.before.before) (simp (ne_eqb _ _ c.if-answer-eq0.false))
 
-pub answer-without-room-spec : {M : Type 1} → statement M
-answer-without-room-spec =
+pub answer_without_room_spec : {M : Type 1} → statement M
+answer_without_room_spec =
     tie.close
     (tie.spec
     slice-aggregate-read

@@ -3,36 +3,35 @@ use mathlib.Core.Path.{◌≡◌, sym, ◌∙◌}
 use mathlib.Core.Bool.{true}
 use native.Mathlib.Omega.{arith}
 use borrow.Author.Rules.{rules}
-use borrow.Author.Tests.{not-true, not-false}
 use Rattle.model.specs.States.{count_stands}
 use Rattle.trace.proofs.lines.after_former.Statement.{statement}
 use Rattle.trace.proofs.lines.after_former.Tie as tie
 
-counted : (c : tie.Else1) → count_stands c.before.before.before.args.n ≡ true
-counted c = sym c.before.count-stands.ensures ∙ not-false _ c.if1.false
+counted : (c : tie.Else-not-count_stands) → count_stands c.args.n ≡ true
+counted c = sym c.count_stands.ensures ∙ c.if-not-count_stands.false
 
-count-stands-requires : tie.Need-count-stands-requires
+count-stands-requires : tie.Need-count_stands-requires
 count-stands-requires c κs = search rules
 
-scan-fails-requires : tie.Need-scan-fails-requires
+scan-fails-requires : tie.Need-scan_fails-requires
 scan-fails-requires c κs = search rules
 
-returns : tie.Need-returns
+returns : tie.Need-returns-then-not-count_stands
 returns c =
-    let e = sym c.before.before.count-stands.ensures ∙ not-true _ c.before.if1.true in
-    c.scan-fails.ensures ∙ rw e
+    let e = sym c.count_stands.ensures ∙ c.if-not-count_stands.true in
+    c.scan_fails.ensures ∙ rw e
 
-equal-limits-requires : tie.Need-equal-limits-requires
+equal-limits-requires : tie.Need-equal_limits-a-requires
 equal-limits-requires c κs = search rules
 
-judge-limits-requires : tie.Need-judge-limits-requires
+judge-limits-requires : tie.Need-judge_limits-requires
 judge-limits-requires c κs = (search rules, omega arith, counted c.before)
 
-returns-2 : tie.Need-returns-2
-returns-2 c = c.judge-limits.ensures ∙ rw (c.before.equal-limits.ensures, counted c.before.before)
+returns-2 : tie.Need-returns
+returns-2 c = c.judge_limits.ensures ∙ rw (c.equal_limits-a.ensures, counted c.before.before)
 
-pub after-former-spec : {M : Type 1} → statement M
-after-former-spec =
+pub after_former_spec : {M : Type 1} → statement M
+after_former_spec =
     tie.close
     (tie.spec
     count-stands-requires

@@ -12,54 +12,52 @@ use Rattle.trace.proofs.lines.new_head.Statement.{statement}
 use Rattle.trace.proofs.lines.new_head.Tie as tie
 
 -- line 2, and that it lies within the text
-line_read : (c : tie.After-numbers-at) → numbers_at 2 2 (drop 12 c.before.before.before.args.text.now) ≡ c.numbers-at.result
-line_read c = rw part_is at (sym c.numbers-at.ensures)
+line_read : (c : tie.After-numbers_at-values) → numbers_at 2 2 (drop 12 c.args.text.now) ≡ c.numbers_at-values.result
+line_read c = rw part_is at (sym c.numbers_at-values.ensures)
 
-within : (c : tie.After-numbers-at) → 12 + c.numbers-at.result.size ≤ length c.before.before.before.args.text.now
+within : (c : tie.After-numbers_at-values) → 12 + c.numbers_at-values.result.size ≤ length c.args.text.now
 within c =
-    let s = c.before.before.before in
-    omega (arith, s.requires, length-drop 12 s.args.text.now, numbers_within 2 2 (drop 12 s.args.text.now) _ (omega arith) (line_read c))
+    omega (arith, c.requires, length-drop 12 c.args.text.now, numbers_within 2 2 (drop 12 c.args.text.now) _ (omega arith) (line_read c))
 
-sub-numbers-at : tie.Need-overflow-sub-numbers-at
+sub-numbers-at : tie.Need-slice_bounds-numbers_at-count
 sub-numbers-at c = search rules
 
-part-numbers-at-start : tie.Need-slice-bounds-numbers-at-start
+part-numbers-at-start : tie.Need-slice_bounds-numbers_at-start
 part-numbers-at-start c = search rules
 
-part-numbers-at-end : tie.Need-slice-bounds-numbers-at-end
+part-numbers-at-end : tie.Need-slice_bounds-numbers_at-end
 part-numbers-at-end c = search rules
 
-numbers-at-requires : tie.Need-numbers-at-requires
+numbers-at-requires : tie.Need-numbers_at-values-requires
 numbers-at-requires c κs = search rules
 
-scan-fails-requires : tie.Need-scan-fails-requires
+scan-fails-requires : tie.Need-scan_fails-requires
 scan-fails-requires c κs = search rules
 
-returns : tie.Need-returns
-returns c = c.scan-fails.ensures ∙ rw (line_read c.before.before.before) (simp (ne_eqb _ _ c.before.if1.true))
+returns : tie.Need-returns-then-values-ne0
+returns c = c.scan_fails.ensures ∙ rw (line_read c.before.before.before) (simp (ne_eqb _ _ c.if-values-ne0.true))
 
-add_at : tie.Need-overflow-add-at
+add_at : tie.Need-overflow_add-at
 add_at c = omega (arith, within c.before.before.before.before)
 
-array-read-after-values : tie.Need-array-read-after-values
+array-read-after-values : tie.Need-bounds-numbers-0
 array-read-after-values c = search rules
 
-array-read-after-values-2 : tie.Need-array-read-after-values-2
+array-read-after-values-2 : tie.Need-bounds-numbers-1
 array-read-after-values-2 c = search rules
 
-array-read-after-values-3 : tie.Need-array-read-after-values-3
+array-read-after-values-3 : tie.Need-bounds-numbers-2
 array-read-after-values-3 c = search rules
 
-after-values-requires : tie.Need-after-values-requires
+after-values-requires : tie.Need-after_values-requires
 after-values-requires c κs = within c.before.before.before.before
 
-returns-2 : tie.Need-returns-2
+returns-2 : tie.Need-returns
 returns-2 c =
-    let k = c.before.before.before.before.before in
-    c.after-values.ensures ∙ rw (line_read k) (simp (eq-eqb _ _ c.before.before.before.if1.false))
+    c.after_values.ensures ∙ rw (line_read c.before.before.before.before.before) (simp (eq-eqb _ _ c.if-values-ne0.false))
 
-pub new-head-spec : {M : Type 1} → statement M
-new-head-spec =
+pub new_head_spec : {M : Type 1} → statement M
+new_head_spec =
     tie.close
     (tie.spec
     sub-numbers-at

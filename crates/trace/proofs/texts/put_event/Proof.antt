@@ -8,60 +8,54 @@ use Rattle.trace.proofs.texts.put_event.Statement.{statement}
 use Rattle.trace.proofs.texts.put_event.Tie as tie
 
 -- how wide the first fields are together
-one : (c : tie.After-put-number) → c.put-number.result ≤ 21
-one c = let s = c.before.before.before in number_narrow s.args.time comma (omega arith) c.put-number.ensures
+one : (c : tie.After-put_number-i) → c.put_number-i.result ≤ 21
+one c = number_narrow c.args.time comma (omega arith) c.put_number-i.ensures
 
-two : (c : tie.After-put-number2) → c.before.before.before.before.put-number.result + c.put-number2.result ≤ 42
+two : (c : tie.After-put_number-j) → c.put_number-i.result + c.put_number-j.result ≤ 42
 two c =
-    let s = c.before.before.before.before.before.before.before in
-    omega (arith, one c.before.before.before.before, number_narrow s.args.process comma (omega arith) c.put-number2.ensures)
+    omega (arith, one c.before.before.before.before, number_narrow c.args.process comma (omega arith) c.put_number-j.ensures)
 
-three : (c : tie.After-put-word)
-    → let second = c.before.before.before.before in
-    second.before.before.before.before.put-number.result + second.put-number2.result + c.put_word.result ≤ 64
+three : (c : tie.After-put_word-k)
+    → c.put_number-i.result + c.put_number-j.result + c.put_word-k.result ≤ 64
 three c =
-    let s = c.before.before.before.before.before.before.before.before.before.before.before in
-    omega (arith, two c.before.before.before.before, c.put_word.ensures.wide, word_width s.args.action)
+    omega (arith, two c.before.before.before.before, c.put_word-k.ensures.wide, word_width c.args.action)
 
-put-number-requires : tie.Need-put-number-requires
+put-number-requires : tie.Need-put_number-i-requires
 put-number-requires c κs = search rules
 
-add-put-number : tie.Need-overflow-add-put-number
+add-put-number : tie.Need-overflow_add-start
 add-put-number c = omega (arith, one c.before.before.before)
 
-put-number-requires-2 : tie.Need-put-number-requires-2
+put-number-requires-2 : tie.Need-put_number-j-requires
 put-number-requires-2 c κs = search rules
 
-add-put-word : tie.Need-overflow-add-put-word
+add-put-word : tie.Need-overflow_add-start-2
 add-put-word c = omega (arith, two c.before.before.before)
 
-add-put-word-2 : tie.Need-overflow-add-put-word-2
+add-put-word-2 : tie.Need-overflow_add-start-3
 add-put-word-2 c = omega (arith, two c.before.before.before)
 
-put-word-requires : tie.Need-put-word-requires
+put-word-requires : tie.Need-put_word-k-requires
 put-word-requires c κs = search rules
 
-add-result : tie.Need-overflow-add-result
+add-result : tie.Need-overflow_add-result
 add-result c = omega (arith, three c.before.before)
 
-add-result-2 : tie.Need-overflow-add-result-2
+add-result-2 : tie.Need-overflow_add-result-2
 add-result-2 c = omega (arith, three c.before.before)
 
-same_length : tie.Need-same-length
+same_length : tie.Need-shape_of-out
 same_length c = search rules
 
 returns : tie.Need-returns
 unfolding event_text
-returns c =
-    let third = c.before.before in
-    let second = third.before.before.before.before in
-    let first = second.before.before.before.before in (
-      put_both first.put-number.ensures (put_both second.put-number2.ensures third.put_word.ensures),
-      omega (arith, three third),
-    )
+returns c = (
+  put_both c.put_number-i.ensures (put_both c.put_number-j.ensures c.put_word-k.ensures),
+  omega (arith, three c.before.before),
+)
 
-pub put-event-spec : {M : Type 1} → statement M
-put-event-spec =
+pub put_event_spec : {M : Type 1} → statement M
+put_event_spec =
     tie.close
     (tie.spec
     put-number-requires
