@@ -18,10 +18,9 @@ compile() {
 }
 
 # the proved programs and the library
-quietly "${RT:-rt}" check bench bench_apart bench_recorded bench_deadlines replay spans
-quietly "${RT:-rt}" staticlib funnelfawn
+[ "${RT:-rt}" = true ] || quietly tools/build bench bench_apart bench_recorded bench_deadlines replay spans funnelfawn
 for made in bin/bench bin/bench_apart bin/bench_recorded bin/bench_deadlines bin/replay bin/spans staticlib/libfunnelfawn.a; do
-    [ -f "target/$made" ] || fail "there is no target/$made"
+    [ -f "target/$made" ] || fail "there is no target/$made: tools/build makes it"
 done
 
 # what they are held against

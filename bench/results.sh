@@ -41,8 +41,8 @@ page() {
     cat <<'END'
 # What was measured
 
-`bench/run` writes this page, all of it, and nothing here is edited by hand. The gate measures anew and holds the page to that (`bench/run check`): the
-same rows, and each number within 2 per cent. [`README.md`](README.md) says how it is measured and what each case is.
+`bench/run` writes this page, all of it, and nothing here is edited by hand. `bench/run check` measures anew and holds the page to that: the same rows, and
+each number within 2 per cent. [`README.md`](README.md) says how it is measured and what each case is, and which kit compiled the programs.
 
 A cell has the instructions of one call, counted by `valgrind`: of what is proved, of what stands beside it, and the first divided by the second. Times
 differ from run to run; `bench/run` prints them, and they are not here.

@@ -78,7 +78,7 @@ due 2 "$printed_long" told 'FAULT=close $program <$long'
 beside=
 if [ -n "$proved" ]; then
     beside=" and the proved one" program=$proved
-    # it has only 0 to end with
+    # it always ends with 0
     both 0 0 1024
 fi
 echo "the program $name in C$beside: $runs runs, $differ differ"

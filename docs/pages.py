@@ -18,26 +18,27 @@ import urllib.parse
 ROOT = pathlib.Path(__file__).resolve().parent.parent
 HEADER = "include/funnelfawn.h"
 VECTORS = "reference/vectors/"
-NOT_LOOKED_AT = {".git", "target", "__pycache__"}
+NOT_LOOKED_AT = {".git", "target", "out", "__pycache__"}
 
 # How many bytes a page may have, the first pattern that its path has; a path that is written out has to be there.
 SIZES = (
     ("README.md", 14336),
     ("docs/REVIEW.md", 8192),
-    ("docs/DECISIONS.md", 56320),
     ("docs/PROPERTIES.md", 53248),
     ("docs/ARCHITECTURE.md", 16384),
     ("docs/PROVING.md", 24576),
     ("docs/guide/*.md", 8192),
 )
 
-# How many characters a line may have. Rows of tables and what a program prints may be longer, and landings are left alone.
+# How many characters a line may have. Rows of tables and what a program prints may be longer, and pages that tell of other days are left alone.
 COLUMNS = 160
-LANDINGS = "docs/landings/"
+LEFT_ALONE = ("docs/landings/*", "docs/DECISIONS.md")
+# Pages that quote code of another spelling are not looked at.
+NO_PAGES = ("docs/PORT*.md", "PORTING-LEFT.md")
 
 # Where counts are looked for: in pages and in the comments of code that somebody reads, but not where counts of other days are told.
 COUNTING = ("*.md", "*.h", "*.c", "*.rs", "crates/*.rt", "crates/*/specs/*.antt")
-NOT_COUNTING = ("docs/landings/*", "docs/CHANGES.md")
+NOT_COUNTING = (*LEFT_ALONE, *NO_PAGES, "docs/CHANGES.md")
 
 # `paths` has every file and folder of the repository, `files` the text of those that are read.
 Repository = collections.namedtuple("Repository", "files paths")
@@ -76,12 +77,16 @@ PHRASES = (
 )
 
 
+def is_one_of(path, patterns):
+    return any(fnmatch.fnmatchcase(path, pattern) for pattern in patterns)
+
+
 def is_page(path):
-    return path.endswith(".md")
+    return path.endswith(".md") and not is_one_of(path, NO_PAGES)
 
 
 def is_counting(path):
-    return any(fnmatch.fnmatchcase(path, pattern) for pattern in COUNTING) and not any(fnmatch.fnmatchcase(path, left) for left in NOT_COUNTING)
+    return is_one_of(path, COUNTING) and not is_one_of(path, NOT_COUNTING)
 
 
 def is_read(path):
@@ -279,7 +284,7 @@ def check_fences(repository):
 
 def check_lines(repository):
     for page, text in pages_of(repository).items():
-        if page.startswith(LANDINGS):
+        if is_one_of(page, LEFT_ALONE):
             continue
         printed = {fence.line + 1 + number for fence in fences_of(text) if fence.tag == "text" for number in range(len(fence.lines))}
         for number, line in enumerate(text.split("\n"), 1):
@@ -344,7 +349,7 @@ def counts_of(repository):
         "readable recordings": {paths_like(repository, "reference/corpus/*.spans")},
         "stored calls": {sum(stored_calls(repository).values())},
         "must-fail edits": {paths_like(repository, "crates/*/must-fail/*.edit")},
-        "crates": {len(re.findall(r"^\w+:", repository.files["crates.txt"], re.MULTILINE))},
+        "crates": {len(re.findall(r"^\w+(?: [^:#\n]*)?:", repository.files["crates.txt"], re.MULTILINE))},
     }
 
 

@@ -7,14 +7,14 @@ and holds the tables of recordings there to the recordings and to what `replay` 
 A fenced block is a piece by its tag:
     c       a whole program, or statements that are put into a `main` with <inttypes.h>, <stdio.h>, <string.h> and "funnelfawn.h"
     rust    statements that are put into a `main` which gives back a Result
-    sh      commands: those that start with `cc ` or `target/` are run, also behind `rt check X &&`; all others are left out
+    sh      commands: those that start with `cc ` or `target/` are run, also behind `tools/build X &&`; all others are left out
     text    what the piece before it prints, on standard output and then on standard error; a piece in C or Rust without one prints nothing
     rattle  code in Rattle, which is not run; and a block without a tag is neither code nor output
 All are run from the repository's root, and end with 0; a command ends with N where its line says `# ends with N`. A line
 `<!-- input: PATH -->` directly above a block names its standard input, which is else empty.
 
 A table that has the columns `line` and `recording` in front is held to the recording that was linked last above it. The library is that in
-target/staticlib, or in the directory of the environment variable FUNNELFAWN_LIB; `replay` is target/bin/replay. Needs cc and cargo.
+target/staticlib, or in the directory of the environment variable FUNNELFAWN_LIB; `replay` is target/bin/replay, and `spans` is target/bin/spans. Needs cc and cargo.
 """
 import collections
 import concurrent.futures
@@ -33,7 +33,7 @@ import pages
 ROOT = pages.ROOT
 WORK = ROOT / "target/pieces"
 LIBRARY = pathlib.Path(os.environ.get("FUNNELFAWN_LIB") or ROOT / "target/staticlib").resolve()
-REPLAY = "target/bin/replay"
+REPLAY, SPANS = "target/bin/replay", "target/bin/spans"
 # how long a piece may run, and how long the compiler for one in C
 SECONDS, COMPILING = 10, 60
 
@@ -229,7 +229,7 @@ def check_rust(piece, said):
 # Commands
 
 
-BEHIND = re.compile(r"rt check \w+ && ")
+BEHIND = re.compile(r"tools/build \w+ && ")
 ENDS = re.compile(r"#.*\bends with (\d+)")
 
 
@@ -322,9 +322,9 @@ def check_shown(pieces):
 
 def missing():
     """What has to be there and is not."""
-    for path, maker in ((LIBRARY / "libfunnelfawn.a", "rt staticlib funnelfawn"), (ROOT / REPLAY, "rt check replay")):
+    for path, name in ((LIBRARY / "libfunnelfawn.a", "funnelfawn"), (ROOT / REPLAY, "replay"), (ROOT / SPANS, "spans")):
         if not path.is_file():
-            yield f"there is no {path}: {maker!r} writes it"
+            yield f"there is no {path}: 'tools/build {name}' makes it"
     for program in ("cc", cargo()):
         if not shutil.which(program):
             yield f"there is no {program}"

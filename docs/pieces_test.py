@@ -17,7 +17,7 @@ HELLO = block("text", "hello")
 FRESH = ("static const uint64_t a[] = {5, 5};", "uint64_t table[FUNNELFAWN_TABLE_LENGTH];")
 TABLE = "[a recording](../../examples/two-windows.csv)\n\n| line | recording | `replay` prints | what happens |\n|---|---|---|---|\n"
 NO_RECORDING = TABLE.replace("(../../examples/two-windows.csv)", "")
-REPLAY = "rt check replay && target/bin/replay < examples/two-windows.csv | sed -n 1p"
+REPLAY = "tools/build replay && target/bin/replay < examples/two-windows.csv | sed -n 1p"
 
 # what is wrong; the page; what must be said of it, or None
 PAGES = [
@@ -27,7 +27,7 @@ PAGES = [
         + block("rattle", "machine::step(state)") + block("", "neither code nor output") + HELLO_C + HELLO
         + block("rust", "use funnelfawn::{Limits, Table};", "Table::fresh(&Limits::equal(2, 5, 8, 12))?;") + HELLO_RUST + HELLO
         + "\n<!-- input: examples/two-windows.csv -->\n" + block("c", "return getchar() != 'w';")
-        + block("sh", "rt check spans", REPLAY, "cc nowhere.c 2>/dev/null  # ends with 1") + block("text", "line,answer,window,moment"),
+        + block("sh", "tools/build spans", REPLAY, "cc nowhere.c 2>/dev/null  # ends with 1") + block("text", "line,answer,window,moment"),
         None,
     ),
     (
@@ -54,7 +54,7 @@ PAGES = [
     ("an output without a piece", HELLO, "no piece stands before this output"),
     ("a second output", HELLO_C + HELLO + HELLO, "no piece stands before this output"),
     ("the output of code that is not run", block("rattle", "fn f()") + HELLO, "no piece stands before this output"),
-    ("the output of commands that are not run", block("sh", "rt check replay") + HELLO, "none of the commands is run"),
+    ("the output of commands that are not run", block("sh", "tools/build replay") + HELLO, "none of the commands is run"),
     ("another language", block("python", "print()"), "is tagged 'python'"),
     ("a block that does not end", FENCE + "\nhello\n", "the block does not end"),
     ("an input that is not there", "<!-- input: examples/nowhere.csv -->\n" + HELLO_C + HELLO, "there is no examples/nowhere.csv"),

@@ -5,6 +5,7 @@
     docs/reading.py list STATEMENT ..    which files, and which lines of them
     docs/reading.py check                whether the figures in the table of docs/REVIEW.md are these, and whether each statement that it names is
                                          there and is proved; the exit status is 1 where one is not
+    docs/reading.py write                writes the figures that are counted into that table
 
 A STATEMENT is a file of specs, crates/CRATE/specs/FILE.antt, or the contract of a function, crates/CRATE/src/FILE.rt:FUNCTION.
 
@@ -22,11 +23,14 @@ import sys
 ROOT = pathlib.Path(__file__).resolve().parent.parent
 REVIEW = "docs/REVIEW.md"
 
-# use Rattle·CRATE.specs.FILE.{NAMES}, of another crate or of the own one (`·specs`), or `as NAME`, which brings the whole module
-USE = re.compile(r"^(?:ghost )?use ([\w·.-]+?)(?:\.\{([^}]*)\}| as [\w-]+);?$", re.MULTILINE)
-RT_USE = re.compile(r"^use ([\w:]+);$", re.MULTILINE)
+# use Rattle.CRATE.specs.FILE.{NAMES}, of another crate or of the own one, or `as NAME`, which brings the whole module
+USE = re.compile(r"^(?:ghost )?use ([\w.'+-]+?)(?:\.\{([^}]*)\}| as [\w'-]+);?$", re.MULTILINE)
+# use CRATE::MODULE::NAME; or use CRATE::MODULE::{NAMES};
+RT_USE = re.compile(r"^(?:pub(?:\(crate\))? )?use ((?:\w+::)+)(?:(\w+)|\{([^{}]*)\});$", re.MULTILINE)
+# what the checker makes of a type or of a contract, as a module of that name
+MADE = re.compile(r"The[A-Z]\w*|Reads")
 DECLARED = r"(?:pub(?:\(crate\))? )?(?:struct|enum) {}\b"
-FUNCTION = r'(?:pub(?:\(crate\))? )?(?:extern "C" )?fn {}\b'
+FUNCTION = r'(?:pub(?:\(crate\))? )?(?:unsafe )?(?:extern "C" )?fn {}\b'
 
 Row = collections.namedtuple("Row", "line promise statement figures")
 
@@ -66,24 +70,26 @@ class Reading:
 
     def use(self, path, module, names):
         """What a `use` line of the file at this path leads to."""
-        crate, _, inside = module.partition(".")
-        if not crate.startswith("Rattle·"):
-            self.library.update(f"{module}.{name.strip()}" for name in names.split(","))
+        first, *parts = module.split(".")
+        crate = parts.pop(0) if first == "Rattle" and parts else ""
+        if not crate or not (ROOT / "crates" / crate).is_dir():
+            self.library.update(f"{module}.{name.strip()}" for name in names.split(",") if name.strip())
             return
-        crate, parts = crate.split("·")[1], inside.split(".")
         file = f"crates/{crate}/specs/{'/'.join(parts[1:])}.antt"
         if parts[0] == "specs" and (ROOT / file).is_file():
             self.specs(file)
         elif parts[:2] == ["specs", "declared"]:
-            self.source(crate, [part for part in parts[2:] if part != "the-variants"], DECLARED)
-        elif parts[0] == "proofs":
-            self.source(crate, [part for part in parts[1:] if part != "Reads"], FUNCTION)
+            self.source(crate, [part for part in parts[2:] if not MADE.fullmatch(part)], DECLARED)
+        elif parts[:2] == ["specs", "contracts"]:
+            self.source(crate, [part for part in parts[2:] if not MADE.fullmatch(part)], FUNCTION)
+        elif parts[:1] == ["proofs"]:
+            self.source(crate, [part for part in parts[1:] if not MADE.fullmatch(part)], FUNCTION)
         else:
             raise Unreadable(f"{path} uses {module}, which is no file")
 
     def source(self, crate, parts, form):
         """An item of a crate's source, by its modules and its name."""
-        *modules, name = parts
+        *modules, name = parts or [""]
         self.item(source_file(crate, modules), form, name)
 
     def item(self, path, form, name):
@@ -109,16 +115,17 @@ class Reading:
 
     def mentioned(self, path, text, code, item):
         """The types and, in a contract, the definitions that an item of the source names."""
-        words = set(re.findall(r"[\w′-]+", code)) - {item}
+        words = set(re.findall(r"[\w'-]+", code)) - {item}
         for module, names in USE.findall(text):
-            named = [name for name in (name.strip() for name in names.split(",")) if name.strip("«»") in words or name.strip("_") in code.split()]
+            named = [name for name in (name.strip() for name in names.split(",")) if name.strip("«»") in words or name.strip("◌") in code.split()]
             if named:
                 self.use(path, module, ",".join(named))
-        for used in RT_USE.findall(text):
-            crate, *modules, name = used.split("::")
+        for modules, name, names in RT_USE.findall(text):
+            crate, *modules = modules.split("::")[:-1]
             crate = path.split("/")[1] if crate == "crate" else crate
-            if name in words and (ROOT / "crates" / crate).is_dir() and has(source_file(crate, modules), DECLARED, name):
-                self.source(crate, [*modules, name], DECLARED)
+            for name in [name] if name else [name.strip() for name in names.split(",")]:
+                if name in words and (ROOT / "crates" / crate).is_dir() and has(source_file(crate, modules), DECLARED, name):
+                    self.source(crate, [*modules, name], DECLARED)
         for word in sorted(words):
             if has(path, DECLARED, word):
                 self.item(path, DECLARED, word)
@@ -229,6 +236,17 @@ def faults_in(text):
         yield f"{REVIEW}: no row has figures"
 
 
+def write():
+    """Puts the figures that are counted in the place of those that stand, in each row that can be read."""
+    lines, above = read(REVIEW).split("\n"), []
+    for row in rows_of("\n".join(lines)):
+        starts = above if row.statement == "the rows above" else list(starts_in(row.statement))
+        above = above + starts
+        lines[row.line - 1] = FIGURES.sub(said(reading_of(starts).figures()), lines[row.line - 1])
+    (ROOT / REVIEW).write_text("\n".join(lines), encoding="utf8")
+    read.cache_clear()
+
+
 def check():
     text = read(REVIEW)
     faults = list(faults_in(text))
@@ -241,7 +259,9 @@ def main(arguments):
         print(__doc__)
         return 2
     try:
-        if arguments == ["check"]:
+        if arguments == ["write"]:
+            write()
+        if arguments in (["check"], ["write"]):
             return check()
         if arguments[0] == "list":
             print("\n".join(listed(reading_of(arguments[1:]))))

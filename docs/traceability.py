@@ -5,7 +5,9 @@
     docs/traceability.py write    writes docs/CLAUSES.md anew
 """
 import collections
+import functools
 import hashlib
+import os
 import pathlib
 import re
 import sys
@@ -21,7 +23,7 @@ NO_CITATION = re.compile(r"\[\d+\.\d+[^\]\w][^\]]*\]")
 PROOFS_ONLY = "For the proofs only"
 # where citations are looked at: in no stored input or output, nor where clauses that do not exist are cited in order to be refused
 ENDINGS = (".md", ".rt", ".antt", ".edit", ".rs", ".h", ".c", ".py", ".sh", ".txt")
-NOT_LOOKED_AT = {".git", "target", "traceability_test.py"}
+NOT_LOOKED_AT = {".git", "target", "out", "traceability_test.py"}
 
 Section = collections.namedtuple("Section", "title lines")
 Clause = collections.namedtuple("Clause", "number title lines section note")
@@ -31,14 +33,18 @@ Repository = collections.namedtuple("Repository", "files sections clauses items"
 
 
 def is_looked_at(path):
-    if NOT_LOOKED_AT.intersection(path.parts) or not (ROOT / path).is_file():
+    if path.name in NOT_LOOKED_AT or not (ROOT / path).is_file():
         return False
     return path.suffix in ENDINGS or (path.suffix == "" and (ROOT / path).read_bytes().startswith(b"#!"))
 
 
 def read_files():
     """The text of each file that is looked at, by its path."""
-    paths = sorted(path.relative_to(ROOT) for path in ROOT.rglob("*"))
+    paths = []
+    for folder, folders, names in os.walk(ROOT):
+        folders[:] = set(folders) - NOT_LOOKED_AT
+        paths += [(pathlib.Path(folder) / name).relative_to(ROOT) for name in names]
+    paths.sort()
     return {path.as_posix(): (ROOT / path).read_text(encoding="utf8") for path in paths if is_looked_at(path)}
 
 
@@ -100,7 +106,7 @@ def fingerprint(lines):
 # a definition at the start of a line, or an indented one, which a word before `pub` or `record` or `data` tells from a field
 ANTT = re.compile(r"(?:\s*(?:[a-z]+ )+pub|pub|\s*pub(?= record | data )) (?:record |data )?(?!mod )([^\s:({]+)")
 ANTT_PART = re.compile(r"  (?:pub )?([^\s:(){}]+) :")
-RT = re.compile(r'(pub(?:\(crate\))? )?(?:extern "C" )?(fn|struct|enum|const|type) (\w+)')
+RT = re.compile(r'(pub(?:\(crate\))? )?(?:unsafe )?(?:extern "C" )?(fn|struct|enum|const|type) (\w+)')
 RT_PART = re.compile(r"    (?:pub )?(\w+)[:(,]")
 
 
@@ -125,31 +131,47 @@ def rt_item(line, inside):
 
 
 def head_of(lines):
-    """A function up to the brace that opens its body, without comments."""
-    code = [line.split("//")[0].rstrip() for line in lines]
-    end = next((number for number, line in enumerate(code) if line == "{" or line.endswith(" {")), len(code))
-    return "\n".join(code[:end + 1])
+    """A function up to the brace that opens its body, without comments. The brace of a clause is closed within the head."""
+    code, depth = [], 0
+    for line in lines:
+        code.append(line.split("//")[0].rstrip())
+        is_clause = depth > 0 or re.match(r"\s*(?:requires|ensures)\b", code[-1])
+        if is_clause:
+            depth += code[-1].count("{") - code[-1].count("}")
+        elif code[-1] == "{" or code[-1].endswith((" {", ";")):
+            break
+    return "\n".join(code)
 
 
+@functools.cache
 def items_in(path, text):
     item_at, slashes = (antt_item, "--") if path.endswith(".antt") else (rt_item, "//")
-    lines, comment, inside = text.splitlines(), [], None
+    lines, comment, inside, in_attribute, items = text.splitlines(), [], None, False, []
     for number, line in enumerate(lines, 1):
-        if line.strip().startswith(slashes):
+        # an attribute stands between a comment and its item, perhaps on several lines
+        in_attribute = in_attribute or line.startswith("#[")
+        if in_attribute:
+            in_attribute = not line.rstrip().endswith("]")
+        elif line.strip().startswith(slashes):
             comment.append(line.strip()[len(slashes):].strip())
-        elif not line.startswith("#["):
+        else:
             found = item_at(line, inside)
             if found:
                 name, kind, public = found
                 head = head_of(lines[number - 1:]) if kind == "fn" else ""
-                yield Item(path, number, name, kind, public, " ".join(comment), head)
+                items.append(Item(path, number, name, kind, public, " ".join(comment), head))
                 inside = inside if kind in ("part", "row") else (name, kind)
             comment = []
+    return items
+
+
+# a line of crates.txt: a name, and perhaps what kind of crate it is
+CRATE = re.compile(r"^(\w+)(?: [^:#\n]*)?:", re.MULTILINE)
 
 
 def items_of(files):
     """In the order of crates.txt: of each crate its code, what a customer reads, and its proofs."""
-    for crate in re.findall(r"^(\w+):", files["crates.txt"], re.MULTILINE):
+    for crate in CRATE.findall(files["crates.txt"]):
         for folder in ("src", "specs", "proofs"):
             for path, text in files.items():
                 if path.startswith(f"crates/{crate}/{folder}/") and path.endswith((".rt", ".antt")):
@@ -163,8 +185,14 @@ def delivers(item):
     return item.kind in ("definition", "part", "row", "struct", "enum") and ("/proofs/" not in item.path or item.public)
 
 
-def cites(item, clause):
-    return clause.number in CITATION.findall(item.comment)
+def delivering(items):
+    """What delivers each clause, by the clause's number."""
+    found = collections.defaultdict(list)
+    for item in items:
+        if delivers(item):
+            for number in dict.fromkeys(CITATION.findall(item.comment)):
+                found[number].append(item)
+    return found
 
 
 def is_for_proofs_only(files, path):
@@ -200,8 +228,9 @@ def check_numbers(repository):
 
 
 def check_cited(repository):
+    found = delivering(repository.items)
     for clause in repository.clauses:
-        if not clause.note and not any(cites(item, clause) for item in repository.items if delivers(item)):
+        if not clause.note and clause.number not in found:
             yield f"{SPECIFICATION}: [{clause.number}] stands above no definition, statement or contract"
 
 
@@ -231,8 +260,8 @@ def check_promises(repository):
 
 def imported_specs(text):
     """The spec file that each name comes from."""
-    found = re.findall(r"^(?:ghost )?use Rattle·(\w+)(?:·specs)?(?:\.specs)+\.(\w+)\.\{([^}]*)\}", text, re.MULTILINE)
-    return {name.strip(" «»"): f"crates/{crate}/specs/{file}.antt" for crate, file, names in found for name in names.split(",")}
+    found = re.findall(r"^(?:ghost )?use Rattle\.(\w+)\.specs\.(\w+)\.\{([^}]*)\}", text, re.MULTILINE)
+    return {name.strip(" \n«»"): f"crates/{crate}/specs/{file}.antt" for crate, file, names in found for name in names.split(",")}
 
 
 def check_proofs_only(repository):
@@ -240,7 +269,7 @@ def check_proofs_only(repository):
     for item in repository.items:
         if item.kind == "fn" and item.public:
             specs = imported_specs(repository.files[item.path])
-            for name in sorted(set(re.findall(r"[\w′]+", item.head)) & set(specs)):
+            for name in sorted(set(re.findall(r"[\w']+", item.head)) & set(specs)):
                 if is_for_proofs_only(repository.files, specs[name]):
                     yield f"{item.path}:{item.line}: {item.name} is public, and {name} of its contract is for the proofs only"
     for path in dict.fromkeys(item.path for item in repository.items if is_read(repository.files, item)):
@@ -287,23 +316,22 @@ def names_in(items):
 
 
 def rows_of(clause, items):
-    """A row for each file that delivers the clause."""
-    delivering = [item for item in items if delivers(item) and cites(item, clause)]
-    paths = dict.fromkeys(item.path for item in delivering)
-    rows = [f"{names_in(item for item in delivering if item.path == path)} | `{path}` |" for path in paths] or [" | |"]
+    """A row for each file that delivers the clause: `items` are those that do."""
+    paths = dict.fromkeys(item.path for item in items)
+    rows = [f"{names_in(item for item in items if item.path == path)} | `{path}` |" for path in paths] or [" | |"]
     note = " *(note)*" if clause.note else ""
     first = f"[{clause.number}] {clause.title}{note} | `{fingerprint(clause.lines)}`"
     return [f"| {first} | {rows[0]}"] + [f"| | | {row}" for row in rows[1:]]
 
 
 def table_of(repository):
-    lines = []
+    lines, found = [], delivering(repository.items)
     for section in repository.sections:
         lines += [f"## {section.title}, `{fingerprint(section.lines)}`", ""]
         clauses = [clause for clause in repository.clauses if clause.section == section.title]
         if not all(clause.note for clause in clauses):
             lines += ["| clause | text | definition, statement or contract | file |", "|---|---|---|---|"]
-            lines += [row for clause in clauses for row in rows_of(clause, repository.items)] + [""]
+            lines += [row for clause in clauses for row in rows_of(clause, found[clause.number])] + [""]
     return "\n".join(lines)
 
 

@@ -10,6 +10,8 @@ ANSWERS = "crates/model/specs/Answers.antt"
 WHOLES = "crates/grammar/specs/Wholes.antt"
 STEP = "crates/machine/src/lib.rt"
 PUTS = "crates/text/specs/Puts.antt"
+PASSES = "crates/trace/specs/Passes.antt"
+PRELUDE = "use Rattle.std.specs.Prelude."
 NEW = "\n- [2.55] **New.**\n- [2.60] "
 STALE = "the page is not the one"
 
@@ -68,19 +70,19 @@ EDITS = [
     (
         "so does a file that a customer reads",
         [
-            ("crates/trace/specs/Passes.antt", "use Prim", "use Rattle·layout.specs.Steps.{surveyIn}\nuse Prim"),
-            ("crates/trace/specs/Passes.antt", "For the proofs only.", ""),
+            (PASSES, PRELUDE, f"use Rattle.layout.specs.Steps.{{survey_in}}\n{PRELUDE}"),
+            (PASSES, "For the proofs only.", ""),
         ],
-        "surveyIn is for the proofs only",
+        "survey_in is for the proofs only",
     ),
     (
         "a public function asks for something",
-        [(STEP, "    ensures { λ r. ⌜ r ≡ freshOf", "    requires { ⌜ 1 ≤ n ⌝ }\n    ensures { λ r. ⌜ r ≡ freshOf")],
+        [(STEP, "    ensures { result ≡ fresh_of", "    requires { 1 ≤ n }\n    ensures { result ≡ fresh_of")],
         "fresh is public and has a requires",
     ),
     (
         "it does so on the line of its signature",
-        [(STEP, "fresh(parameters: Parameters) -> Outcome\n", "fresh(parameters: Parameters) -> Outcome requires { ⌜ 1 ≤ n ⌝ }\n")],
+        [(STEP, "fresh(parameters: Parameters) -> Outcome\n", "fresh(parameters: Parameters) -> Outcome requires { 1 ≤ n }\n")],
         "fresh is public and has a requires",
     ),
     # CLAUSES

@@ -1,4 +1,4 @@
-//! Finds libfunnelfawn.a: in the directory that FUNNELFAWN_LIB names, else where `rt staticlib funnelfawn` writes it.
+//! Finds libfunnelfawn.a: in the directory that FUNNELFAWN_LIB names, else where `tools/build funnelfawn` puts it.
 
 use std::env::var_os;
 use std::path::{Path, PathBuf};
@@ -15,7 +15,7 @@ fn main() {
     println!("cargo:rerun-if-changed={}", archive.display());
     if !archive.is_file() {
         eprintln!("funnelfawn: there is no {}.", archive.display());
-        eprintln!("Either run `rt staticlib funnelfawn` at the top of the repository, which writes it to target/staticlib,");
+        eprintln!("Either run `tools/build funnelfawn` at the top of the repository, which puts it into target/staticlib,");
         eprintln!("or set the environment variable FUNNELFAWN_LIB to the directory that has {ARCHIVE} (an absolute path).");
         exit(1);
     }

@@ -105,8 +105,10 @@ module _ {k : Parameters} {s : State} (r : Reached k s) (p : ℕ) (some : 1 ≤ 
 
 run_in_order : {k : Parameters} {s : State} → Reached k s → (p : ℕ) → 1 ≤ p → (events : List Event) → InOrder s.clock (accepted_log p (attempts_from s events))
 unfolding results_by attempts_of accepted_log
-run_in_order r p some [] = tt
-run_in_order {s = s} r p some (e ∷ es) = in_order_next r p some e (attempts_from (next r p some e) es) (run_in_order (next_reached r p some e) p some es)
+run_in_order {k = k} {s = s} r p some [] = tt
+run_in_order {k = k} {s = s} r p some (e ∷ es) =
+    in_order_next r p some e (attempts_from (next r p some e) es)
+    (run_in_order {k = k} {s = next r p some e} (next_reached r p some e) p some es)
 
 -- Every trace
 

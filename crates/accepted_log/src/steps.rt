@@ -2,7 +2,7 @@
 // As no more is kept than has been looked at, nothing is written over before it is read.
 ghost use Rattle.std.specs.Prelude.{◌≡◌, [], ◌∷◌, ◌+◌, ◌≤◌, ◌<◌, length, get_or, drop};
 ghost use Rattle.model.specs.Tallies.{attempt};
-ghost use Rattle.model.specs.Readings.{lists, lent};
+ghost use Rattle.model.specs.Readings.{lists};
 ghost use Rattle.model.specs.Writings.{events_of};
 ghost use Rattle.model.specs.Executions.{attempts_from};
 ghost use Rattle.execution.specs.Turns.{attempts_by_rows};
@@ -77,7 +77,7 @@ pub(crate) fn keep_steps(
     actions: &mut [u64],
 ) -> usize
     requires { (length times.old ≡ length processes.now) × (length actions.old ≡ length processes.now) }
-    ensures { Kept (accepted_log process (attempts_from first (events_of (lent times.entry processes.entry actions.entry))))
+    ensures { Kept (accepted_log process (attempts_from first (events_of (lists times.old processes.now actions.old))))
         0 result times.old actions.old times.new actions.new }
 {
     let mut answers = answer_rows();

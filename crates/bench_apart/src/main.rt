@@ -2,10 +2,11 @@
 #![tactic(auto)]
 
 use rules::actions::WAIT;
+use std::io;
 
-fn main() {
-    let case = workload::chosen();
+fn main(rt: HostRuntime) -> io::Result<()> {
+    let case = workload::chosen(&rt);
     // a wait at the clock's own time, which changes nothing
     let first = machine::step(workload::state_of(case), WAIT, 0, 0);
-    workload::run(case, first.state);
+    workload::run(&rt, case, first.state)
 }

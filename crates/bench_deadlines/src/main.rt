@@ -4,7 +4,7 @@
 
 use deadlines::locations::dated;
 use deadlines::{DeadlineLocation, DeadlineProcess, DeadlineState, entry_with, step};
-use libc::STDOUT_FILENO;
+use std::io;
 use std::num::wrapping_add_u64;
 use values::limits::limit_of;
 use workload::{act_of, chosen, state_of};
@@ -37,7 +37,7 @@ fn start_of(case: u64) -> DeadlineState {
     }
 }
 
-fn run(case: u64, start: DeadlineState, steps: u64) {
+fn run(rt: &impl Print, case: u64, start: DeadlineState, steps: u64) -> io::Result<()> {
     let mut state = start;
     let mut sum: u64 = 0;
     for i in 0..steps {
@@ -50,10 +50,8 @@ fn run(case: u64, start: DeadlineState, steps: u64) {
         let next = outcome.state;
         state = next;
     }
-    io::print_decimal(STDOUT_FILENO, sum);
-    io::write_all(STDOUT_FILENO, b" ");
-    io::print_decimal(STDOUT_FILENO, state.clock);
-    io::write_all(STDOUT_FILENO, b"\n");
+    let clock = state.clock;
+    println!(rt; "{sum} {clock}")
 }
 
 fn steps_of(case: u64) -> u64 {
@@ -63,7 +61,7 @@ fn steps_of(case: u64) -> u64 {
     2000
 }
 
-fn main() {
-    let case = chosen();
-    run(case, start_of(case), steps_of(case));
+fn main(rt: HostRuntime) -> io::Result<()> {
+    let case = chosen(&rt);
+    run(&rt, case, start_of(case), steps_of(case))
 }

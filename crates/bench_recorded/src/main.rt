@@ -2,34 +2,30 @@
 // the counts with the longest wait, as the programs of `bench` in Rust do.
 #![tactic(auto)]
 
-use libc::STDOUT_FILENO;
 use model::{Counts, State};
 use statistics::{new_statistics, record};
+use std::io;
 use std::num::wrapping_add_u64;
 use workload::{act_of, chosen, state_of};
 
 // The case that makes no step.
 const NONE: u64 = 0;
 
-fn put(number: u64) {
-    io::print_decimal(STDOUT_FILENO, number);
-    io::write_all(STDOUT_FILENO, b", ");
+fn put(rt: &impl Print, number: u64) -> io::Result<()> {
+    print!(rt; "{number}, ")
 }
 
-fn report(sum: u64, clock: u64, counts: Counts) {
-    io::print_decimal(STDOUT_FILENO, sum);
-    io::write_all(STDOUT_FILENO, b" ");
-    io::print_decimal(STDOUT_FILENO, clock);
-    io::write_all(STDOUT_FILENO, b" [");
-    put(counts.accepted);
-    put(counts.refused);
-    put(counts.entries);
-    put(counts.exits);
-    io::print_decimal(STDOUT_FILENO, counts.longest);
-    io::write_all(STDOUT_FILENO, b"]\n");
+fn report(rt: &impl Print, sum: u64, clock: u64, counts: Counts) -> io::Result<()> {
+    print!(rt; "{sum} {clock} [")?;
+    put(rt, counts.accepted)?;
+    put(rt, counts.refused)?;
+    put(rt, counts.entries)?;
+    put(rt, counts.exits)?;
+    let longest = counts.longest;
+    println!(rt; "{longest}]")
 }
 
-fn run(case: u64, start: State, steps: u64) {
+fn run(rt: &impl Print, case: u64, start: State, steps: u64) -> io::Result<()> {
     let mut state = start;
     let mut summary = new_statistics();
     let mut sum: u64 = 0;
@@ -44,7 +40,7 @@ fn run(case: u64, start: State, steps: u64) {
         state = outcome.state;
         summary = recorded.statistics;
     }
-    report(sum, state.clock, summary.counts);
+    report(rt, sum, state.clock, summary.counts)
 }
 
 fn steps_of(case: u64) -> u64 {
@@ -54,7 +50,7 @@ fn steps_of(case: u64) -> u64 {
     2000
 }
 
-fn main() {
-    let case = chosen();
-    run(case, state_of(case), steps_of(case));
+fn main(rt: HostRuntime) -> io::Result<()> {
+    let case = chosen(&rt);
+    run(&rt, case, state_of(case), steps_of(case))
 }

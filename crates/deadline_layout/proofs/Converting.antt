@@ -26,7 +26,7 @@ use Rattle.layout.specs.Interface.{lent_gave}
 use Rattle.layout.specs.Numbers.{IsWhole}
 use Rattle.layout.specs.Places.{placed_at}
 use Rattle.layout.specs.Places.{location_in as plain_in}
-use Rattle.layout.proofs.Entries.{entry_in}
+use Rattle.layout.proofs.Entries.{entry-in}
 use Rattle.layout.proofs.Entries.{entries_size as Plain-size}
 use Rattle.layout.proofs.Encodings.{table-length as plain-length}
 use Rattle.layout.proofs.Encodings.{table_fits as plain_fits}
@@ -107,7 +107,7 @@ module _ (l : List ℕ) (long : length l ≡ table_length) (sound : sound_of (st
       ap (λ (q : DeadlineProcess). q.location) (dated-at k 1 s.processes i)
       ∙ sym (dated_fits k (1 + i) (get_or s.processes i idle).location
       (omega (arith, sound_past s sound i, (sound_numbers s sound).clock)) few.opens few.closes (few.limit (1 + i)))
-      ∙ (λ j. dated_with k.b k.c (limit_in k (e j)) (entry_in l long i more idle j).location)
+      ∙ (λ j. dated_with k.b k.c (limit_in k (e j)) (entry-in l long i more idle j).location)
 
   pub dated_written : (out : List ℕ) (i : ℕ) → EntriesWritten (matched s) out i → i < 96
       → {q : DeadlineLocation} → q ≡ dated_with (b_in l) (c_in l) (get_or l (limit_place i) 0) (plain_in l i)

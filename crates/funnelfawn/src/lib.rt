@@ -1,11 +1,11 @@
-// The box for callers in C: each function takes numbers and lists of numbers, any at all, and gives back what its definition says, the
-// lent numbers included. include/funnelfawn.h says the same in C.
+// The box for callers that hold numbers: each function takes numbers and lists of numbers, any at all, and gives back what its definition
+// says, the lent numbers included. `funnelfawn_c` exports them, and include/funnelfawn.h says the same in C.
 
 #![tactic(auto)]
 
 ghost use Rattle.std.specs.Prelude.{◌≡◌};
 ghost use Rattle.model.specs.States.{parameters_of, limits_in};
-ghost use Rattle.model.specs.Readings.{lent};
+ghost use Rattle.model.specs.Readings.{lent, lists};
 ghost use Rattle.model.specs.Writings.{events_of, write_gave, write_of};
 ghost use Rattle.model.specs.Reports.{report_of};
 ghost use Rattle.trace.specs.ReadingTo.{read_to_gave, read_to_of};
@@ -31,8 +31,7 @@ use values::answer_with;
 use values::limits::limits_in;
 
 // [9.15] [21.110] The layout of what is lent, as one number.
-#[unsafe(no_mangle)]
-pub extern "C" fn funnelfawn_layout() -> u64
+pub fn funnelfawn_layout() -> u64
     ensures { result ≡ layout_number }
 {
     layout::number()
@@ -51,32 +50,28 @@ fn parameters_with(n: u64, b: u64, c: u64, a: &[u64]) -> Parameters
 }
 
 // [9.45] [9.50] [21.110] A fresh table, in the lent numbers.
-#[unsafe(no_mangle)]
-pub extern "C" fn funnelfawn_fresh(n: u64, b: u64, c: u64, a: &[u64], table: &mut [u64]) -> Answer
+pub fn funnelfawn_fresh(n: u64, b: u64, c: u64, a: &[u64], table: &mut [u64]) -> Answer
     ensures { lent_gave result table.new ≡ lent_fresh (parameters_of n b c (limits_in a.now)) table.old }
 {
     layout::fresh(parameters_with(n, b, c, a), table)
 }
 
 // [9.60] [21.110] One act, in the lent table.
-#[unsafe(no_mangle)]
-pub extern "C" fn funnelfawn_step(table: &mut [u64], action: u64, process: u64, time: u64) -> Answer
+pub fn funnelfawn_step(table: &mut [u64], action: u64, process: u64, time: u64) -> Answer
     ensures { lent_gave result table.new ≡ lent_step table.old action process time }
 {
     layout::step(table, action, process, time)
 }
 
 // [9.70] [21.110] A new summary, in the lent numbers.
-#[unsafe(no_mangle)]
-pub extern "C" fn funnelfawn_new_summary(summary: &mut [u64]) -> Answer
+pub fn funnelfawn_new_summary(summary: &mut [u64]) -> Answer
     ensures { summary_gave result summary.new ≡ lent_summary summary.old }
 {
     layout::new_summary(summary)
 }
 
 // [9.80] [21.110] One act, in the lent table, counted in the lent summary.
-#[unsafe(no_mangle)]
-pub extern "C" fn funnelfawn_record(
+pub fn funnelfawn_record(
     table: &mut [u64],
     summary: &mut [u64],
     action: u64,
@@ -90,23 +85,21 @@ pub extern "C" fn funnelfawn_record(
 }
 
 // [9.90] [21.110] Reads a recording: its values of a go to a list, and its steps to three.
-#[unsafe(no_mangle)]
-pub extern "C" fn funnelfawn_read(
+pub fn funnelfawn_read(
     text: &[u8],
     a: &mut [u64],
     times: &mut [u64],
     processes: &mut [u64],
     actions: &mut [u64],
 ) -> ReadingTo
-    ensures { read_to_gave result a.new (lent times.exit processes.exit actions.exit)
-        ≡ read_to_of text.now a.old (lent times.entry processes.entry actions.entry) }
+    ensures { read_to_gave result a.new (lists times.new processes.new actions.new)
+        ≡ read_to_of text.now a.old (lists times.old processes.old actions.old) }
 {
     trace::read_to(text, a, times, processes, actions)
 }
 
 // [9.45] [9.100] [21.110] Writes a recording of the steps in the three lists.
-#[unsafe(no_mangle)]
-pub extern "C" fn funnelfawn_write(
+pub fn funnelfawn_write(
     n: u64,
     b: u64,
     c: u64,
@@ -125,24 +118,21 @@ pub extern "C" fn funnelfawn_write(
 }
 
 // [9.110] [21.110] Writes what `replay` prints for a recording.
-#[unsafe(no_mangle)]
-pub extern "C" fn funnelfawn_replay(text: &[u8], out: &mut [u8]) -> Answer
+pub fn funnelfawn_replay(text: &[u8], out: &mut [u8]) -> Answer
     ensures { write_gave result out.new ≡ report_of text.now out.old }
 {
     report(text, out)
 }
 
 // [9.112] [21.110] Writes the spans of selling of a recording.
-#[unsafe(no_mangle)]
-pub extern "C" fn funnelfawn_spans(text: &[u8], out: &mut [u8]) -> Answer
+pub fn funnelfawn_spans(text: &[u8], out: &mut [u8]) -> Answer
     ensures { write_gave result out.new ≡ write_intervals_of text.now out.old }
 {
     write_intervals(text, out)
 }
 
 // [13.120] [13.148] [21.110] The accepted acts of a window in a recording: their times and acts go to two lists.
-#[unsafe(no_mangle)]
-pub extern "C" fn funnelfawn_accepted_acts(
+pub fn funnelfawn_accepted_acts(
     text: &[u8],
     process: u64,
     times: &mut [u64],
@@ -155,8 +145,7 @@ pub extern "C" fn funnelfawn_accepted_acts(
 }
 
 // [13.90] [13.148] [21.110] A till's notebook, its stamps and claims, held against a list of accepted acts.
-#[unsafe(no_mangle)]
-pub extern "C" fn funnelfawn_compare_logs(
+pub fn funnelfawn_compare_logs(
     stamps: &[u64],
     claims: &[u64],
     times: &[u64],
@@ -173,29 +162,21 @@ pub extern "C" fn funnelfawn_compare_logs(
 }
 
 // [10.60] [10.130] [21.110] An empty board of a width, in the lent numbers.
-#[unsafe(no_mangle)]
-pub extern "C" fn funnelfawn_set_up_board(width: u64, board: &mut [u64]) -> Answer
+pub fn funnelfawn_set_up_board(width: u64, board: &mut [u64]) -> Answer
     ensures { board_gave result board.new ≡ lent_set_up width board.old }
 {
     recent::set_up(width, board)
 }
 
 // [10.70] [10.140] [21.110] An entry more, in the lent board.
-#[unsafe(no_mangle)]
-pub extern "C" fn funnelfawn_add_to_board(
-    board: &mut [u64],
-    time: u64,
-    process: u64,
-    wait: u64,
-) -> Answer
+pub fn funnelfawn_add_to_board(board: &mut [u64], time: u64, process: u64, wait: u64) -> Answer
     ensures { board_gave result board.new ≡ lent_add board.old time process wait }
 {
     recent::add(board, time, process, wait)
 }
 
 // [10.80] [10.140] [21.110] The figures of the lent board at a clock.
-#[unsafe(no_mangle)]
-pub extern "C" fn funnelfawn_show_board(board: &mut [u64], clock: u64) -> Answer
+pub fn funnelfawn_show_board(board: &mut [u64], clock: u64) -> Answer
     ensures { board_gave result board.new ≡ lent_show board.old clock }
 {
     recent::show(board, clock)
@@ -221,8 +202,7 @@ fn alone(answer: Answer) -> Told
 
 // [10.200] [10.205] [21.110] One act, in the lent table, counted in the lent summary; the lent board is told of an accepted crit, with
 // the wait that the recorded step hands on.
-#[unsafe(no_mangle)]
-pub extern "C" fn funnelfawn_record_and_tell(
+pub fn funnelfawn_record_and_tell(
     table: &mut [u64],
     summary: &mut [u64],
     board: &mut [u64],
@@ -252,8 +232,7 @@ pub extern "C" fn funnelfawn_record_and_tell(
 // The second engine
 
 // [9.45] [12.120] [21.110] A fresh deadline table, in the lent numbers.
-#[unsafe(no_mangle)]
-pub extern "C" fn funnelfawn_fresh_deadlines(
+pub fn funnelfawn_fresh_deadlines(
     n: u64,
     b: u64,
     c: u64,
@@ -267,8 +246,7 @@ pub extern "C" fn funnelfawn_fresh_deadlines(
 }
 
 // [12.130] [21.110] One act, in the lent deadline table.
-#[unsafe(no_mangle)]
-pub extern "C" fn funnelfawn_step_deadlines(
+pub fn funnelfawn_step_deadlines(
     deadlines: &mut [u64],
     action: u64,
     process: u64,
@@ -280,16 +258,14 @@ pub extern "C" fn funnelfawn_step_deadlines(
 }
 
 // [12.140] [21.110] From a table to the deadline table that matches it.
-#[unsafe(no_mangle)]
-pub extern "C" fn funnelfawn_to_deadlines(table: &[u64], deadlines: &mut [u64]) -> Answer
+pub fn funnelfawn_to_deadlines(table: &[u64], deadlines: &mut [u64]) -> Answer
     ensures { lent_gave result deadlines.new ≡ lent_to_deadlines table.now deadlines.old }
 {
     deadline_layout::to_deadlines(table, deadlines)
 }
 
 // [12.140] [21.110] From a deadline table to the table that matches it.
-#[unsafe(no_mangle)]
-pub extern "C" fn funnelfawn_to_arrivals(deadlines: &[u64], table: &mut [u64]) -> Answer
+pub fn funnelfawn_to_arrivals(deadlines: &[u64], table: &mut [u64]) -> Answer
     ensures { lent_gave result table.new ≡ lent_to_arrivals deadlines.now table.old }
 {
     deadline_layout::to_arrivals(deadlines, table)

@@ -93,10 +93,10 @@ module _ {k : Parameters} {s : State} (g : Guarded k s) (e : Event) where
 pub run_alternates : {k : Parameters} {s : State} → Guarded k s → (events : List Event)
     → Alternate (critical_of s) s.clock (attempts_from s events) (critical_of (state_from s events))
 unfolding end_by results_by attempts_of
-run_alternates g [] = ended
-run_alternates g (e ∷ es) = turned (turn g e) (run_alternates (turn_guarded g e) es)
+run_alternates {k = k} {s = s} g [] = ended
+run_alternates {k = k} {s = s} g (e ∷ es) = turned (turn g e) (run_alternates {k = k} {s = (step_by s e).state} (turn_guarded g e) es)
 
 pub run_guarded : {k : Parameters} {s : State} → Guarded k s → (events : List Event) → Guarded k (state_from s events)
 unfolding end_by
-run_guarded g [] = g
-run_guarded g (e ∷ es) = run_guarded (turn_guarded g e) es
+run_guarded {k = k} {s = s} g [] = g
+run_guarded {k = k} {s = s} g (e ∷ es) = run_guarded {k = k} {s = (step_by s e).state} (turn_guarded g e) es

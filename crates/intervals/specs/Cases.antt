@@ -1,5 +1,5 @@
 -- Section 11 of the specification, its cases: whole traces, byte for byte, and a list that no run makes. Assumes nothing.
-use Rattle.std.specs.Prelude.{ℕ, ◌≡◌, List, [], ◌∷◌, ◌++◌}
+use Rattle.std.specs.Prelude.{ℕ, ◌≡◌, List, [], ◌∷◌}
 use Rattle.model.specs.Acts.{crit_act, exit_act}
 use Rattle.model.specs.Tallies.{attempt}
 use Rattle.model.specs.Texts.{bytes}

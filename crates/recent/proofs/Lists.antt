@@ -58,7 +58,7 @@ follows_all : {w : ℕ} (log : List Asked) (l : List ℕ) (ds : List BoardCall) 
     → LentFollows w (log_by asked_by log ds (results_by lent_board_call board_after l ds)) (end_by lent_board_call board_after l ds)
 unfolding log_by results_by end_by
 follows_all log l [] h = h
-follows_all log l (d ∷ ds) h = follows_all _ (lent_board_call l d).board ds (lent-next h d)
+follows_all log l (d ∷ ds) h = follows_all (asked_by d (lent_board_call l d) ∷ log) (lent_board_call l d).board ds (lent-next h d)
 
 -- Lent numbers that tell no sound board
 

@@ -61,13 +61,13 @@ latest_most t (e ∷ es) o =
     omega (arith, head.0, latest_most e.time es head.1)
 
 -- entries in order whose last is not past u have none past u
-pub none_after : (t u : ℕ) (es : List Entry) → in_order t es ≡ true → latest t es ≤ u → none_after u es ≡ true
+pub none-after : (t u : ℕ) (es : List Entry) → in_order t es ≡ true → latest t es ≤ u → none_after u es ≡ true
 unfolding none_after latest
-none_after t u [] o h = refl
-none_after t u (e ∷ es) o h =
+none-after t u [] o h = refl
+none-after t u (e ∷ es) o h =
     let rest = (order_head t e es o).1 in
     let here : e.time ≤ u = omega (arith, latest_most e.time es rest) in
-    simp (le-leb _ _ here) (none_after e.time u es rest h)
+    simp (le-leb _ _ here) (none-after e.time u es rest h)
 
 -- a last time past u, where u is not before t, is that of an entry
 pub some_after : (t u : ℕ) (es : List Entry) → t ≤ u → u < latest t es → none_after u es ≡ false

@@ -9,7 +9,7 @@ use lib.Dec.{leb}
 use lib.ListN.{length}
 use borrow.Author.Tests.{lt-ltb, le-ltb, lt-leb, eq-eqb, ne_eqb, leb-true, le-leb}
 use Rattle.model.specs.declared.Answer.{Answer}
-use Rattle.model.specs.Answers.{answer_of, beyond}
+use Rattle.model.specs.Answers.{answer_of}
 use Rattle.model.proofs.Tests.{by_test}
 use Rattle.recent.specs.Boards.{Entry, entry_with, Board, width_stands, most_kept, board_sound, how_many, counting_at}
 use Rattle.recent.specs.Boards.{BoardOutcome, outcome_with, keeps, unless_barred, is_process, set_up_of, add_of, show_of}

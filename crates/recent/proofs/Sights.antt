@@ -17,7 +17,7 @@ use Rattle.recent.specs.Encodings.{width_index, last_index, first_index, count_i
 use Rattle.recent.specs.Encodings.{board_in, is_board}
 use Rattle.recent.specs.Looking.{latest, Rested, Passed, Passes, Looked, Looks}
 use Rattle.recent.proofs.Places.{wrapped_inside, wrapped_below, ring_none, ring_length, ring_same}
-use Rattle.recent.proofs.Passes.{order_from, none_after, some_after, all_count, all_longest}
+use Rattle.recent.proofs.Passes.{order_from, none-after, some_after, all_count, all_longest}
 use Rattle.recent.proofs.Resting.{ring_left}
 use Rattle.recent.proofs.Soundness.{SoundParts, sound_parts, parts_sound}
 use Rattle.recent.proofs.Outcomes.{width_stands_iff}
@@ -171,7 +171,7 @@ module _ (l : List ℕ) (t : ℕ) {rest : Rest} (gone : Rested l (first_in l) (c
               width = (width_stands_iff (width_in l)).0 stands;
               room = omega arith;
               order = order;
-              none_after = none_after 0 (last_in l) (ring_in l) order (omega (arith, latest_seen));
+              none_after = none-after 0 (last_in l) (ring_in l) order (omega (arith, latest_seen));
             };
           }
 

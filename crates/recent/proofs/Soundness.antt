@@ -31,12 +31,13 @@ parts_sound b h = simp tests ((((h.width.least, h.width.most), h.room), h.order)
 -- Order
 
 -- no entry is before the time that they start from
-order_least : (t : ℕ) {e : Entry} {j : ℕ} {es : List Entry} → in_order t es ≡ true → IsAt e j es → t ≤ e.time
+order_least : {e : Entry} (t : ℕ) {j : ℕ} {es : List Entry} → in_order t es ≡ true → IsAt e j es → t ≤ e.time
+order_least t {es = []} h s = elim s [ ]
 order_least t {es = e ∷ es} h IsAt.here = (order_head t e es h).0
 order_least t {es = d ∷ es} h (IsAt.later s) =
     let g = order_head t d es h in omega (arith, order_least d.time g.1 s)
 
-order_plain : (t : ℕ) {d e : Entry} {i j : ℕ} {es : List Entry} → in_order t es ≡ true → IsAt d i es → IsAt e j es → i ≤ j
+order_plain : {d e : Entry} (t : ℕ) {i j : ℕ} {es : List Entry} → in_order t es ≡ true → IsAt d i es → IsAt e j es → i ≤ j
     → d.time ≤ e.time
 order_plain t h IsAt.here IsAt.here b = omega arith
 order_plain t {es = d ∷ es} h IsAt.here (IsAt.later s) b = order_least d.time (order_head t d es h).1 s

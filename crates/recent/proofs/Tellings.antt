@@ -66,7 +66,7 @@ tells_all : {w : ℕ} {rest spare : List ℕ} (log : List Noted) (g : LentTold) 
     → TellsAlong w rest spare (log_by noted log ds (tell_results g ds)) (tell_all g ds)
 unfolding log_by results_by end_by
 tells_all log g [] h = h
-tells_all log g (d ∷ ds) h = tells_all _ (lent_tell_call g d) ds (tell_next h d).next
+tells_all log g (d ∷ ds) h = tells_all (noted d (lent_tell_call g d) ∷ log) (lent_tell_call g d) ds (tell_next h d).next
 
 tell-start : (k : Parameters) (w : ℕ) (table summary board : List ℕ)
     → (lent_fresh k table).answer.code ≡ 0 → (lent_summary summary).answer.code ≡ 0 → (lent_set_up w board).answer.code ≡ 0

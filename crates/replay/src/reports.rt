@@ -1,10 +1,9 @@
 // Printing the report of a text on standard output.
 // That the bytes made ready are the report is a contract, `render`'s; that they are handed on, and arrive, no contract can say.
 ghost use Rattle.std.specs.Prelude.{◌≡◌, length, take};
-ghost use Rattle.io.specs.Counts.{IsPrefixLen};
+ghost use Rattle.streams.specs.Counts.{IsPrefixLen};
 ghost use Rattle.model.specs.Reports.{report_text};
 
-use libc::STDOUT_FILENO;
 use streams::output;
 
 // [7.10] [7.55] Puts the report of a text into an output with room for any, and answers how many bytes it has.
@@ -18,8 +17,8 @@ fn render(text: &[u8], out: &mut [u8]) -> usize
 }
 
 // Prints the report of a text; false where it cannot be written.
-pub(crate) fn print_report(text: &[u8]) -> bool {
+pub(crate) fn print_report(rt: &impl Print, text: &[u8]) -> bool {
     let mut out = output();
     let size = render(text, &mut out);
-    io::write_all(STDOUT_FILENO, &out[..size])
+    rt.write_all(&out[..size]).is_ok()
 }

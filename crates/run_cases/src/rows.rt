@@ -206,6 +206,7 @@ pub(crate) fn table() -> [Row; 134]
 }
 
 // The same a for processes 1 to n, but another for a process that is not 0.
+#[tactic(auto, unfolding(crate::specs::Cases::limits_with))]
 fn limits_with(n: u64, limit: u64, process: u64, own: u64) -> [u64; 96]
     ensures { result ≡ limits_with n limit process own }
 {
@@ -236,6 +237,7 @@ fn asked(row: Row) -> Parameters
 }
 
 // The call that a row makes, a step at the state that the row before it gave back.
+#[tactic(auto, unfolding(crate::specs::Cases::called_of))]
 pub(crate) fn call(state: State, row: Row) -> Outcome
     ensures { result ≡ called_of state row }
 {

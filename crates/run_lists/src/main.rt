@@ -12,11 +12,20 @@ ghost use Rattle.std.specs.Prelude.{◌≤◌};
 use crate::prints::{print_call, print_line, print_recorded};
 use crate::reads::{read_acts, read_calls, read_head};
 use model::Parameters;
-use streams::{kept, open_argument, read_text};
+use std::env::FillError;
+use std::io;
+use std::io::Read;
+use std::rt::{Env, Files};
+use streams::{kept, open_argument, read_text, tell};
 
 // Runs the first calls of a text, and prints the answer to the last of them, the summary that it left and the table; or nothing, and
 // answers false, where the text has fewer.
-fn run_first(parameters: Parameters, text: &[u8], wanted: usize) -> bool
+fn run_first(
+    rt: &impl Print,
+    parameters: Parameters,
+    text: &[u8],
+    wanted: usize,
+) -> io::Result<bool>
     requires { wanted ≤ 64 }
 {
     let mut calls = [[0; 4]; 64];
@@ -25,7 +34,7 @@ fn run_first(parameters: Parameters, text: &[u8], wanted: usize) -> bool
     let mut answers = [[0; 3]; 64];
     let count = read_calls(text, wanted, &mut calls, &mut counts, &mut waited);
     if count < wanted {
-        return false;
+        return Ok(false);
     }
     let outcome = history::run(
         parameters,
@@ -34,60 +43,79 @@ fn run_first(parameters: Parameters, text: &[u8], wanted: usize) -> bool
         &mut waited,
         &mut answers,
     );
-    print_call(parameters.n, outcome, &answers, &counts, &waited, count);
-    true
+    print_call(rt, parameters.n, outcome, &answers, &counts, &waited, count)?;
+    Ok(true)
 }
 
 // The same acts, all lent one summary.
-fn record_first(parameters: Parameters, text: &[u8], wanted: usize)
+fn record_first(
+    rt: &impl Print,
+    parameters: Parameters,
+    text: &[u8],
+    wanted: usize,
+) -> io::Result<()>
     requires { wanted ≤ 64 }
 {
     let mut acts = [[0; 3]; 64];
     let mut answers = [[0; 3]; 64];
     let count = read_acts(text, wanted, &mut acts);
     let recorded = history::run_recorded(parameters, &acts[..count], &mut answers);
-    print_recorded(parameters.n, recorded, &answers, count);
+    print_recorded(rt, parameters.n, recorded, &answers, count)
 }
 
-fn run_list(parameters: Parameters, text: &[u8]) {
+fn run_list(rt: &impl Print, parameters: Parameters, text: &[u8]) -> io::Result<()> {
     for wanted in 0..65 {
-        if !run_first(parameters, text, wanted) {
-            return;
+        if !run_first(rt, parameters, text, wanted)? {
+            return Ok(());
         }
-        record_first(parameters, text, wanted);
+        record_first(rt, parameters, text, wanted)?;
     }
+    Ok(())
 }
 
-fn run_file(fd: i32, name: &[u8]) {
+// A file that cannot be read is told, and the others are run all the same.
+fn run_file<R: Print + Eprint, F: Read>(rt: &R, mut file: F, name: &[u8]) -> io::Result<()>
+where
+    F: Drop,
+{
     let mut text = kept();
-    let input = read_text(fd, &mut text);
-    let size = input.size;
-    if input.failed {
-        os::fail(name);
-        return;
-    }
-    print_line(name);
+    let size = match read_text(&mut file, &mut text) {
+        Ok(size) => size,
+        Err(error) => {
+            tell(rt, name, &error);
+            return Ok(());
+        }
+    };
+    print_line(rt, name)?;
     let head = read_head(&text[..size]);
     let start = head.size;
-    run_list(head.parameters, &text[start..size]);
+    run_list(rt, head.parameters, &text[start..size])
 }
 
-fn open_and_run(place: usize) {
-    let mut path = io::buffer();
-    let opened = open_argument(place, &mut path);
+// A path has fewer bytes than the room that it is kept in.
+fn open_and_run<R: Env + Files + Print + Eprint>(rt: &R, place: usize) -> io::Result<()> {
+    let mut path = [0; 4096];
+    let opened = open_argument(rt, place, &mut path);
     let length = opened.length;
-    if opened.fd < 0 {
-        return;
+    match opened.file {
+        Some(file) => run_file(rt, file, &path[..length]),
+        None => Ok(()),
     }
-    run_file(opened.fd, &path[..length]);
-    libc::close(opened.fd);
 }
 
-fn main() {
-    let count = os::arg_count();
-    let mut place: usize = 1;
-    while place < count {
-        open_and_run(place);
-        place += 1;
+// How many arguments there are, the name of the program among them; of each it is asked whether it fits into nothing.
+fn argument_count(rt: &impl Env) -> usize {
+    for place in 0..usize::MAX {
+        if let Err(FillError::NotPresent) = rt.arg(place, &mut []) {
+            return place;
+        }
     }
+    usize::MAX
+}
+
+fn main(rt: HostRuntime) -> io::Result<()> {
+    for place in 1..argument_count(&rt) {
+        open_and_run(&rt, place)?;
+    }
+    Ok(())
 }

@@ -5,18 +5,15 @@
 mod prints;
 
 use crate::prints::print_intervals;
-use libc::{STDERR_FILENO, STDIN_FILENO};
 use streams::{kept, read_text};
 
-fn main() {
+fn main(rt: HostRuntime) {
     let mut text = kept();
-    let input = read_text(STDIN_FILENO, &mut text);
-    let size = input.size;
-    if input.failed {
-        io::write_all(STDERR_FILENO, b"spans: the recording could not be read\n");
+    let Ok(size) = read_text(&mut rt.stdin(), &mut text) else {
+        let _ = eprintln!(rt; "spans: the recording could not be read");
         return;
-    }
-    if !print_intervals(&text[..size]) {
-        io::write_all(STDERR_FILENO, b"spans: the spans could not be written\n");
+    };
+    if !print_intervals(&rt, &text[..size]) {
+        let _ = eprintln!(rt; "spans: the spans could not be written");
     }
 }

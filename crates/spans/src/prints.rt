@@ -1,11 +1,10 @@
 // Printing the intervals of a text on standard output, or its report where it is no trace.
 // That the bytes made ready are these is a contract, `render`'s; that they are handed on, and arrive, no contract can say.
 ghost use Rattle.std.specs.Prelude.{◌≡◌, length, take};
-ghost use Rattle.io.specs.Counts.{IsPrefixLen};
+ghost use Rattle.streams.specs.Counts.{IsPrefixLen};
 ghost use Rattle.spans.specs.Prints.{printed_text};
 
 use intervals::write_intervals;
-use libc::STDOUT_FILENO;
 use report::report;
 use streams::output;
 
@@ -24,8 +23,8 @@ fn render(text: &[u8], out: &mut [u8]) -> usize
 }
 
 // Prints it; false where it cannot be written.
-pub(crate) fn print_intervals(text: &[u8]) -> bool {
+pub(crate) fn print_intervals(rt: &impl Print, text: &[u8]) -> bool {
     let mut out = output();
     let size = render(text, &mut out);
-    io::write_all(STDOUT_FILENO, &out[..size])
+    rt.write_all(&out[..size]).is_ok()
 }

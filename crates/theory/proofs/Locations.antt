@@ -10,7 +10,7 @@ use Rattle.model.specs.declared.Location.{Location}
 use Rattle.model.specs.declared.Location.TheVariants.{Remainder, Testing, Setting, Checking, Entering, Critical, Resetting, Leaving}
 use Rattle.model.specs.declared.Process.{Process}
 use Rattle.model.specs.declared.State.{State}
-use Rattle.model.specs.Stages.{remainder, checking, critical}
+use Rattle.model.specs.Stages.{remainder, critical}
 use Rattle.model.specs.States.{stage_of, timed, since_of, limit_at, bounded, deadline, late, stay, trying}
 use Rattle.model.specs.Facts.{Tries, Arrival, Deadline}
 use Rattle.theory.specs.Summaries.{TryingIffPlain}

@@ -7,12 +7,13 @@ ghost use Rattle.workload.specs.Work.{digit_of, size_in, limit_for, limits_for, 
 ghost use Rattle.workload.specs.Work.{only_in, mixed_in, placed_in, selling_in, moving_in};
 ghost use Rattle.workload.specs.Work.{location_in, start_in, turn_in, lap_in, act_with, round_act, moving_act, act_in};
 
-use libc::STDOUT_FILENO;
 use machine::entry_at;
 use model::{Location, Parameters, Process, State};
 use rules::actions::{REM, TEST, TRY, WAIT};
 use rules::stages::location_at;
+use std::io;
 use std::num::wrapping_add_u64;
+use std::rt::Env;
 
 // The cases. NONE makes no step: what it costs is taken off the others. Each other one is 10 times its kind and a digit for its
 // processes: 1, 2 and 3 for 2, 24 and 96.
@@ -73,11 +74,12 @@ fn digit(byte: u8) -> u64
 }
 
 // The case that the program's argument names by two or three digits, or by a 0. Which one it is comes from the operating system.
-pub fn chosen() -> u64
+pub fn chosen(rt: &impl Env) -> u64
     ensures { result ≤ 999 }
 {
     let mut word = [b' '; 8];
-    os::arg(1, &mut word);
+    // of an argument that is longer the first bytes are kept, and of none nothing
+    let _ = rt.arg(1, &mut word);
     let first = digit(word[0]);
     let second = digit(word[1]);
     if word[2] < b'0' {
@@ -99,6 +101,7 @@ fn size_of(case: u64) -> u64
 }
 
 // The a of a process, by the place of its entry: 0 past the processes. In the wide limits nobody is late in 999,000 acts.
+#[tactic(auto, unfolding(crate::specs::Work::limit_for))]
 fn limit_of(case: u64, place: u64) -> u64
     requires { place < 96 }
     ensures { result ≡ limit_for case place }
@@ -116,6 +119,7 @@ fn limit_of(case: u64, place: u64) -> u64
     1000000
 }
 
+#[tactic(auto, using(crate::proofs::Steps::limits_step), unfolding(crate::specs::Work::limits_for))]
 fn limits_of(case: u64) -> [u64; 96]
     ensures { result ≡ limits_for case 96 }
 {
@@ -128,6 +132,7 @@ fn limits_of(case: u64) -> [u64; 96]
     a
 }
 
+#[tactic(auto, unfolding(crate::specs::Work::parameters_in))]
 fn parameters_of(case: u64) -> Parameters
     ensures { result ≡ parameters_in case }
 {
@@ -189,6 +194,7 @@ fn mixed(place: u64) -> Location
 }
 
 // Where one of so many processes is, by the place of its entry.
+#[tactic(auto, unfolding(crate::specs::Work::placed_in))]
 fn placed(kind: u64, size: u64, place: u64) -> Location
     requires { place < size }
     ensures { result ≡ placed_in kind size place }
@@ -220,6 +226,7 @@ fn selling(place: u64) -> Location
 }
 
 // The same in the kinds that move the clock.
+#[tactic(auto, unfolding(crate::specs::Work::moving_in))]
 fn placed_moving(kind: u64, place: u64) -> Location
     ensures { result ≡ moving_in kind place }
 {
@@ -230,6 +237,7 @@ fn placed_moving(kind: u64, place: u64) -> Location
     }
 }
 
+#[tactic(auto, unfolding(crate::specs::Work::location_in))]
 fn location_of(case: u64, place: u64) -> Location
     ensures { result ≡ location_in case place }
 {
@@ -245,6 +253,7 @@ fn location_of(case: u64, place: u64) -> Location
 }
 
 // The state that a case starts from.
+#[tactic(auto, using(crate::proofs::Steps::entries_step), unfolding(crate::specs::Work::start_in))]
 pub fn state_of(case: u64) -> State
     ensures { result ≡ start_in case }
 {
@@ -311,6 +320,7 @@ fn act_with(action: u64, process: u64, time: u64) -> Act
 }
 
 // An act that moves the clock.
+#[tactic(auto, unfolding(crate::specs::Work::moving_act))]
 fn moving_act(kind: u64, time: u64) -> Act
     ensures { result ≡ moving_act kind time }
 {
@@ -321,6 +331,7 @@ fn moving_act(kind: u64, time: u64) -> Act
     }
 }
 
+#[tactic(auto, unfolding(crate::specs::Work::act_in))]
 pub fn act_of(case: u64, i: u64) -> Act
     ensures { result ≡ act_in case i }
 {
@@ -343,18 +354,14 @@ pub fn act_of(case: u64, i: u64) -> Act
     act_with(WAIT, 0, 1000)
 }
 
-fn report(sum: u64, clock: u64) {
-    io::print_decimal(STDOUT_FILENO, sum);
-    io::write_all(STDOUT_FILENO, b" ");
-    io::print_decimal(STDOUT_FILENO, clock);
-    io::write_all(STDOUT_FILENO, b"\n");
+fn report(rt: &impl Print, sum: u64, clock: u64) -> io::Result<()> {
+    println!(rt; "{sum} {clock}")
 }
 
 // Runs the acts of a case, and prints the sum of all answers and the last clock.
-pub fn run(case: u64, start: State) {
+pub fn run(rt: &impl Print, case: u64, start: State) -> io::Result<()> {
     if case == NONE {
-        report(0, start.clock);
-        return;
+        return report(rt, 0, start.clock);
     }
     let mut state = start;
     let mut sum: u64 = 0;
@@ -368,5 +375,5 @@ pub fn run(case: u64, start: State) {
         let next = outcome.state;
         state = next;
     }
-    report(sum, state.clock);
+    report(rt, sum, state.clock)
 }

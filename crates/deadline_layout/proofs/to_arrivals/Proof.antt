@@ -10,59 +10,58 @@ use borrow.Author.Rules.{rules}
 use Rattle.deadline_layout.proofs.to_arrivals.Statement.{statement}
 use Rattle.deadline_layout.proofs.to_arrivals.Tie as tie
 
-is-sound-requires : tie.Need-is-sound-requires
+is-sound-requires : tie.Need-is_sound-requires
 is-sound-requires c κs = search rules
 
-answer-with-requires : tie.Need-answer-with-requires
+answer-with-requires : tie.Need-answer_with-requires
 answer-with-requires c κs = search rules
 
-returns : tie.Need-returns
+returns : tie.Need-returns-then-not-is_sound
 returns c =
-    let a = c.before.before.before.before.before.args in
-    arrived_unsound a.deadlines.now a.out.now (sym c.before.before.is-sound.ensures ∙ not-true _ c.before.if1.true)
-    c.answer-with.ensures
+    let a = c.args in
+    arrived_unsound a.deadlines.now a.out.now (sym c.is_sound.ensures ∙ c.if-not-is_sound.true)
+    c.answer_with.ensures
 
-stands : (c : tie.Else1) → is_sound_deadline_table c.before.before.before.before.args.deadlines.now ≡ true
-stands c = sym c.before.is-sound.ensures ∙ not-false _ c.if1.false
+stands : (c : tie.Else-not-is_sound) → is_sound_deadline_table c.args.deadlines.now ≡ true
+stands c = sym c.is_sound.ensures ∙ c.if-not-is_sound.false
 
-answer-with-requires-2 : tie.Need-answer-with-requires-2
+answer-with-requires-2 : tie.Need-answer_with-requires-then-out-lt-TABLE
 answer-with-requires-2 c κs = search rules
 
-returns-2 : tie.Need-returns-2
+returns-2 : tie.Need-returns-then-out-lt-TABLE
 returns-2 c =
-    let a = c.before.before.before.before.before.before.args in
-    arrived_short a.deadlines.now a.out.now (stands c.before.before) c.before.if2.true c.answer-with2.ensures
+    let a = c.args in
+    arrived_short a.deadlines.now a.out.now (stands c.before.before) c.if-out-lt-TABLE.true c.answer_with-then-out-lt-TABLE.ensures
 
-slice-relend-prefix-put-arrived : tie.Need-slice-relend-prefix-put-arrived
+slice-relend-prefix-put-arrived : tie.Need-slice_bounds-put_arrived-end
 slice-relend-prefix-put-arrived c = search rules
 
-slice-aggregate-put-arrived : tie.Need-slice-aggregate-put-arrived
+slice-aggregate-put-arrived : tie.Need-slice_bounds-put_arrived-end-2
 slice-aggregate-put-arrived c = sym (search (rules, length-take-le))
 
-slice-aggregate-put-arrived-2 : tie.Need-slice-aggregate-put-arrived-2
-slice-aggregate-put-arrived-2 c = sym (deadlines_part _ (stands c.before.before.before))
+slice-aggregate-put-arrived-2 : tie.Need-slice_bounds-put_arrived-end-3
+slice-aggregate-put-arrived-2 c = sym (deadlines_part _ (stands c.before.before))
 
-put-arrived-requires : tie.Need-put-arrived-requires
+put-arrived-requires : tie.Need-put_arrived-requires
 put-arrived-requires c κs =
-    let out = c.before.before.before.before.before.before.before.args.out.now in
-    let e = stands c.before.before.before in
-    (length-take-le table_length out c.before.before.if2.false, (deadlines_part _ e, deadlines_told _ e))
+    let out = c.args.out.now in
+    let e = stands c.before.before in
+    (length-take-le table_length out c.if-out-lt-TABLE.false, (deadlines_part _ e, deadlines_told _ e))
 
-answer-with-requires-3 : tie.Need-answer-with-requires-3
+answer-with-requires-3 : tie.Need-answer_with-requires-2
 answer-with-requires-3 c κs = search rules
 
-same_length : tie.Need-same-length
+same_length : tie.Need-shape_of-out
 same_length c = search rules
 
-returns-3 : tie.Need-returns-3
+returns-3 : tie.Need-returns
 returns-3 c =
-    let fits = c.before.before.before.before.before.before in
-    let a = fits.before.before.before.before.before.args in
-    arrived_made a.deadlines.now a.out.now (stands fits.before) fits.if2.false c.answer-with3.ensures
-    c.before.before.before.put-arrived.ensures
+    let a = c.args in
+    arrived_made a.deadlines.now a.out.now (stands c.before.before.before.before.before.before) c.if-out-lt-TABLE.false c.answer_with-2.ensures
+    c.put_arrived.ensures
 
-pub to-arrivals-spec : {M : Type 1} → statement M
-to-arrivals-spec =
+pub to_arrivals_spec : {M : Type 1} → statement M
+to_arrivals_spec =
     tie.close
     (tie.spec
     is-sound-requires

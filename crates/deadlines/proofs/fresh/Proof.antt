@@ -1,6 +1,5 @@
 -- `deadlines::fresh` meets its contract: each exit computes `fresh_with` up to the test that decided. Assumes nothing.
 use Rattle.std.proofs.Common.{◌≡◌, true, sym, ◌∙◌, rules}
-use borrow.Author.Tests.{not-true, not-false}
 use Rattle.model.specs.States.{count_stands}
 use Rattle.deadlines.specs.Deadlines.{fresh_with}
 use Rattle.deadlines.proofs.fresh.Statement.{statement}

@@ -1,5 +1,4 @@
 -- `deadlines::refused` meets its contract. Assumes nothing.
-use Rattle.std.proofs.Common.{rules}
 use Rattle.deadlines.proofs.refused.Goals as goal
 
 pub returns : goal.returns

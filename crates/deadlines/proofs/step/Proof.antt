@@ -1,7 +1,6 @@
 -- `deadlines::step` meets its contract. The loop's invariant is `PassedWith`, and its measure the entries that are left; where its ways out meet,
 -- `SurveyedWith` holds. Assumes nothing.
-use Rattle.std.proofs.Common.{◌≡◌, ℕ, ◌+◌, ◌-◌, ◌<◌, ◌≤◌, ◌≢◌, get_or, sym, refl, ap, ◌∙◌, ⊎_elim, arith, rules}
-use borrow.Author.Tests.{not-true, not-false}
+use Rattle.std.proofs.Common.{◌≡◌, ℕ, ◌+◌, ◌-◌, ◌<◌, ◌≤◌, ◌≢◌, get_or, sym, refl, ap, ◌∙◌, arith, rules}
 use Rattle.model.specs.Acts.{wait_act, last_act}
 use Rattle.model.specs.Actions.{transition_of}
 use Rattle.model.specs.declared.Answer.{Answer}
@@ -213,12 +212,12 @@ surveyed c =
     let a = c.args in
     let v = c.loop-at in
     elim c.loop-at-test.branch [
-      else-loop-at-test w ↦ rw w.found-is
-        (passed_whole_with a.state a.process v.at v.found v.invariant (omega (arith, w.loop-at-test.false)))
-    | then-loop-at-test+else-stage_with-eq-REMAINDER+then-found-ne0 w ↦ rw w.found-is
-        (faulty (turn_fault_with a.state a.process v.at (v.at + 1) v.found v.invariant (omega (arith, w.loop-at-test.true)) refl
-        idle_with w.note-found.result (rw (c.scene_of-scene.ensures, w.limit_of-limit.ensures) at w.note-found.ensures)
-        w.if-found-ne0.true) w.if-found-ne0.true)
+      | else-loop-at-test w ↦ rw w.found-is
+          (passed_whole_with a.state a.process v.at v.found v.invariant (omega (arith, w.loop-at-test.false)))
+      | then-loop-at-test+else-stage_with-eq-REMAINDER+then-found-ne0 w ↦ rw w.found-is
+          (faulty (turn_fault_with a.state a.process v.at (v.at + 1) v.found v.invariant (omega (arith, w.loop-at-test.true)) refl
+          idle_with w.note-found.result (rw (c.scene_of-scene.ensures, w.limit_of-limit.ensures) at w.note-found.ensures)
+          w.if-found-ne0.true) w.if-found-ne0.true)
     ]
 
 -- the acting process's location

@@ -2,7 +2,6 @@
 use mathlib.Core.Path.{◌≡◌, refl, sym, ◌∙◌}
 use mathlib.Core.Bool.{true}
 use borrow.Author.Rules.{rules}
-use borrow.Author.Tests.{not-true, not-false}
 use Rattle.model.specs.States.{count_stands, limits_stand}
 use Rattle.model.specs.Answers.{fresh_of}
 use Rattle.machine.proofs.fresh.Statement.{statement}

@@ -5,7 +5,6 @@ use mathlib.Core.Path.{◌≡◌, sym, ap, ◌∙◌}
 use mathlib.Core.Logic.{◌≢◌}
 use borrow.Author.Rules.{rules}
 use native.Mathlib.Omega.{arith}
-use borrow.Author.Tests.{not-true, not-false}
 use lib.ListN.{get_or}
 use Rattle.model.specs.declared.Location.{Location}
 use Rattle.model.specs.States.{idle, entry_of}
@@ -120,13 +119,13 @@ surveyed c =
     let a = c.args in
     let v = c.loop-at in
     elim c.loop-at-test.branch [
-      else-loop-at-test w ↦ rw w.found-is
-        (whole (passed_whole a.state a.process (v.at - 1) v.found v.invariant.1 (omega (arith, w.loop-at-test.false))))
-    | then-loop-at-test+then-found-ne0 w ↦ rw w.found-is
-        (faulty (turn_fault a.state a.process (v.at - 1) v.at v.found v.invariant.1 (omega (arith, w.loop-at-test.true))
-        (omega (arith, v.invariant.0)) idle w.note-found.result
-        (rw (c.scene_of-scene.ensures, w.limit_of-limit.ensures) at w.note-found.ensures) w.if-found-ne0.true)
-        w.if-found-ne0.true)
+      | else-loop-at-test w ↦ rw w.found-is
+          (whole (passed_whole a.state a.process (v.at - 1) v.found v.invariant.1 (omega (arith, w.loop-at-test.false))))
+      | then-loop-at-test+then-found-ne0 w ↦ rw w.found-is
+          (faulty (turn_fault a.state a.process (v.at - 1) v.at v.found v.invariant.1 (omega (arith, w.loop-at-test.true))
+          (omega (arith, v.invariant.0)) idle w.note-found.result
+          (rw (c.scene_of-scene.ensures, w.limit_of-limit.ensures) at w.note-found.ensures) w.if-found-ne0.true)
+          w.if-found-ne0.true)
     ]
 
 -- the acting process's location

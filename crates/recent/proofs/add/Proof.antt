@@ -13,116 +13,116 @@ use Rattle.recent.proofs.Calls.{add_unsound, add_untimely, add_misnamed, add_ful
 use Rattle.recent.proofs.add.Statement.{statement}
 use Rattle.recent.proofs.add.Tie as tie
 
-look-in-requires : tie.Need-look-in-requires
+look-in-requires : tie.Need-look_in-seen-requires
 look-in-requires c κs = search rules
 
-answer-with-requires : tie.Need-answer-with-requires
+answer-with-requires : tie.Need-answer_with-requires
 answer-with-requires c κs = search rules
 
-same_length : tie.Need-same-length
+same_length : tie.Need-shape_of-board-then-not-seen
 same_length c = search rules
 
-returns : tie.Need-returns
+returns : tie.Need-returns-then-not-seen
 returns c =
-    let a = c.before.before.before.before.before.before.args in
+    let a = c.args in
     add_unsound a.board.now a.time a.process a.wait
-    (c.before.before.before.look_in.ensures.unsound (not-true _ c.before.if1.true)) c.answer-with.ensures
+    (c.look_in-seen.ensures.unsound (not-true _ c.if-not-seen.true)) c.answer_with.ensures
 
 -- what the look told
-looked : (c : tie.Else1)
-    → (let a = c.before.before.before.before.before.args in Looked a.board.now a.time c.before.before.look_in.result)
-looked c = c.before.before.look_in.ensures.looked (not-false _ c.if1.false)
+looked : (c : tie.Else-not-seen)
+    → (let a = c.args in Looked a.board.now a.time c.look_in-seen.result)
+looked c = c.look_in-seen.ensures.looked (not-false _ c.if-not-seen.false)
 
-slice-read-untimely : tie.Need-slice-read-untimely
+slice-read-untimely : tie.Need-bounds-board-1
 slice-read-untimely c = omega (arith, (seen_sound (looked c.before)).fits)
 
-untimely-requires : tie.Need-untimely-requires
+untimely-requires : tie.Need-untimely-refused-requires
 untimely-requires c κs = search rules
 
 -- what comes of the time
-refusal : (c : tie.After-untimely)
-    → (let a = c.before.before.before.before.before.before.before.args in
-    c.untimely.result ≡ untimely_of (board_in a.board.now).last a.time)
+refusal : (c : tie.After-untimely-refused)
+    → (let a = c.args in
+    c.untimely-refused.result ≡ untimely_of (board_in a.board.now).last a.time)
 unfolding board_in
-refusal c = c.untimely.ensures
+refusal c = c.untimely-refused.ensures
 
-in-time : (c : tie.Else2)
-    → (let a = c.before.before.before.before.before.before.before.before.before.args in
+in-time : (c : tie.Else-refused-ne0)
+    → (let a = c.args in
     Timely (board_in a.board.now).last a.time)
-in-time c = timely _ _ (refusal c.before.before) c.if2.false
+in-time c = timely _ _ (refusal c.before.before) c.if-refused-ne0.false
 
-same-length-2 : tie.Need-same-length-2
+same-length-2 : tie.Need-shape_of-board-then-refused-ne0
 same-length-2 c = search rules
 
-returns-2 : tie.Need-returns-2
+returns-2 : tie.Need-returns-then-refused-ne0
 returns-2 c =
-    let a = c.before.before.before.before.before.before.before.before.before.args in
+    let a = c.args in
     add_untimely a.board.now a.time a.process a.wait (looked c.before.before.before.before)
-    (refusal c.before.before) c.if2.true
+    (refusal c.before.before) c.if-refused-ne0.true
 
-is-process-requires : tie.Need-is-process-requires
+is-process-requires : tie.Need-is_process-requires
 is-process-requires c κs = search rules
 
-answer-with-requires-2 : tie.Need-answer-with-requires-2
+answer-with-requires-2 : tie.Need-answer_with-requires-then-not-is_process
 answer-with-requires-2 c κs = search rules
 
-same-length-3 : tie.Need-same-length-3
+same-length-3 : tie.Need-shape_of-board-then-not-is_process
 same-length-3 c = search rules
 
-returns-3 : tie.Need-returns-3
+returns-3 : tie.Need-returns-then-not-is_process
 returns-3 c =
-    let a = c.before.before.before.before.before.before.before.before.before.before.before.before.args in
+    let a = c.args in
     add_misnamed a.board.now a.time a.process a.wait (looked c.before.before.before.before.before.before.before)
     (in-time c.before.before.before)
-    (sym c.before.before.is-process.ensures ∙ not-true _ c.before.if3.true) c.answer-with2.ensures
+    (sym c.is_process.ensures ∙ c.if-not-is_process.true) c.answer_with-then-not-is_process.ensures
 
 -- and of the process
-named : (c : tie.Else3)
-    → is_process c.before.before.before.before.before.before.before.before.before.before.before.args.process ≡ true
-named c = sym c.before.is-process.ensures ∙ not-false _ c.if3.false
+named : (c : tie.Else-not-is_process)
+    → is_process c.args.process ≡ true
+named c = sym c.is_process.ensures ∙ c.if-not-is_process.false
 
-answer-with-requires-3 : tie.Need-answer-with-requires-3
+answer-with-requires-3 : tie.Need-answer_with-requires-then-seen-eq-PLACES
 answer-with-requires-3 c κs = search rules
 
-same-length-4 : tie.Need-same-length-4
+same-length-4 : tie.Need-shape_of-board-then-seen-eq-PLACES
 same-length-4 c = search rules
 
-returns-4 : tie.Need-returns-4
+returns-4 : tie.Need-returns-then-seen-eq-PLACES
 returns-4 c =
-    let a = c.before.before.before.before.before.before.before.before.before.before.before.before.before.before.args in
+    let a = c.args in
     add_full a.board.now a.time a.process a.wait
     (looked c.before.before.before.before.before.before.before.before.before)
-    (in-time c.before.before.before.before.before) (named c.before.before.before) c.before.if4.true
-    c.answer-with3.ensures
+    (in-time c.before.before.before.before.before) (named c.before.before.before) c.if-seen-eq-PLACES.true
+    c.answer_with-then-seen-eq-PLACES.ensures
 
 -- what the look told, once all tests are passed
-seen : (c : tie.Else4)
-    → (let a = c.before.before.before.before.before.before.before.before.before.before.before.before.before.args in
-    Looked a.board.now a.time c.before.before.before.before.before.before.before.before.before.before.look_in.result)
+seen : (c : tie.Else-seen-eq-PLACES)
+    → (let a = c.args in
+    Looked a.board.now a.time c.look_in-seen.result)
 seen c = looked c.before.before.before.before.before.before.before.before
 
-add-put-header : tie.Need-overflow-add-put-header
+add-put-header : tie.Need-overflow_add-seen
 add-put-header c = search (rules, count_most (seen c.before.before))
 
-put-header-requires : tie.Need-put-header-requires
+put-header-requires : tie.Need-put_header-requires
 put-header-requires c κs = (seen_sound (seen c.before.before)).fits
 
-add-wrapped-place : tie.Need-overflow-add-wrapped-place
+add-wrapped-place : tie.Need-overflow_add-seen-2
 add-wrapped-place c =
     let k = seen c.before.before.before.before.before.before.before in
     search (rules, first_most k, count_most k)
 
-wrapped-place-requires : tie.Need-wrapped-place-requires
+wrapped-place-requires : tie.Need-wrapped_place-requires
 wrapped-place-requires c κs = search rules
 
-put-entry-requires : tie.Need-put-entry-requires
+put-entry-requires : tie.Need-put_entry-requires
 put-entry-requires c κs =
     let k = seen c.before.before.before.before.before.before.before.before in (
-      rw c.before.before.before.before.before.put-header.ensures (rw (headed_length _ _ _ _) (seen_sound k).fits),
-      rw c.wrapped-place.ensures (next_most k),
+      rw c.put_header.ensures (rw (headed_length _ _ _ _) (seen_sound k).fits),
+      rw c.wrapped_place.ensures (next_most k),
     )
 
-add-answer-with : tie.Need-overflow-add-answer-with
+add-answer-with : tie.Need-overflow_add-seen-3
 add-answer-with c =
     let k = seen c.before.before.before.before.before.before.before.before.before.before.before.before in
     search (rules, count_most k)
@@ -130,22 +130,19 @@ add-answer-with c =
 greater-requires : tie.Need-greater-requires
 greater-requires c κs = search rules
 
-answer-with-requires-4 : tie.Need-answer-with-requires-4
+answer-with-requires-4 : tie.Need-answer_with-requires-2
 answer-with-requires-4 c κs = search rules
 
-same-length-5 : tie.Need-same-length-5
+same-length-5 : tie.Need-shape_of-board
 same-length-5 c = search rules
 
-returns-5 : tie.Need-returns-5
+returns-5 : tie.Need-returns
 returns-5 c =
-    let w = c.before.before.before.before.before in
-    let h = w.before.before.before.before.before.before in
-    let e = h.before.before.before in
-    let a = e.before.before.before.before.before.before.before.before.before.before.before.before.before.args in
-    add_accepted a.board.now a.time a.process a.wait (seen e)
-    (in-time e.before.before.before.before) (named e.before.before) e.if4.false
-    (c.answer-with4.ensures ∙ rw c.before.greater.ensures)
-    (rw (h.put-header.ensures, w.before.wrapped-place.ensures) at w.put-entry.ensures)
+    let a = c.args in
+    add_accepted a.board.now a.time a.process a.wait (seen c.before.before.before.before.before.before.before.before.before.before.before.before.before.before)
+    (in-time c.before.before.before.before.before.before.before.before.before.before.before.before.before.before.before.before.before.before) (named c.before.before.before.before.before.before.before.before.before.before.before.before.before.before.before.before) c.if-seen-eq-PLACES.false
+    (c.answer_with-2.ensures ∙ rw c.greater.ensures)
+    (rw (c.put_header.ensures, c.wrapped_place.ensures) at c.put_entry.ensures)
 
 pub add_spec : {M : Type 1} → statement M
 add_spec =

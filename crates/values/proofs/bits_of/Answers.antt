@@ -1,6 +1,5 @@
 -- What the check of `bits_of` does not find alone. Assumes nothing.
-use Rattle.std.proofs.Common.{◌≡◌, ◌-◌, ◌≤◌, length, drop, sym, refl, ◌∙◌, arith, rules}
-use Rattle.values.specs.Bits.{bits_on, bits_of}
+use Rattle.std.proofs.Common.{sym, refl, ◌∙◌, arith}
 use Rattle.values.proofs.Bits.{bits_next, bits_end}
 use Rattle.values.proofs.bits_of.Goals as goal
 

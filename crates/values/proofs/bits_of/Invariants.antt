@@ -1,7 +1,6 @@
 -- `values::bits_of` meets its contract: the bits passed and those left come to all of them. Assumes nothing.
-use Rattle.std.proofs.Common.{◌≡◌, ◌-◌, ◌≤◌, length, drop, sym, refl, ◌∙◌, arith, rules}
+use Rattle.std.proofs.Common.{◌≡◌, ◌-◌, ◌≤◌, length, drop}
 use Rattle.values.specs.Bits.{bits_on, bits_of}
-use Rattle.values.proofs.Bits.{bits_next, bits_end}
 use Rattle.values.proofs.bits_of.Given as goal
 
 abbrev pub invariant-loop-i : goal.invariant-loop-i

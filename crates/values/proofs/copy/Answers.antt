@@ -1,6 +1,5 @@
 -- What the check of `copy` does not find alone. Assumes nothing.
-use Rattle.std.proofs.Common.{◌≡◌, ℕ, ◌-◌, ◌≤◌, min, List, length, get_or, take, set, refl, ap, ◌∙◌, arith, length-set, rules}
-use Rattle.model.specs.Readings.{over}
+use Rattle.std.proofs.Common.{ℕ, List, get_or, set, refl, ap, ◌∙◌, arith, length-set}
 use Rattle.model.proofs.Lists.{copied_next, copied_all}
 use Rattle.values.proofs.copy.Goals as goal
 

@@ -1,7 +1,6 @@
 -- `values::copy` meets its contract: after i turns the first i numbers are stored. Assumes nothing.
-use Rattle.std.proofs.Common.{◌≡◌, ℕ, ◌-◌, ◌≤◌, min, List, length, get_or, take, set, refl, ap, ◌∙◌, arith, length-set, rules}
+use Rattle.std.proofs.Common.{◌≡◌, ◌-◌, ◌≤◌, min, length, take}
 use Rattle.model.specs.Readings.{over}
-use Rattle.model.proofs.Lists.{copied_next, copied_all}
 use Rattle.values.proofs.copy.Given as goal
 
 abbrev pub invariant-loop-i : goal.invariant-loop-i

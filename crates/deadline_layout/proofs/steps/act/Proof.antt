@@ -13,96 +13,89 @@ use Rattle.deadline_layout.proofs.Acts.{acted_accepted, acted_refused}
 use Rattle.deadline_layout.proofs.steps.act.Statement.{statement}
 use Rattle.deadline_layout.proofs.steps.act.Tie as tie
 
-slot-of-requires : tie.Need-slot-of-requires
+slot-of-requires : tie.Need-slot_of-slot-requires
 slot-of-requires c κs = search rules
 
 -- the place of the acting process is one of the 96
-own_fits : (c : tie.After-slot-of) → c.slot_of.result < 96
+own_fits : (c : tie.After-slot_of-slot) → c.slot_of-slot.result < 96
 own_fits c = search (rules, slot_fits)
 
-own-place : (c : tie.After-place-of) → c.place_of.result + deadline_stride ≤ deadline_length
-own-place c = omega (arith, c.place_of.ensures, own_fits c.before)
+own-place : (c : tie.After-place_of-at) → c.place_of-at.result + deadline_stride ≤ deadline_length
+own-place c = omega (arith, c.place_of-at.ensures, own_fits c.before)
 
-place-of-requires : tie.Need-place-of-requires
+place-of-requires : tie.Need-place_of-at-requires
 place-of-requires c κs = omega (arith, own_fits c)
 
-slice-read-transition-of : tie.Need-slice-read-transition-of
+slice-read-transition-of : tie.Need-bounds-table-4
 slice-read-transition-of c = search rules
 
-transition-of-requires : tie.Need-transition-of-requires
+transition-of-requires : tie.Need-transition_of-transition-requires
 transition-of-requires c κs = search rules
 
-slice-read-scene-of : tie.Need-slice-read-scene-of
+slice-read-scene-of : tie.Need-bounds-table-0
 slice-read-scene-of c = search rules
 
-slice-read-scene-of-2 : tie.Need-slice-read-scene-of-2
+slice-read-scene-of-2 : tie.Need-bounds-table-2
 slice-read-scene-of-2 c = search rules
 
-slice-read-scene-of-3 : tie.Need-slice-read-scene-of-3
+slice-read-scene-of-3 : tie.Need-bounds-table-3
 slice-read-scene-of-3 c = search rules
 
-scene-of-requires : tie.Need-scene-of-requires
+scene-of-requires : tie.Need-scene_of-requires
 scene-of-requires c κs = search rules
 
-stage-at-requires : tie.Need-stage-at-requires
-stage-at-requires c κs = let own = c.before.before.before.before.before.before.before in omega (arith, own-place own, own.before.before.before.requires)
+stage-at-requires : tie.Need-stage_at-requires
+stage-at-requires c κs = omega (arith, own-place c.before.before.before.before.before.before, c.requires)
 
-first-at-requires : tie.Need-first-at-requires
+first-at-requires : tie.Need-first_at-requires
 first-at-requires c κs =
-    let own = c.before.before.before.before.before.before.before.before.before in
-    omega (arith, own-place own, own.before.before.before.requires)
+    omega (arith, own-place c.before.before.before.before.before.before.before, c.requires)
 
-judge-requires : tie.Need-judge-requires
+judge-requires : tie.Need-judge-answer-requires
 judge-requires c κs = search rules
 
-put-action-requires : tie.Need-put-action-requires
+put-action-requires : tie.Need-put_action-requires
 put-action-requires c κs =
-    let slot = c.before.before.before.before.before.before.before.before.before.before.before.before.before.before.before in
-    (slot.before.before.requires, own_fits slot)
+    (c.requires, own_fits c.before.before.before.before.before.before.before.before.before.before.before.before.before)
 
 -- the answer, of the own entry and the row
-judged-is : (c : tie.After-judge)
-    → (let own = c.before.before.before.before.before.before.before.before.before.before.before.before in
-    let a = own.before.before.args in
+judged-is : (c : tie.After-judge-answer)
+    → (let a = c.args in
     let l = a.table.now in
-    let slot = own.slot_of.result in
-    c.judge.result
+    let slot = c.slot_of-slot.result in
+    c.judge-answer.result
     ≡ judged a.found (scene_in l a.process) (get_or l (stage_place_with slot) 0) (get_or l (first_place slot) 0)
-    c.before.before.before.before.before.before.before.before.before.transition-of.result a.action a.time)
+    c.transition_of-transition.result a.action a.time)
 judged-is c =
     rw (
-      c.before.first-at.ensures,
-      c.before.before.before.Stage-at.ensures,
-      c.before.before.before.before.before.scene-of.ensures,
-      c.before.before.before.before.before.before.before.before.before.before.before.place_of.ensures,
+      c.first_at.ensures,
+      c.stage_at.ensures,
+      c.scene_of.ensures,
+      c.place_of-at.ensures,
     )
-    at c.judge.ensures
+    at c.judge-answer.ensures
 
-same_length : tie.Need-same-length
+same_length : tie.Need-shape_of-table-then-answer-eq0
 same_length c = search rules
 
-returns : tie.Need-returns
+returns : tie.Need-returns-then-answer-eq0
 returns c =
-    let met = c.before.before.before.before.before.before in
-    let slot = met.before.before.before.before.before.before.before.before.before.before.before.before in
-    let a = slot.before.before.args in
-    acted_accepted a.table.now a.found a.action a.process a.time slot.slot_of.result slot.slot_of.ensures
-    met.before.before.before.before.before.before.before.before.before.transition-of.ensures (judged-is met)
-    c.before.before.before.before.if1.true c.before.before.put-action.ensures
+    let a = c.args in
+    acted_accepted a.table.now a.found a.action a.process a.time c.slot_of-slot.result c.slot_of-slot.ensures
+    c.transition_of-transition.ensures (judged-is c.before.before.before.before.before.before)
+    c.if-answer-eq0.true c.put_action.ensures
 
-same-length-2 : tie.Need-same-length-2
+same-length-2 : tie.Need-shape_of-table-else-answer-eq0
 same-length-2 c = search rules
 
-returns-2 : tie.Need-returns-2
+returns-2 : tie.Need-returns-else-answer-eq0
 returns-2 c =
-    let met = c.before.before in
-    let slot = met.before.before.before.before.before.before.before.before.before.before.before.before in
-    let a = slot.before.before.args in
-    acted_refused a.table.now a.found a.action a.process a.time slot.slot_of.result slot.slot_of.ensures
-    met.before.before.before.before.before.before.before.before.before.transition-of.ensures (judged-is met) c.if1.false
+    let a = c.args in
+    acted_refused a.table.now a.found a.action a.process a.time c.slot_of-slot.result c.slot_of-slot.ensures
+    c.transition_of-transition.ensures (judged-is c.before.before) c.if-answer-eq0.false
 
-pub act-spec : {M : Type 1} → statement M
-act-spec =
+pub act_spec : {M : Type 1} → statement M
+act_spec =
     tie.close
     (tie.spec
     slot-of-requires

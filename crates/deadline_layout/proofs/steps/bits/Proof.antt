@@ -11,139 +11,139 @@ use Rattle.deadline_layout.proofs.Zeros.{zero_from, two_next, three_next, zero_e
 use Rattle.deadline_layout.proofs.steps.bits.Statement.{statement}
 use Rattle.deadline_layout.proofs.steps.bits.Tie as tie
 
-abbrev invariant-loop2 : tie.invariant-loop2
+abbrev invariant-loop2 : tie.invariant-loop-j
 invariant-loop2 numbers end whole even₀ odd₀ i j₀ even odd j =
     (j ≤ 24) × (j % 2 ≡ 0) × (i + 24 ≤ whole) × (whole ≤ length numbers) × (zero_from numbers even odd (i + j) ≡ are_zero numbers)
 
-abbrev decreases-loop2 : tie.decreases-loop2
+abbrev decreases-loop2 : tie.decreases-loop-j
 decreases-loop2 numbers end whole even₀ odd₀ i j₀ even odd j = 24 - j
 
-abbrev invariant-loop : tie.invariant-loop
+abbrev invariant-loop : tie.invariant-loop-i
 invariant-loop numbers end whole even₀ odd₀ i₀ even odd i =
     (i ≤ whole) × (whole ≤ length numbers) × (whole % 24 ≡ 0) × (i % 24 ≡ 0) × (zero_from numbers even odd i ≡ are_zero numbers)
 
-abbrev decreases-loop : tie.decreases-loop
+abbrev decreases-loop : tie.decreases-loop-i
 decreases-loop numbers end whole even₀ odd₀ i₀ even odd i = length numbers - i
 
-abbrev invariant-loop3 : tie.invariant-loop3
+abbrev invariant-loop3 : tie.invariant-loop-i-2
 invariant-loop3 numbers end whole even₀ odd i₀ even i =
     (i ≤ length numbers) × (i % deadline_stride ≡ 0) × (zero_from numbers even odd i ≡ are_zero numbers)
 
-abbrev decreases-loop3 : tie.decreases-loop3
+abbrev decreases-loop3 : tie.decreases-loop-i-2
 decreases-loop3 numbers end whole even₀ odd i₀ even i = length numbers - i
 
-sub-whole : tie.Need-overflow-sub-whole invariant-loop2 decreases-loop2 invariant-loop decreases-loop invariant-loop3 decreases-loop3
+sub-whole : tie.Need-overflow_sub-whole invariant-loop2 decreases-loop2 invariant-loop decreases-loop invariant-loop3 decreases-loop3
 sub-whole c = search rules
 
-loop-holds : tie.Need-loop-init invariant-loop2 decreases-loop2 invariant-loop decreases-loop invariant-loop3 decreases-loop3
+loop-holds : tie.Need-loop-i-init invariant-loop2 decreases-loop2 invariant-loop decreases-loop invariant-loop3 decreases-loop3
 loop-holds c = (omega arith, omega arith, omega arith, refl, refl)
 
-loop2-holds : tie.Need-loop2-init invariant-loop2 decreases-loop2 invariant-loop decreases-loop invariant-loop3 decreases-loop3
+loop2-holds : tie.Need-loop-j-init invariant-loop2 decreases-loop2 invariant-loop decreases-loop invariant-loop3 decreases-loop3
 loop2-holds c =
-    let v = c.before.loop in
+    let v = c.loop-i in
     let e : v.i + 0 ≡ v.i = omega arith in
     (omega arith, refl, omega arith, v.invariant.1, rw e v.invariant.4)
 
-add-even : tie.Need-overflow-add-even invariant-loop2 decreases-loop2 invariant-loop decreases-loop invariant-loop3 decreases-loop3
+add-even : tie.Need-overflow_add-even invariant-loop2 decreases-loop2 invariant-loop decreases-loop invariant-loop3 decreases-loop3
 add-even c = search rules
 
-mul-even : tie.Need-overflow-mul-even invariant-loop2 decreases-loop2 invariant-loop decreases-loop invariant-loop3 decreases-loop3
+mul-even : tie.Need-offset_bounds-numbers-i invariant-loop2 decreases-loop2 invariant-loop decreases-loop invariant-loop3 decreases-loop3
 mul-even c = search rules
 
 shared-slice-read-even :
-    tie.Need-shared-slice-read-even invariant-loop2 decreases-loop2 invariant-loop decreases-loop invariant-loop3 decreases-loop3
+    tie.Need-bounds-numbers-i invariant-loop2 decreases-loop2 invariant-loop decreases-loop invariant-loop3 decreases-loop3
 shared-slice-read-even c = search rules
 
-add-odd : tie.Need-overflow-add-odd invariant-loop2 decreases-loop2 invariant-loop decreases-loop invariant-loop3 decreases-loop3
+add-odd : tie.Need-overflow_add-odd invariant-loop2 decreases-loop2 invariant-loop decreases-loop invariant-loop3 decreases-loop3
 add-odd c = search rules
 
-add-odd-2 : tie.Need-overflow-add-odd-2 invariant-loop2 decreases-loop2 invariant-loop decreases-loop invariant-loop3 decreases-loop3
+add-odd-2 : tie.Need-overflow_add-odd-in-loop-j invariant-loop2 decreases-loop2 invariant-loop decreases-loop invariant-loop3 decreases-loop3
 add-odd-2 c = search rules
 
-mul-odd : tie.Need-overflow-mul-odd invariant-loop2 decreases-loop2 invariant-loop decreases-loop invariant-loop3 decreases-loop3
+mul-odd : tie.Need-offset_bounds-numbers-i-in-loop-j invariant-loop2 decreases-loop2 invariant-loop decreases-loop invariant-loop3 decreases-loop3
 mul-odd c = search rules
 
 shared-slice-read-odd :
-    tie.Need-shared-slice-read-odd invariant-loop2 decreases-loop2 invariant-loop decreases-loop invariant-loop3 decreases-loop3
+    tie.Need-bounds-numbers-i-in-loop-j invariant-loop2 decreases-loop2 invariant-loop decreases-loop invariant-loop3 decreases-loop3
 shared-slice-read-odd c = search rules
 
-add-j : tie.Need-overflow-add-j invariant-loop2 decreases-loop2 invariant-loop decreases-loop invariant-loop3 decreases-loop3
+add-j : tie.Need-overflow_add-j invariant-loop2 decreases-loop2 invariant-loop decreases-loop invariant-loop3 decreases-loop3
 add-j c = search rules
 
-loop2-less : tie.Need-loop2-smaller invariant-loop2 decreases-loop2 invariant-loop decreases-loop invariant-loop3 decreases-loop3
+loop2-less : tie.Need-loop-j-smaller invariant-loop2 decreases-loop2 invariant-loop decreases-loop invariant-loop3 decreases-loop3
 loop2-less c = search rules
 
-loop2-again : tie.Need-loop2-preserved invariant-loop2 decreases-loop2 invariant-loop decreases-loop invariant-loop3 decreases-loop3
+loop2-again : tie.Need-loop-j-preserved invariant-loop2 decreases-loop2 invariant-loop decreases-loop invariant-loop3 decreases-loop3
 loop2-again c =
-    let v = c.before.before.before.loop2 in
-    let i = c.before.before.before.before.before.loop.i in
-    let l = c.before.before.before.before.before.before.args.numbers.now in
+    let v = c.loop-j in
+    let i = c.loop-i.i in
+    let l = c.args.numbers.now in
     let e : i + (v.j + 2) ≡ i + v.j + 2 = omega arith in
     (omega arith, omega arith, v.invariant.2, v.invariant.3, rw e (two_next l v.even v.odd (i + v.j) (omega arith) ∙ v.invariant.4))
 
-add-i : tie.Need-overflow-add-i invariant-loop2 decreases-loop2 invariant-loop decreases-loop invariant-loop3 decreases-loop3
+add-i : tie.Need-overflow_add-i invariant-loop2 decreases-loop2 invariant-loop decreases-loop invariant-loop3 decreases-loop3
 add-i c = search rules
 
-loop-less : tie.Need-loop-smaller invariant-loop2 decreases-loop2 invariant-loop decreases-loop invariant-loop3 decreases-loop3
+loop-less : tie.Need-loop-i-smaller invariant-loop2 decreases-loop2 invariant-loop decreases-loop invariant-loop3 decreases-loop3
 loop-less c = search rules
 
-loop-again : tie.Need-loop-preserved invariant-loop2 decreases-loop2 invariant-loop decreases-loop invariant-loop3 decreases-loop3
+loop-again : tie.Need-loop-i-preserved invariant-loop2 decreases-loop2 invariant-loop decreases-loop invariant-loop3 decreases-loop3
 loop-again c =
-    let v = c.before.loop2 in
-    let l = c.before.before.before.loop.invariant in
+    let v = c.loop-j in
+    let l = c.loop-i.invariant in
     let e : v.j ≡ 24 = omega arith in
     (v.invariant.2, v.invariant.3, l.2, omega arith, rw e at v.invariant.4)
 
-loop3-holds : tie.Need-loop3-init invariant-loop2 decreases-loop2 invariant-loop decreases-loop invariant-loop3 decreases-loop3
-loop3-holds c = let v = c.before.loop.invariant in (omega arith, omega arith, v.4)
+loop3-holds : tie.Need-loop-i-2-init invariant-loop2 decreases-loop2 invariant-loop decreases-loop invariant-loop3 decreases-loop3
+loop3-holds c = let v = c.loop-i.invariant in (omega arith, omega arith, v.4)
 
-mul-even-2 : tie.Need-overflow-mul-even-2 invariant-loop2 decreases-loop2 invariant-loop decreases-loop invariant-loop3 decreases-loop3
+mul-even-2 : tie.Need-offset_bounds-numbers-i-in-loop-i-2 invariant-loop2 decreases-loop2 invariant-loop decreases-loop invariant-loop3 decreases-loop3
 mul-even-2 c = search rules
 
 shared-slice-read-even-2 :
-    tie.Need-shared-slice-read-even-2 invariant-loop2 decreases-loop2 invariant-loop decreases-loop invariant-loop3 decreases-loop3
+    tie.Need-bounds-numbers-i-in-loop-i-2 invariant-loop2 decreases-loop2 invariant-loop decreases-loop invariant-loop3 decreases-loop3
 shared-slice-read-even-2 c = search rules
 
-add-even-2 : tie.Need-overflow-add-even-2 invariant-loop2 decreases-loop2 invariant-loop decreases-loop invariant-loop3 decreases-loop3
+add-even-2 : tie.Need-overflow_add-even-in-loop-i-2 invariant-loop2 decreases-loop2 invariant-loop decreases-loop invariant-loop3 decreases-loop3
 add-even-2 c = search rules
 
-mul-even-3 : tie.Need-overflow-mul-even-3 invariant-loop2 decreases-loop2 invariant-loop decreases-loop invariant-loop3 decreases-loop3
+mul-even-3 : tie.Need-offset_bounds-numbers-i-in-loop-i-2-2 invariant-loop2 decreases-loop2 invariant-loop decreases-loop invariant-loop3 decreases-loop3
 mul-even-3 c = search rules
 
 shared-slice-read-even-3 :
-    tie.Need-shared-slice-read-even-3 invariant-loop2 decreases-loop2 invariant-loop decreases-loop invariant-loop3 decreases-loop3
+    tie.Need-bounds-numbers-i-in-loop-i-2-2 invariant-loop2 decreases-loop2 invariant-loop decreases-loop invariant-loop3 decreases-loop3
 shared-slice-read-even-3 c = search rules
 
-add-even-3 : tie.Need-overflow-add-even-3 invariant-loop2 decreases-loop2 invariant-loop decreases-loop invariant-loop3 decreases-loop3
+add-even-3 : tie.Need-overflow_add-even-in-loop-i-2-2 invariant-loop2 decreases-loop2 invariant-loop decreases-loop invariant-loop3 decreases-loop3
 add-even-3 c = search rules
 
-mul-even-4 : tie.Need-overflow-mul-even-4 invariant-loop2 decreases-loop2 invariant-loop decreases-loop invariant-loop3 decreases-loop3
+mul-even-4 : tie.Need-offset_bounds-numbers-i-in-loop-i-2-3 invariant-loop2 decreases-loop2 invariant-loop decreases-loop invariant-loop3 decreases-loop3
 mul-even-4 c = search rules
 
 shared-slice-read-even-4 :
-    tie.Need-shared-slice-read-even-4 invariant-loop2 decreases-loop2 invariant-loop decreases-loop invariant-loop3 decreases-loop3
+    tie.Need-bounds-numbers-i-in-loop-i-2-3 invariant-loop2 decreases-loop2 invariant-loop decreases-loop invariant-loop3 decreases-loop3
 shared-slice-read-even-4 c = search rules
 
-add-i-2 : tie.Need-overflow-add-i-2 invariant-loop2 decreases-loop2 invariant-loop decreases-loop invariant-loop3 decreases-loop3
+add-i-2 : tie.Need-overflow_add-i-in-loop-i-2 invariant-loop2 decreases-loop2 invariant-loop decreases-loop invariant-loop3 decreases-loop3
 add-i-2 c = search rules
 
-loop3-less : tie.Need-loop3-smaller invariant-loop2 decreases-loop2 invariant-loop decreases-loop invariant-loop3 decreases-loop3
+loop3-less : tie.Need-loop-i-2-smaller invariant-loop2 decreases-loop2 invariant-loop decreases-loop invariant-loop3 decreases-loop3
 loop3-less c = search rules
 
-loop3-again : tie.Need-loop3-preserved invariant-loop2 decreases-loop2 invariant-loop decreases-loop invariant-loop3 decreases-loop3
+loop3-again : tie.Need-loop-i-2-preserved invariant-loop2 decreases-loop2 invariant-loop decreases-loop invariant-loop3 decreases-loop3
 loop3-again c =
-    let v = c.before.before.before.before.loop3 in
-    let odd = c.before.before.before.before.before.before.loop.odd in
-    let l = c.before.before.before.before.before.before.before.args.numbers.now in
+    let v = c.loop-i-2 in
+    let odd = c.loop-i.odd in
+    let l = c.args.numbers.now in
     (omega arith, omega arith, three_next l v.even odd v.i (omega arith) ∙ v.invariant.2)
 
 returns : tie.Need-returns invariant-loop2 decreases-loop2 invariant-loop decreases-loop invariant-loop3 decreases-loop3
 returns c =
-    let v = c.before.loop3 in
-    zero_end c.before.before.before.before.args.numbers.now v.even c.before.before.before.loop.odd v.i (omega arith) ∙ v.invariant.2
+    let v = c.loop-i-2 in
+    zero_end c.args.numbers.now v.even c.loop-i.odd v.i (omega arith) ∙ v.invariant.2
 
-pub bits-spec : {M : Type 1} → statement M
-bits-spec =
+pub bits_spec : {M : Type 1} → statement M
+bits_spec =
     tie.close
     (tie.spec
     invariant-loop2

@@ -18,60 +18,63 @@ use Rattle.deadline_layout.specs.Places.{placed_with}
 use Rattle.deadline_layout.specs.Steps.{action_put_with}
 use Rattle.deadline_layout.proofs.steps.put_action.Statement.{statement}
 use Rattle.deadline_layout.proofs.steps.put_action.Tie as tie
+use Rattle.deadline_layout.proofs.steps.put_action.Lts.{then-action-ne-WAIT, else-action-ne-WAIT}
 
-slice-read-dated : tie.Need-slice-read-dated
+slice-read-dated : tie.Need-bounds-table-1
 slice-read-dated c = search rules
 
-slice-read-dated-2 : tie.Need-slice-read-dated-2
+slice-read-dated-2 : tie.Need-bounds-table-2
 slice-read-dated-2 c = search rules
 
-add-dated : tie.Need-overflow-add-dated
+add-dated : tie.Need-overflow_add-slot
 add-dated c = search rules
 
-mul-dated : tie.Need-overflow-mul-dated
+mul-dated : tie.Need-offset_bounds-table-slot
 mul-dated c = search rules
 
-slice-read-dated-3 : tie.Need-slice-read-dated-3
+slice-read-dated-3 : tie.Need-bounds-table-slot
 slice-read-dated-3 c = search rules
 
-dated-requires : tie.Need-dated-requires
+dated-requires : tie.Need-dated-reached-requires
 dated-requires c κs = search rules
 
-put-entry-requires : tie.Need-put-entry-requires
+put-entry-requires : tie.Need-put_entry-requires
 put-entry-requires c κs = search rules
 
 -- the entry, where one is written
-met : (c : tie.Joined1)
-    → (let a = c.before.before.args in
+met : (c : tie.Joined-action-ne-WAIT)
+    → (let a = c.args in
     let l = a.table.now in
-    c.if1.table
+    c.if-action-ne-WAIT.table
     ≡ cond (eqb a.action wait_act) l (placed_with l a.slot (dated_with (b_in l) (c_in l) (get_or l (limit_place a.slot) 0) a.transition.to)))
-met c = ⊎_elim
-    (λ w. w.9 ∙ w.6.ensures ∙ rw (w.4.ensures, ne_eqb _ _ w.0.taken))
-    (λ w. w.1 ∙ rw (eq-eqb _ _ w.0.left))
-    c.if1.branch
+met c =
+    elim c.if-action-ne-WAIT.branch [
+      then-action-ne-WAIT w ↦ w.table-is ∙ w.put_entry.ensures ∙ rw (w.dated-reached.ensures, ne_eqb _ _ w.if-action-ne-WAIT.true)
+    | else-action-ne-WAIT w ↦ w.table-is ∙ rw (eq-eqb _ _ w.if-action-ne-WAIT.false)
+    ]
 
-met-long : (c : tie.Joined1) → length c.if1.table ≡ deadline_length
-met-long c = ⊎_elim
-    (λ w. ap length (w.9 ∙ w.6.ensures) ∙ simp length-set c.before.before.requires.0)
-    (λ w. ap length w.1 ∙ c.before.before.requires.0)
-    c.if1.branch
+met-long : (c : tie.Joined-action-ne-WAIT) → length c.if-action-ne-WAIT.table ≡ deadline_length
+met-long c =
+    elim c.if-action-ne-WAIT.branch [
+      then-action-ne-WAIT w ↦ ap length (w.table-is ∙ w.put_entry.ensures) ∙ simp length-set c.requires.0
+    | else-action-ne-WAIT w ↦ ap length w.table-is ∙ c.requires.0
+    ]
 
-slice-write-table : tie.Need-slice-write-table
+slice-write-table : tie.Need-bounds-table-3
 slice-write-table c = omega (arith, met-long c)
 
-slice-write-table-2 : tie.Need-slice-write-table-2
+slice-write-table-2 : tie.Need-bounds-table-4
 slice-write-table-2 c = simp length-set (omega (arith, met-long c))
 
-same_length : tie.Need-same-length
-same_length c = simp length-set (met-long c ∙ sym c.before.before.requires.0)
+same_length : tie.Need-shape_of-table
+same_length c = simp length-set (met-long c ∙ sym c.requires.0)
 
 returns : tie.Need-returns
 unfolding action_put_with
-returns c = let a = c.before.before.args in ap (λ (l : List ℕ). clocked l a.time a.transition.word) (met c)
+returns c = let a = c.args in ap (λ (l : List ℕ). clocked l a.time a.transition.word) (met c)
 
-pub put-action-spec : {M : Type 1} → statement M
-put-action-spec =
+pub put_action_spec : {M : Type 1} → statement M
+put_action_spec =
     tie.close
     (tie.spec
     slice-read-dated

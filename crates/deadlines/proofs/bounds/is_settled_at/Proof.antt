@@ -1,5 +1,5 @@
 -- `deadlines::bounds::is_settled_at` meets its contract: each arm is the definition at its location, whose two times fit. Assumes nothing.
-use Rattle.std.proofs.Common.{◌∙◌, ⊎_elim, rules}
+use Rattle.std.proofs.Common.{◌∙◌, rules}
 use mathlib.Core.Bool.{false≢true}
 use Rattle.deadlines.proofs.bounds.is_settled_at.Statement.{statement}
 use Rattle.deadlines.proofs.bounds.is_settled_at.Tie as tie
@@ -44,11 +44,11 @@ returns-3 c = (rw c.in-Checking.is, λ e. absurd (false≢true e))
 returns-4 : tie.Need-returns-in-Testing
 returns-4 c =
     elim c.in-Testing.match-location-branch [
-       in-Testing w ↦ rw w.in-Testing.location-1-is (c.is_settled.ensures ∙ rw (w.first-is, w.last-is), λ _. w.in-Testing.known_told-1-own.given.1.0.1)
-    | in-Testing-2 w ↦ rw w.in-Testing.location-in-Setting-1-is (c.is_settled.ensures ∙ rw (w.first-is, w.last-is), λ _. w.in-Testing.known_told-in-Setting-1-own.given.1.0.1)
-    | in-Testing-3 w ↦ rw w.in-Testing.location-in-Entering-1-is (c.is_settled.ensures ∙ rw (w.first-is, w.last-is), λ _. w.in-Testing.known_told-in-Entering-1-own.given.1.0.1)
-    | in-Testing-4 w ↦ rw w.in-Testing.location-in-Resetting-1-is (c.is_settled.ensures ∙ rw (w.first-is, w.last-is), λ _. w.in-Testing.known_told-in-Resetting-1-own.given.1.0.1)
-    | in-Testing-5 w ↦ rw w.in-Testing.location-in-Leaving-1-is (c.is_settled.ensures ∙ rw (w.first-is, w.last-is), λ _. w.in-Testing.known_told-in-Leaving-1-own.given.1.0.1)
+      | in-Testing w ↦ rw w.in-Testing.location-1-is (c.is_settled.ensures ∙ rw (w.first-is, w.last-is), λ _. w.in-Testing.known_told-1-own.given.1.0.1)
+      | in-Testing-2 w ↦ rw w.in-Testing.location-in-Setting-1-is (c.is_settled.ensures ∙ rw (w.first-is, w.last-is), λ _. w.in-Testing.known_told-in-Setting-1-own.given.1.0.1)
+      | in-Testing-3 w ↦ rw w.in-Testing.location-in-Entering-1-is (c.is_settled.ensures ∙ rw (w.first-is, w.last-is), λ _. w.in-Testing.known_told-in-Entering-1-own.given.1.0.1)
+      | in-Testing-4 w ↦ rw w.in-Testing.location-in-Resetting-1-is (c.is_settled.ensures ∙ rw (w.first-is, w.last-is), λ _. w.in-Testing.known_told-in-Resetting-1-own.given.1.0.1)
+      | in-Testing-5 w ↦ rw w.in-Testing.location-in-Leaving-1-is (c.is_settled.ensures ∙ rw (w.first-is, w.last-is), λ _. w.in-Testing.known_told-in-Leaving-1-own.given.1.0.1)
     ]
 
 pub is_settled_at_spec : {M : Type 1} → statement M

@@ -1,5 +1,5 @@
 -- `deadlines::bounds::note` meets its contract: past the two tests, the location decides. Assumes nothing.
-use Rattle.std.proofs.Common.{◌≡◌, cond, ltb, ◌∙◌, ⊎_elim, rules, le-ltb, lt-ltb, eq-eqb, ne_eqb}
+use Rattle.std.proofs.Common.{◌≡◌, cond, ltb, ◌∙◌, rules, le-ltb, lt-ltb, eq-eqb, ne_eqb}
 use Rattle.rules.specs.declared.survey.Survey.{Survey}
 use Rattle.rules.specs.Survey.{unsound}
 use Rattle.deadlines.specs.Looks.{location_noted}
@@ -79,11 +79,11 @@ unfolding location_noted
 returns-6 c =
     c.note_bounds-in-Testing.ensures
     ∙ elim c.in-Testing.match-location-branch [
-      in-Testing w ↦ rw (w.in-Testing.location-in-Testing-1-is, w.first-is, w.last-is) (up-to-n c.before.before)
-    | in-Testing-2 w ↦ rw (w.in-Testing.location-in-Setting-1-is, w.first-is, w.last-is) (up-to-n c.before.before)
-    | in-Testing-3 w ↦ rw (w.in-Testing.location-in-Entering-1-is, w.first-is, w.last-is) (up-to-n c.before.before)
-    | in-Testing-4 w ↦ rw (w.in-Testing.location-in-Resetting-1-is, w.first-is, w.last-is) (up-to-n c.before.before)
-    | in-Testing-5 w ↦ rw (w.in-Testing.location-in-Leaving-1-is, w.first-is, w.last-is) (up-to-n c.before.before)
+      | in-Testing w ↦ rw (w.in-Testing.location-in-Testing-1-is, w.first-is, w.last-is) (up-to-n c.before.before)
+      | in-Testing-2 w ↦ rw (w.in-Testing.location-in-Setting-1-is, w.first-is, w.last-is) (up-to-n c.before.before)
+      | in-Testing-3 w ↦ rw (w.in-Testing.location-in-Entering-1-is, w.first-is, w.last-is) (up-to-n c.before.before)
+      | in-Testing-4 w ↦ rw (w.in-Testing.location-in-Resetting-1-is, w.first-is, w.last-is) (up-to-n c.before.before)
+      | in-Testing-5 w ↦ rw (w.in-Testing.location-in-Leaving-1-is, w.first-is, w.last-is) (up-to-n c.before.before)
     ]
 
 pub note_spec : {M : Type 1} → statement M

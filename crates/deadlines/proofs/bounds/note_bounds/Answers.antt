@@ -1,5 +1,5 @@
 -- `deadlines::bounds::note_bounds` meets its contract: each exit computes the tests up to the one that decided. Assumes nothing.
-use Rattle.std.proofs.Common.{◌∙◌, rules, le-ltb, lt-ltb, eq-eqb, ne_eqb}
+use Rattle.std.proofs.Common.{◌∙◌, le-ltb, lt-ltb, eq-eqb, ne_eqb}
 use Rattle.deadlines.specs.Looks.{bounds_noted}
 use Rattle.deadlines.proofs.bounds.note_bounds.Goals as goal
 

@@ -1,6 +1,5 @@
 -- `deadlines::locations::arrived` meets its contract: each arm is the definition at its location. Assumes nothing.
 use native.Mathlib.Nat.{sub-zero}
-use Rattle.std.proofs.Common.{rules}
 use Rattle.deadlines.proofs.locations.arrived.Goals as goal
 
 pub returns-in-Remainder : goal.returns-in-Remainder

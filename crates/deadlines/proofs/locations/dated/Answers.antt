@@ -1,5 +1,4 @@
 -- `deadlines::locations::dated` meets its contract: each arm is the definition at its location. Assumes nothing.
-use Rattle.std.proofs.Common.{rules}
 use Rattle.deadlines.proofs.locations.dated.Goals as goal
 
 pub returns-in-Remainder : goal.returns-in-Remainder

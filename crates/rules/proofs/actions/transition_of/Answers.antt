@@ -1,6 +1,6 @@
 -- `rules::actions::transition_of` meets its contract: each arm is the row of its act, and the last is for those that have none.
 -- Assumes nothing.
-use Rattle.std.proofs.Common.{◌+◌, ◌∙◌, rules}
+use Rattle.std.proofs.Common.{◌+◌, ◌∙◌}
 use Rattle.model.specs.Acts.{last_act, leaves}
 use Rattle.model.specs.Actions.{transition_of}
 use Rattle.rules.specs.Judging.{row_of}

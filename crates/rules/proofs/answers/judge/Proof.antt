@@ -1,6 +1,6 @@
 -- `rules::answers::judge` meets its contract. `past3`, `past5`, .. say at the place behind a test what is left of the
 -- definition there, so that each exit computes one condition. Assumes nothing.
-use Rattle.std.proofs.Common.{◌≡◌, false, cond, eqb, sym, ◌∙◌, ⊎_elim, rules, le-ltb, lt-ltb, eq-eqb, ne_eqb}
+use Rattle.std.proofs.Common.{◌≡◌, false, cond, eqb, sym, ◌∙◌, rules, le-ltb, lt-ltb, eq-eqb, ne_eqb}
 use Rattle.model.specs.Acts.{wait_act}
 use Rattle.model.specs.Answers.{answer_of, unknown, misnamed}
 use Rattle.rules.specs.Survey.{due_so_far}
@@ -105,8 +105,8 @@ in-time : (c : tie.Joined-found-ne0-2)
     overdue a.found a.scene.clock a.time ≡ false)
 in-time c =
     elim c.if-found-ne0-2.branch [
-      then-found-ne0-2+else-time_left-time w ↦ simp (ne_eqb _ _ w.if-found-ne0-2.true, rw w.time_left.ensures.0 at (le-ltb _ _ w.if-time_left-time.false))
-    | else-found-ne0-2 w ↦ simp (eq-eqb _ _ w.if-found-ne0-2.false)
+      | then-found-ne0-2+else-time_left-time w ↦ simp (ne_eqb _ _ w.if-found-ne0-2.true, rw w.time_left.ensures.0 at (le-ltb _ _ w.if-time_left-time.false))
+      | else-found-ne0-2 w ↦ simp (eq-eqb _ _ w.if-found-ne0-2.false)
     ]
 
 -- nobody is late

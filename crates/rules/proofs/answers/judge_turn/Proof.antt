@@ -1,6 +1,6 @@
 -- `rules::answers::judge_turn` meets its contract: each exit computes the conditions up to the one that decided.
 -- Assumes nothing.
-use Rattle.std.proofs.Common.{◌≡◌, false, ◌&&◌, eqb, ltb, ◌∙◌, ⊎_elim, rules, le-ltb, lt-ltb, eq-eqb, ne_eqb}
+use Rattle.std.proofs.Common.{◌≡◌, false, ◌&&◌, eqb, ltb, ◌∙◌, rules, le-ltb, lt-ltb, eq-eqb, ne_eqb}
 use Rattle.model.specs.Acts.{check_act}
 use Rattle.rules.specs.Judging.{turn_judged}
 use Rattle.rules.proofs.answers.judge_turn.Statement.{statement}
@@ -38,8 +38,8 @@ not-early : (c : tie.Joined-action-eq-CHECK)
     → (let a = c.args in eqb a.action check_act && ltb a.time a.release ≡ false)
 not-early c =
     elim c.if-action-eq-CHECK.branch [
-      then-action-eq-CHECK+else-time-release w ↦ simp (eq-eqb _ _ w.if-action-eq-CHECK.true, le-ltb _ _ w.if-time-release.false)
-    | else-action-eq-CHECK w ↦ simp (ne_eqb _ _ w.if-action-eq-CHECK.false)
+      | then-action-eq-CHECK+else-time-release w ↦ simp (eq-eqb _ _ w.if-action-eq-CHECK.true, le-ltb _ _ w.if-time-release.false)
+      | else-action-eq-CHECK w ↦ simp (ne_eqb _ _ w.if-action-eq-CHECK.false)
     ]
 
 returns-3 : tie.Need-returns

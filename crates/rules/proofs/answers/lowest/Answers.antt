@@ -1,5 +1,5 @@
 -- `rules::answers::lowest` meets its contract. Assumes nothing.
-use Rattle.std.proofs.Common.{rules, le-ltb, lt-ltb, eq-eqb, ne_eqb}
+use Rattle.std.proofs.Common.{le-ltb, lt-ltb, eq-eqb, ne_eqb}
 use Rattle.rules.specs.Judging.{lowest_of}
 use Rattle.rules.proofs.answers.lowest.Goals as goal
 

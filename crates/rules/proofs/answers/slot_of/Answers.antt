@@ -1,5 +1,5 @@
 -- `rules::answers::slot_of` meets its contract. Assumes nothing.
-use Rattle.std.proofs.Common.{rules, le-ltb, lt-ltb}
+use Rattle.std.proofs.Common.{le-ltb, lt-ltb}
 use Rattle.rules.proofs.answers.slot_of.Goals as goal
 
 pub returns-then-process-eq0 : goal.returns-then-process-eq0

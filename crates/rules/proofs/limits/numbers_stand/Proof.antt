@@ -1,7 +1,7 @@
 -- `rules::limits::numbers_stand` meets its contract: each exit computes the conjunction up to the test that decided.
 -- Assumes nothing.
 use Rattle.std.proofs.Common.{◌≡◌, ℕ, ◌<◌, ◌≤◌, true, false, leb, sym, ◌∙◌, rules, le-leb}
-use borrow.Author.Tests.{lt-leb, not-true, not-false}
+use borrow.Author.Tests.{lt-leb}
 use Rattle.model.specs.declared.Parameters.{Parameters}
 use Rattle.model.specs.States.{parameters_of, parameters_stand, last_time}
 use Rattle.rules.specs.Survey.{numbers_stand}

@@ -1,5 +1,5 @@
 -- `rules::survey::fault` meets its contract. Assumes nothing.
-use Rattle.std.proofs.Common.{◌∙◌, rules}
+use Rattle.std.proofs.Common.{◌∙◌}
 use Rattle.rules.proofs.survey.fault.Goals as goal
 
 pub returns : goal.returns

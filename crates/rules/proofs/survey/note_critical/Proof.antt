@@ -25,8 +25,8 @@ lowest_is : (c : tie.Joined-lowest-eq0)
     → (let a = c.args in c.if-lowest-eq0.lowest ≡ cond (eqb a.found.critical 0) a.process a.found.critical)
 lowest_is c =
     elim c.if-lowest-eq0.branch [
-      then-lowest-eq0 w ↦ w.lowest-is ∙ sym (simp (eq-eqb _ _ w.if-lowest-eq0.true))
-    | else-lowest-eq0 w ↦ w.lowest-is ∙ sym (simp (ne_eqb _ _ w.if-lowest-eq0.false))
+      | then-lowest-eq0 w ↦ w.lowest-is ∙ sym (simp (eq-eqb _ _ w.if-lowest-eq0.true))
+      | else-lowest-eq0 w ↦ w.lowest-is ∙ sym (simp (ne_eqb _ _ w.if-lowest-eq0.false))
     ]
 
 returns : tie.Need-returns-then-lowest-acting

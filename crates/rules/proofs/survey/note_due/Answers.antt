@@ -1,5 +1,5 @@
 -- `rules::survey::note_due` meets its contract; past both tests what is left is less than the time left so far, so it fits. Assumes nothing.
-use Rattle.std.proofs.Common.{◌∙◌, rules, le-ltb, lt-ltb, le-leb}
+use Rattle.std.proofs.Common.{◌∙◌, le-ltb, lt-ltb, le-leb}
 use borrow.Author.Tests.{lt-leb}
 use Rattle.rules.proofs.survey.note_due.Goals as goal
 

@@ -1,5 +1,5 @@
 -- `rules::survey::note_later` meets its contract: each exit computes the tests up to the one that decided. Assumes nothing.
-use Rattle.std.proofs.Common.{◌∙◌, rules, le-ltb, lt-ltb, eq-eqb, ne_eqb}
+use Rattle.std.proofs.Common.{◌∙◌, le-ltb, lt-ltb, eq-eqb, ne_eqb}
 use Rattle.rules.specs.Survey.{later_noted}
 use Rattle.rules.proofs.survey.note_later.Goals as goal
 

@@ -1,5 +1,5 @@
 -- `rules::survey::note_timed` meets its contract. Assumes nothing.
-use Rattle.std.proofs.Common.{◌∙◌, rules, le-ltb, lt-ltb}
+use Rattle.std.proofs.Common.{◌∙◌, le-ltb, lt-ltb}
 use Rattle.rules.proofs.survey.note_timed.Goals as goal
 
 pub returns-then-clock-since : goal.returns-then-clock-since

@@ -1,6 +1,5 @@
 -- What the check of `limits::all_faults` does not find alone. Assumes nothing.
-use Rattle.std.proofs.Common.{◌≡◌, ◌-◌, ◌≤◌, ◌&&◌, ltb, length, drop, sym, refl, ◌∙◌, arith, rules}
-use Rattle.values.specs.Within.{top_bit, within}
+use Rattle.std.proofs.Common.{sym, refl, ◌∙◌, arith}
 use Rattle.values.proofs.Values.{within_next, within_end}
 use Rattle.values.proofs.limits.all_faults.Goals as goal
 

@@ -1,7 +1,6 @@
 -- `values::limits::all_faults` meets its contract: the top bit of what is passed, and what is left, come to all of them. Assumes nothing.
-use Rattle.std.proofs.Common.{◌≡◌, ◌-◌, ◌≤◌, ◌&&◌, ltb, length, drop, sym, refl, ◌∙◌, arith, rules}
+use Rattle.std.proofs.Common.{◌≡◌, ◌-◌, ◌≤◌, ◌&&◌, ltb, length, drop}
 use Rattle.values.specs.Within.{top_bit, within}
-use Rattle.values.proofs.Values.{within_next, within_end}
 use Rattle.values.proofs.limits.all_faults.Given as goal
 
 abbrev pub invariant-loop-i : goal.invariant-loop-i

@@ -1,5 +1,5 @@
 -- What the check of `limits::equal_limits` does not find alone. Assumes nothing.
-use Rattle.std.proofs.Common.{◌≡◌, ℕ, ◌+◌, ◌-◌, ◌<◌, ◌≤◌, List, set, replicate, sym, refl, ap, ◌∙◌, arith, rules}
+use Rattle.std.proofs.Common.{◌≡◌, ℕ, ◌+◌, ◌<◌, List, set, replicate, sym, refl, ap, ◌∙◌, arith}
 use lib.ListN.{length-replicate, get_or-replicate}
 use Rattle.values.proofs.Values.{filled, filled_next, filled_all, filled_short}
 use Rattle.values.proofs.limits.equal_limits.Goals as goal

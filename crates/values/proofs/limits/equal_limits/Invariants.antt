@@ -1,7 +1,6 @@
 -- `values::limits::equal_limits` meets its contract: as `limits_in` of n equal values. Assumes nothing.
-use Rattle.std.proofs.Common.{◌≡◌, ℕ, ◌+◌, ◌-◌, ◌<◌, ◌≤◌, List, set, replicate, sym, refl, ap, ◌∙◌, arith, rules}
-use lib.ListN.{length-replicate, get_or-replicate}
-use Rattle.values.proofs.Values.{filled, filled_next, filled_all, filled_short}
+use Rattle.std.proofs.Common.{◌≡◌, ◌-◌, ◌≤◌, replicate}
+use Rattle.values.proofs.Values.{filled}
 use Rattle.values.proofs.limits.equal_limits.Given as goal
 
 abbrev pub invariant-loop-i : goal.invariant-loop-i

@@ -1,5 +1,5 @@
 -- `values::limits::limit_of` meets its contract: the place of process 0 is that of process 1. Assumes nothing.
-use Rattle.std.proofs.Common.{ℕ, ◌-◌, get_or, sym, ap, ◌∙◌, rules}
+use Rattle.std.proofs.Common.{ℕ, ◌-◌, get_or, sym, ap, ◌∙◌}
 use Rattle.model.specs.States.{limit_at}
 use Rattle.values.proofs.limits.limit_of.Goals as goal
 

@@ -1,6 +1,6 @@
 -- What the check of `limits::limits_in` does not find alone. Assumes nothing.
-use Rattle.std.proofs.Common.{◌≡◌, ℕ, ◌-◌, ◌≤◌, List, length, get_or, set, refl, ap, ◌∙◌, arith, rules}
-use Rattle.values.proofs.Values.{filled, filled_next, filled_all, filled_short}
+use Rattle.std.proofs.Common.{ℕ, List, get_or, set, refl, ap, ◌∙◌, arith}
+use Rattle.values.proofs.Values.{filled_next, filled_all, filled_short}
 use Rattle.values.proofs.limits.limits_in.Goals as goal
 
 pub loop-i-init : goal.loop-i-init

@@ -1,6 +1,6 @@
 -- `values::limits::limits_in` meets its contract: the first i values, and 0 for those after them. Assumes nothing.
-use Rattle.std.proofs.Common.{◌≡◌, ℕ, ◌-◌, ◌≤◌, List, length, get_or, set, refl, ap, ◌∙◌, arith, rules}
-use Rattle.values.proofs.Values.{filled, filled_next, filled_all, filled_short}
+use Rattle.std.proofs.Common.{◌≡◌, ◌-◌, ◌≤◌, length}
+use Rattle.values.proofs.Values.{filled}
 use Rattle.values.proofs.limits.limits_in.Given as goal
 
 abbrev pub invariant-loop-i : goal.invariant-loop-i

@@ -1,5 +1,5 @@
 -- `values::limits::number_at` meets its contract: past the end there is 0. Assumes nothing.
-use Rattle.std.proofs.Common.{sym, rules}
+use Rattle.std.proofs.Common.{sym}
 use lib.ListN.{get_or-eq_default}
 use Rattle.values.proofs.limits.number_at.Goals as goal
 

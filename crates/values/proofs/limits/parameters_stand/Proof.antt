@@ -1,7 +1,6 @@
 -- `values::limits::parameters_stand` meets its contract: each exit tells which part does not stand, and the last one that all before it do.
 -- Assumes nothing.
 use Rattle.std.proofs.Common.{◌≡◌, ◌≤◌, true, leb, sym, ap, ◌∙◌, arith, length-take-le, rules, le-ltb, lt-ltb, leb-true}
-use borrow.Author.Tests.{not-true, not-false}
 use Rattle.model.specs.States.{parameters_of, count_stands}
 use Rattle.model.proofs.Tests.{clash, and_true_iff}
 use Rattle.model.proofs.Lists.{part_is}
