@@ -10,7 +10,7 @@ use Rattle.model.proofs.OwnLimits.{limits_whole}
 use Rattle.layout.specs.Interface.{Lent, lent_fresh, lent_step, LentSummary, lent_summary, LentBoth, lent_record}
 use Rattle.recent.specs.Encodings.{LentBoard, lent_set_up, lent_add, lent_show}
 use Rattle.recent.specs.Tellings.{LentTold, lent_tell}
-use Rattle.exported.specs.Lending.{Lends, LendsLimits, Starts, StartsSummary, StepsTo, RecordsTo, SetsUp, AddsTo, ShowsOn, TellsTo}
+use Rattle.exported.specs.Lending.{Lends, LendsToRead, LendsLimits, Starts, StartsSummary, StepsTo, RecordsTo, SetsUp, AddsTo, ShowsOn, TellsTo}
 
 -- One result is allowed
 
@@ -46,8 +46,17 @@ tells_is table summary board act p m r s =
 -- a list that holds `before` may be lent, and be left with `after`
 abbrev pub lending : (before after : List ℕ) → Lends before after
 lending before after = record {
-  lent = record { ref_ptr = (0, 0); now = before };
-  left = record { ref_ptr = (0, 0); now = after };
+  lent = record { ref_ptr = (0, 0); ghost_name = 0; now = before };
+  left = record { ref_ptr = (0, 0); ghost_name = 0; now = after };
+  entry = refl;
+  exit = refl;
+}
+
+-- a list that holds these numbers may be lent to be read
+abbrev pub reading : (numbers : List ℕ) → LendsToRead numbers
+reading numbers = record {
+  lent = record { ref_ptr = (0, 0); now = numbers };
+  left = record { ref_ptr = (0, 0); now = numbers };
   entry = refl;
   exit = refl;
 }
@@ -57,4 +66,4 @@ pub whole : (a : List ℕ) → length a ≡ 96 → limits_in a ≡ a
 whole a size = ap limits_in (sym (append-nil a)) ∙ limits_whole a [] size
 
 abbrev pub lending_limits : (a : List ℕ) → length a ≡ 96 → LendsLimits a
-lending_limits a size = record { values = a; told = whole a size; list = lending a a }
+lending_limits a size = record { values = a; told = whole a size; list = reading a }

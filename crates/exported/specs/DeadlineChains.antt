@@ -19,7 +19,7 @@ use Rattle.deadlines.specs.Matching.{Matches}
 use Rattle.matching.specs.Facts.{HasTimes}
 use Rattle.matching.specs.Lists.{Demand3With}
 use Rattle.deadline_layout.specs.Encodings.{deadline_length, state_numbers_with, deadline_table_in, is_sound_deadline_table}
-use Rattle.exported.specs.Lending.{Lends, LendsLimits}
+use Rattle.exported.specs.Lending.{Lends, LendsToRead, LendsLimits}
 use Rattle.funnelfawn.proofs.funnelfawn_fresh_deadlines.Reads as fresh-reads
 use Rattle.funnelfawn.proofs.funnelfawn_step_deadlines.Reads as step-reads
 use Rattle.funnelfawn.proofs.funnelfawn_to_deadlines.Reads as to_reads
@@ -43,13 +43,13 @@ StepsDeadlines table act p m r =
 -- [12.140] `funnelfawn_to_deadlines` may give r, whose numbers are those of the second list; the first is only read
 abbrev pub GoesToDeadlines : List ℕ → List ℕ → Lent → Type 0
 GoesToDeadlines table out r =
-    (κs : Lfts 2) × (t : Lends table table) × (o : Lends out r.table)
+    (κs : Lfts 2) × (t : LendsToRead table) × (o : Lends out r.table)
     × to_reads.Post κs (t.lent, (o.lent, tt)) r.answer (t.left, (o.left, tt))
 
 -- [12.140] `funnelfawn_to_arrivals` may give r
 abbrev pub GoesToArrivals : List ℕ → List ℕ → Lent → Type 0
 GoesToArrivals deadlines out r =
-    (κs : Lfts 2) × (t : Lends deadlines deadlines) × (o : Lends out r.table)
+    (κs : Lfts 2) × (t : LendsToRead deadlines) × (o : Lends out r.table)
     × fro-reads.Post κs (t.lent, (o.lent, tt)) r.answer (t.left, (o.left, tt))
 
 -- Chains

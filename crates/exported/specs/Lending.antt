@@ -2,7 +2,7 @@
 -- answers and which numbers may come of a call. Assumes nothing.
 use Rattle.std.specs.Prelude.{ℕ, ◌≡◌, List}
 use contract.Lifetimes.{Lfts}
-use Rattle.std.specs.Borrow.{Bor}
+use Rattle.std.specs.Borrow.{Bor, MutBor}
 use Rattle.model.specs.declared.Parameters.{Parameters}
 use Rattle.model.specs.States.{limits_in}
 use Rattle.layout.specs.Interface.{Lent, LentSummary, LentBoth}
@@ -19,16 +19,23 @@ use Rattle.funnelfawn.proofs.funnelfawn_record_and_tell.Reads as tell-reads
 
 -- [9.152] [10.236] a list is lent that holds the numbers `before`, and is left with the numbers `after`
 pub record Lends (before after : List ℕ) : Type 0 where
-  pub lent : Bor (List ℕ)
-  pub left : Bor (List ℕ)
+  pub lent : MutBor (List ℕ)
+  pub left : MutBor (List ℕ)
   pub entry : lent.now ≡ before
   pub exit : left.now ≡ after
+
+-- [9.152] a list is lent that holds these numbers, and is only read
+pub record LendsToRead (numbers : List ℕ) : Type 0 where
+  pub lent : Bor (List ℕ)
+  pub left : Bor (List ℕ)
+  pub entry : lent.now ≡ numbers
+  pub exit : left.now ≡ numbers
 
 -- [9.45] a list is lent that stands for these values of a, and is only read
 pub record LendsLimits (a : List ℕ) : Type 0 where
   pub values : List ℕ
   pub told : limits_in values ≡ a
-  pub list : Lends values values
+  pub list : LendsToRead values
 
 -- Starts
 
