@@ -115,7 +115,7 @@ fn acts_that_tell_a_board() {
 
 /// The table under "The foyer board" in docs/guide/waits.md, row by row, with the acts that it leaves out.
 #[test]
-fn the_guide_s_board() {
+fn the_readme_s_board() {
     let answer = raw::set_up_board(60, &mut [0; raw::BOARD]);
     assert_eq!(answer, raw::Answer { number: 0, window: 0, moment: 0 });
     let mut sale = Sale::new(60);

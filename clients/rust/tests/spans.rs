@@ -51,7 +51,7 @@ fn open_and_closed() {
 
 /// The lines of the report that the table in docs/guide/spans.md shows.
 #[test]
-fn the_report_in_the_guide() {
+fn the_report_in_the_readme() {
     let report = String::from_utf8(replay(REFUSED_BETWEEN)).unwrap();
     for line in ["8,9,2,0", "9,0,1,12", "10,4,0,12", "11,9,2,0", "12,0,0,16", "19,0,2,31"] {
         assert!(report.lines().any(|reported| reported == line), "{line}");

@@ -61,7 +61,7 @@ fn a_wait_grows_until_the_entry() {
 
 /// The sale under "The longest wait" in docs/guide/waits.md: window 2 tries at 100 and is let in at 1,000, and from 150 to 900 window 1 sells.
 #[test]
-fn the_guide_s_wait() {
+fn the_readme_s_wait() {
     let recording = read(INPUT).unwrap();
     assert_eq!(recording.limits, Limits::equal(2, 80, 90, 100));
     let mut sale = Sale::new(80, 90, 100);

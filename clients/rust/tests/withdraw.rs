@@ -102,7 +102,7 @@ fn a_wait_is_counted_from_the_later_try() {
 
 /// The table in docs/guide/withdrawing.md, row by row.
 #[test]
-fn the_guide_s_recording() {
+fn the_readme_s_recording() {
     assert_eq!(String::from_utf8(replay(INPUT)).unwrap(), OUTPUT);
     let recording = read(INPUT).unwrap();
     assert_eq!(recording.steps.iter().filter(|step| step.act == Withdraw.into()).count(), 3);
