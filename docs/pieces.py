@@ -165,7 +165,7 @@ def program_in_c(piece):
 def check_c(piece):
     source, program = WORK / f"{piece.name}.c", WORK / piece.name
     source.write_text(program_in_c(piece), encoding="utf8")
-    flags = ["-std=c11", "-Wall", "-Wextra", "-Werror", "-I", "include"]
+    flags = ["-std=c11", "-Wall", "-Wextra", "-Wpedantic", "-Werror", "-I", "include"]
     built = run(["cc", *flags, str(source), str(LIBRARY / "libfunnelfawn.a"), "-o", str(program)], seconds=COMPILING)
     if built.status != 0:
         return [f"{piece.page}:{piece.line}: does not compile\n{indented(built.errors)}"]

@@ -17,8 +17,8 @@ OF_THE_KIT = {"mut_Tells", "uint_Makes", "uint_Tells", "walk_Meets"}
 
 
 def files(ends):
-    for top in ("crates", "docs", "README.md", "bench", "clients", "reference", "include"):
-        if os.path.isfile(top):
+    for top in ("crates", "crates.txt", "docs", "README.md"):
+        if os.path.isfile(top) and top.endswith(ends):
             yield top
         for folder, folders, names in os.walk(top):
             folders[:] = sorted(f for f in folders if f not in ("out", "target", ".git"))
@@ -115,13 +115,13 @@ def main():
     for path in files((".antt",)):
         now.update(code_words(text_of(path)))
     spelled = dict(turned)
-    for path in files((".md", ".edit")):
+    for path in files((".md", ".txt", ".edit")):
         for w in WORD.findall(text_of(path)):
             if is_camel(w) and w not in now and snake(w) in now:
                 spelled[w] = snake(w)
-    for path in files((".md", ".edit")):
+    for path in files((".md", ".txt", ".edit")):
         text = text_of(path)
-        new = turn_pages(text, turned, spelled) if path.endswith(".md") else WORD.sub(lambda f: spelled.get(f.group(0), f.group(0)), text)
+        new = turn_pages(text, turned, spelled) if path.endswith((".md", ".txt")) else WORD.sub(lambda f: spelled.get(f.group(0), f.group(0)), text)
         if new != text:
             changed += 1
             with open(path, "w", encoding="utf-8") as file:

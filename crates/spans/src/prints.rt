@@ -15,8 +15,7 @@ fn render(text: &[u8], out: &mut [u8]) -> usize
     ensures out_after { take result out.new ≡ printed_text text.now }
 {
     let written = write_intervals(text, out);
-    let is_whole = written.code == 0;
-    if is_whole {
+    if written.code == 0 {
         return written.time as usize;
     }
     let reported = report(text, out);

@@ -26,21 +26,21 @@ reports {mid = mid} text out wrote other wide gave done =
     rw (reported text out wide (rw (gave_answer wrote) at other))
     (rw (answer, gave_out gave) (whole (report_text text) mid (sym (ap (λ (a : Answer). a.code) answer) ∙ done)))
 
-pub returns-then-is_whole-clause-prefix_len : goal.returns-then-is_whole-clause-prefix_len
-returns-then-is_whole-clause-prefix_len c =
-    let w = intervals c.args.text.now c.args.out.now c.write_intervals-written.ensures c.if-is_whole.true in
+pub returns-then-written-eq0-clause-prefix_len : goal.returns-then-written-eq0-clause-prefix_len
+returns-then-written-eq0-clause-prefix_len c =
+    let w = intervals c.args.text.now c.args.out.now c.write_intervals-written.ensures c.if-written-eq0.true in
     (w.within, simp length-take (omega (arith, w.within)))
 
-pub returns-then-is_whole-clause-out_after : goal.returns-then-is_whole-clause-out_after
-returns-then-is_whole-clause-out_after c =
-    (intervals c.args.text.now c.args.out.now c.write_intervals-written.ensures c.if-is_whole.true).bytes
+pub returns-then-written-eq0-clause-out_after : goal.returns-then-written-eq0-clause-out_after
+returns-then-written-eq0-clause-out_after c =
+    (intervals c.args.text.now c.args.out.now c.write_intervals-written.ensures c.if-written-eq0.true).bytes
 
 pub returns-clause-prefix_len : goal.returns-clause-prefix_len
 returns-clause-prefix_len c =
     let e = c.report-reported.ensures in
     let room : 687734 ≤ length c.write_intervals-written.new.out = omega (arith, c.requires, c.write_intervals-written.auto.out) in
     let w =
-    reports c.args.text.now c.args.out.now c.write_intervals-written.ensures c.if-is_whole.false (omega (arith, c.requires))
+    reports c.args.text.now c.args.out.now c.write_intervals-written.ensures c.if-written-eq0.false (omega (arith, c.requires))
     e.report (e.room room) in
     (w.within, simp length-take (omega (arith, w.within)))
 
@@ -48,5 +48,5 @@ pub returns-clause-out_after : goal.returns-clause-out_after
 returns-clause-out_after c =
     let e = c.report-reported.ensures in
     let room : 687734 ≤ length c.write_intervals-written.new.out = omega (arith, c.requires, c.write_intervals-written.auto.out) in
-    (reports c.args.text.now c.args.out.now c.write_intervals-written.ensures c.if-is_whole.false (omega (arith, c.requires))
+    (reports c.args.text.now c.args.out.now c.write_intervals-written.ensures c.if-written-eq0.false (omega (arith, c.requires))
     e.report (e.room room)).bytes
