@@ -52,7 +52,8 @@ attempts_append s xs ys =
 
 -- the attempt of row i, and those after it
 pub attempts_next : (l : Lists) (rows : List (List ℕ)) (i : ℕ) (d : List ℕ) → i < room l → i < length rows
-    → attempts_by_rows (from i l) (drop i rows) ≡ attempted (event_in l i) (get_or (get_or rows i d) 0 0) ∷ attempts_by_rows (from (i + 1) l) (drop (i + 1) rows)
+    → attempts_by_rows (from i l) (drop i rows) ≡ attempted (event_in l i) (get_or (get_or rows i d) 0 0) ∷ attempts_by_rows (from (i + 1) l)
+    (drop (i + 1) rows)
 unfolding attempts_of
 attempts_next l rows i d h g = rw (steps_next l i h, drop_at rows i d g)
 

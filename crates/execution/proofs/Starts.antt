@@ -54,10 +54,22 @@ module _ (text : List ℕ) (l : Lists) (wide : room l ≡ 8187) where
   refusal_of (trace line k events) q = rw (roomy line k events q) (λ z. absurd (z refl))
 
   module _ {x : Started} (e : x ≡ started_of text l) where
-    pub ready : x.scan.code ≡ 0 → Ready text x
+    ready : x.scan.code ≡ 0 → Ready text x
     unfolding started_of scanned_of
     ready = subst (λ (y : Started). y.scan.code ≡ 0 → Ready text y) (sym e) (ready_of (trace_of text) refl)
 
-    pub refusal : x.scan.code ≢ 0 → Refusal text x
+    refusal : x.scan.code ≢ 0 → Refusal text x
     unfolding started_of scanned_of
     refusal = subst (λ (y : Started). y.scan.code ≢ 0 → Refusal text y) (sym e) (refusal_of (trace_of text) refl)
+
+-- the same of lists that have 8,187 places each
+module _ (text : List ℕ) (l : Lists) (times : 8187 ≡ length l.times) (processes : 8187 ≡ length l.processes) (actions : 8187 ≡ length l.actions)
+    {x : Started} (e : x ≡ started_of text l) where
+  wide_lists : room l ≡ 8187
+  wide_lists = omega arith
+
+  pub ready_in : x.scan.code ≡ 0 → Ready text x
+  ready_in = ready text l wide_lists e
+
+  pub refusal_in : x.scan.code ≢ 0 → Refusal text x
+  refusal_in = refusal text l wide_lists e

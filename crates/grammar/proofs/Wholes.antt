@@ -5,7 +5,8 @@ use Rattle.model.specs.States.{limits_in, own_stand, limits_stand, limit_at, ent
 use Rattle.model.specs.Actions.{transition_of, effect}
 use Rattle.model.specs.Answers.{first_by, first_deadline, critical_by, critical_of, step_of, fresh_of}
 use Rattle.model.specs.Folds.{results_by}
-use Rattle.model.specs.Texts.{decimal_in, decimal, number_text, numbers_text, values_text, limits_text, head_text, word_text, event_text, events_text, first_line}
+use Rattle.model.specs.Texts.{decimal_in, decimal, number_text, numbers_text, values_text, limits_text, head_text, word_text, event_text}
+use Rattle.model.specs.Texts.{events_text, first_line}
 use Rattle.model.specs.Readings.{starts_with, number_from, word_from, event_at, numbers_from, limits_from, head_of, body_in, body_of, trace_of}
 use Rattle.model.specs.Reports.{rows_text, report_text}
 use Rattle.grammar.specs.Wholes.{WholeCase, NewCase, RenewedCase, NamesCase, EmptyCase, FirstOfFaults}
@@ -36,5 +37,6 @@ unfolding decimal_in decimal number_text numbers_text starts_with head_of trace_
 empty_case = refl
 
 pub first_of_faults : FirstOfFaults
-unfolding limits_in own_stand limits_stand decimal_in decimal number_text numbers_text starts_with number_from numbers_from limits_from head_of trace_of report_text
+unfolding limits_in own_stand limits_stand decimal_in decimal number_text numbers_text starts_with number_from numbers_from limits_from head_of
+    trace_of report_text
 first_of_faults = record { limits = refl; limit-names = refl; order = refl }

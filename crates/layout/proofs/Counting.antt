@@ -1,5 +1,7 @@
 -- Counting an act in the numbers of a summary is counting it in the summary that they tell. Assumes nothing.
-use Rattle.std.proofs.Common.{◌≡◌, ℕ, ◌+◌, ◌-◌, ◌^◌, ◌<◌, ◌≤◌, List, [], ◌∷◌, ◌++◌, length, get_or, take, drop, set, sym, refl, ap, ◌∙◌, append-nil, mod-eq_of_lt, arith, length-append, length-drop, length-set, take-append-drop, length-take-le, get_or-drop, take_all}
+use Rattle.std.proofs.Common.{◌≡◌, ℕ, ◌+◌, ◌-◌, ◌^◌, ◌<◌, ◌≤◌, List, [], ◌∷◌, ◌++◌, length, get_or, take, drop, set, sym, refl, ap, ◌∙◌}
+use Rattle.std.proofs.Common.{append-nil, mod-eq_of_lt, arith, length-append, length-drop, length-set, take-append-drop, length-take-le}
+use Rattle.std.proofs.Common.{get_or-drop, take_all}
 use Rattle.model.specs.declared.Counts.{Counts}
 use Rattle.model.specs.declared.Process.{Process}
 use Rattle.model.specs.declared.Statistics.{Statistics}

@@ -1,6 +1,7 @@
 -- The numbers of the entries of a table, one entry after the other: which entry of the state each tells, and whether those that are left
 -- are sound. Above n, entries are sound just where all their numbers are 0. Assumes nothing.
-use Rattle.std.proofs.Common.{◌≡◌, ℕ, zero, suc, ◌+◌, ◌*◌, ◌<◌, ◌≤◌, Bool, true, false, ◌&&◌, eqb, ◌≢◌, List, [], ◌∷◌, length, get_or, drop, sym, refl, ap, ◌∙◌, arith, length-drop, get_or-drop, ne_eqb}
+use Rattle.std.proofs.Common.{◌≡◌, ℕ, zero, suc, ◌+◌, ◌*◌, ◌<◌, ◌≤◌, Bool, true, false, ◌&&◌, eqb, ◌≢◌, List, [], ◌∷◌, length, get_or, drop}
+use Rattle.std.proofs.Common.{sym, refl, ap, ◌∙◌, arith, length-drop, get_or-drop, ne_eqb}
 use mathlib.Core.Bool.{and-false, and_assoc}
 use borrow.Author.Tests.{lt-leb}
 use Rattle.model.specs.declared.Location.{Location}

@@ -1,5 +1,6 @@
 -- Laws of storing in a list: from the front, behind its front, and the front as a whole. Assumes nothing.
-use Rattle.std.proofs.Common.{◌≡◌, ℕ, ◌+◌, ◌<◌, List, [], ◌∷◌, ◌++◌, length, take, drop, set, ap, ◌∙◌, suc-add, zero-add, add-one, arith, length-set, take-suc-set}
+use Rattle.std.proofs.Common.{◌≡◌, ℕ, ◌+◌, ◌<◌, List, [], ◌∷◌, ◌++◌, length, take, drop, set, ap, ◌∙◌, suc-add, zero-add, add-one, arith}
+use Rattle.std.proofs.Common.{length-set, take-suc-set}
 use lib.Seq.{append_snoc}
 use Rattle.model.specs.Readings.{over}
 

@@ -1,6 +1,8 @@
 -- Numbers and what they tell: a table and a summary come back from their numbers, the numbers of an entry or a table from what they
 -- tell, and how many they are. Assumes nothing.
-use Rattle.std.proofs.Common.{◌≡◌, ℕ, zero, suc, ◌+◌, ◌*◌, ◌<◌, ◌≤◌, true, List, [], ◌∷◌, ◌++◌, length, get_or, drop, set, sym, refl, ap, ◌∙◌, arith, length-append, length-drop, take-append-drop, length-take-le, drop-drop, take_at, drop_at as seam-at, eq-eqb}
+use Rattle.std.proofs.Common.{◌≡◌, ℕ, zero, suc, ◌+◌, ◌*◌, ◌<◌, ◌≤◌, true, List, [], ◌∷◌, ◌++◌, length, get_or, drop, set, sym, refl, ap}
+use Rattle.std.proofs.Common.{◌∙◌, arith, length-append, length-drop, take-append-drop, length-take-le, drop-drop, take_at}
+use Rattle.std.proofs.Common.{drop_at as seam-at, eq-eqb}
 use mathlib.Core.Bool.{false≢true}
 use Rattle.model.specs.declared.Location.{Location}
 use Rattle.model.specs.declared.Location.TheVariants.{Remainder, Testing, Setting, Checking, Entering, Critical, Resetting, Leaving}

@@ -1,5 +1,6 @@
 -- What the recorded step gives back on lent lists, of which the first numbers are the table and the summary. Assumes nothing.
-use Rattle.std.proofs.Common.{◌≡◌, ℕ, ◌+◌, ◌-◌, ◌^◌, ◌<◌, ◌≤◌, true, false, ◌≢◌, List, [], ◌++◌, length, get_or, take, drop, sym, refl, ap, ◌∙◌, append-nil, arith, length-take-le, le-ltb, lt-ltb, eq-eqb, ne_eqb}
+use Rattle.std.proofs.Common.{◌≡◌, ℕ, ◌+◌, ◌-◌, ◌^◌, ◌<◌, ◌≤◌, true, false, ◌≢◌, List, [], ◌++◌, length, get_or, take, drop, sym, refl, ap}
+use Rattle.std.proofs.Common.{◌∙◌, append-nil, arith, length-take-le, le-ltb, lt-ltb, eq-eqb, ne_eqb}
 use Rattle.model.specs.declared.State.{State}
 use Rattle.model.specs.declared.Answer.{Answer}
 use Rattle.model.specs.declared.Outcome.{Outcome}

@@ -1,6 +1,7 @@
 -- Writing the numbers of a table: those before the entries, and then entry by entry; after i of them, those of the entries that are left
 -- complete what is written. Assumes nothing.
-use Rattle.std.proofs.Common.{◌≡◌, ℕ, ◌+◌, ◌*◌, ◌<◌, ◌≤◌, List, [], ◌∷◌, ◌++◌, length, get_or, take, drop, set, sym, ap, ◌∙◌, append-nil, arith, length-append, length-drop, length-set, length-take-le, take_all, drop-drop, take_at, le-ltb, lt-ltb}
+use Rattle.std.proofs.Common.{◌≡◌, ℕ, ◌+◌, ◌*◌, ◌<◌, ◌≤◌, List, [], ◌∷◌, ◌++◌, length, get_or, take, drop, set, sym, ap, ◌∙◌, append-nil}
+use Rattle.std.proofs.Common.{arith, length-append, length-drop, length-set, length-take-le, take_all, drop-drop, take_at, le-ltb, lt-ltb}
 use lib.Seq.{sets-eq}
 use Rattle.model.specs.declared.Process.{Process}
 use Rattle.model.specs.declared.Parameters.{Parameters}

@@ -1,6 +1,8 @@
 -- The pass over the numbers of a table finds what the pass over the entries of the state finds that they tell, or a fault where they tell
 -- no sound one. Assumes nothing.
-use Rattle.std.proofs.Common.{◌≡◌, ℕ, zero, suc, ◌+◌, ◌-◌, ◌*◌, ◌<◌, ◌≤◌, Bool, true, false, cond, not, ◌&&◌, eqb, ◌≢◌, List, length, get_or, take, drop, sym, refl, ap, ◌∙◌, subst, arith, length-drop, length-take-le, get_or-drop, eq-eqb, ne_eqb, eqb-true}
+use Rattle.std.proofs.Common.{◌≡◌, ℕ, zero, suc, ◌+◌, ◌-◌, ◌*◌, ◌<◌, ◌≤◌, Bool, true, false, cond, not, ◌&&◌, eqb, ◌≢◌, List, length}
+use Rattle.std.proofs.Common.{get_or, take, drop, sym, refl, ap, ◌∙◌, subst, arith, length-drop, length-take-le, get_or-drop, eq-eqb}
+use Rattle.std.proofs.Common.{ne_eqb, eqb-true}
 use mathlib.Core.Bool.{and-false}
 use borrow.Author.Tests.{eqb-false, not-true, not-false}
 use Rattle.model.specs.declared.Location.{Location}

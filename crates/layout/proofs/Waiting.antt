@@ -1,6 +1,7 @@
 -- The stages of entries that lie as numbers, and what a sound table tells of them: what going over the waits so far asks for.
 -- Assumes nothing.
-use Rattle.std.proofs.Common.{◌≡◌, ℕ, zero, suc, ◌-◌, ◌*◌, ◌<◌, ◌≤◌, true, leb, List, [], ◌∷◌, length, get_or, take, drop, sym, refl, ap, ◌∙◌, arith, length-drop, take_all}
+use Rattle.std.proofs.Common.{◌≡◌, ℕ, zero, suc, ◌-◌, ◌*◌, ◌<◌, ◌≤◌, true, leb, List, [], ◌∷◌, length, get_or, take, drop, sym, refl, ap}
+use Rattle.std.proofs.Common.{◌∙◌, arith, length-drop, take_all}
 use Rattle.model.specs.declared.Process.{Process}
 use Rattle.model.specs.Stages.{remainder}
 use Rattle.model.specs.States.{idle}

@@ -187,7 +187,8 @@ statistics_numbers x = counts_numbers x.counts ++ x.waited
 -- [9.30] the counts that they tell
 abbrev pub summary_counts : List ℕ → Counts
 summary_counts l =
-    counts_of (slice_index l accepted_place) (slice_index l refused_place) (slice_index l entries_place) (slice_index l exits_place) (slice_index l longest_place)
+    counts_of (slice_index l accepted_place) (slice_index l refused_place) (slice_index l entries_place) (slice_index l exits_place)
+    (slice_index l longest_place)
 
 -- [9.30] the summary that just its numbers tell
 unfoldable pub statistics_in : List ℕ → Statistics

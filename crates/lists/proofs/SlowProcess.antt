@@ -13,7 +13,8 @@ use Rattle.lists.specs.SlowProcess.{slow_table, slow_tries, slow_comes, SlowCome
 use Rattle.theory.proofs.Lowest.{accepted_tells}
 
 pub slow_comes_alone : SlowComesAlone
-unfolding end_by results_by call_of step_of fresh_of sound_of limits_stand own_stand limits_in entries_sound first_deadline first_by entry_of leaves transition_of effect
+unfolding end_by results_by call_of step_of fresh_of sound_of limits_stand own_stand limits_in entries_sound first_deadline first_by entry_of leaves
+    transition_of effect
     critical_of critical_by limit_at greatest
 slow_comes_alone = record {
   fresh = record { parameters = slow_table.parameters; accepted = refl; is = refl };

@@ -41,7 +41,10 @@ location-of s zero h = absurd (omega arith)
 location-of s (suc i) h = refl
 
 pub fresh_view : {k : Parameters} {s : State} → Fresh k s → FreshView (view_of s)
-fresh_view {s = s} f = record { word = f.word_is; all = λ j. elim j as (λ (j : ℕ). (view_of s).rank j ≡ at_remainder) [ zero ↦ refl | suc i ↦ ap rank_of (f.all (suc i)) ] }
+fresh_view {s = s} f = record {
+  word = f.word_is;
+  all = λ j. elim j as (λ (j : ℕ). (view_of s).rank j ≡ at_remainder) [ zero ↦ refl | suc i ↦ ap rank_of (f.all (suc i)) ];
+}
 
 -- Places
 

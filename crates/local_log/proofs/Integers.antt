@@ -1,6 +1,7 @@
 -- Differences of two numbers as whole numbers of either sign: their order, and how near one is to another. Every whole number is such a difference,
 -- so that what is said of shifts comes down to sums of numbers, which `omega` decides. Assumes nothing.
-use Rattle.std.proofs.Common.{◌≡◌, ℕ, zero, suc, ◌+◌, ◌-◌, ◌^◌, ◌<◌, ◌≤◌, ◌↔◌, ℤ, pos, negsuc, ◌+ℤ◌, ◌-ℤ◌, neg_ℤ, nat_abs, ◌≤ℤ◌, sym, refl, ap, ◌∙◌, subst, arith, le→leb, leb→le, w64, SFits, to_z, of_z, le-ltb, lt-ltb}
+use Rattle.std.proofs.Common.{◌≡◌, ℕ, zero, suc, ◌+◌, ◌-◌, ◌^◌, ◌<◌, ◌≤◌, ◌↔◌, ℤ, pos, negsuc, ◌+ℤ◌, ◌-ℤ◌, neg_ℤ, nat_abs, ◌≤ℤ◌, sym, refl}
+use Rattle.std.proofs.Common.{ap, ◌∙◌, subst, arith, le→leb, leb→le, w64, SFits, to_z, of_z, le-ltb, lt-ltb}
 use lib.IntN.{sub_ℕ}
 use mir.ValLaws.{to_z_pos, to_z-of_z}
 use Rattle.model.specs.States.{last_time}

@@ -1,6 +1,7 @@
 -- Section 6 of the specification, as traces are read: the fields of a line, the lines, and `read_of`, all that a reading gives back.
 -- A text is read from its start; what a field or a line takes is counted in bytes. Assumes nothing.
-use Rattle.std.specs.Prelude.{ℕ, zero, suc, ◌+◌, ◌-◌, ◌*◌, min, Bool, true, false, cond, not, ◌&&◌, ◌||◌, List, [], ◌∷◌, ◌++◌, map, leb, ltb, eqb, length, get_or, drop, set, replicate}
+use Rattle.std.specs.Prelude.{ℕ, zero, suc, ◌+◌, ◌-◌, ◌*◌, min, Bool, true, false, cond, not, ◌&&◌, ◌||◌, List, [], ◌∷◌, ◌++◌, map, leb}
+use Rattle.std.specs.Prelude.{ltb, eqb, length, get_or, drop, set, replicate}
 use Rattle.std.specs.Borrow.{Bor}
 use Rattle.model.specs.declared.Field.{Field}
 use Rattle.model.specs.declared.Field.TheVariants.{Value, Bad}

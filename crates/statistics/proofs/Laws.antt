@@ -1,6 +1,7 @@
 -- What soundness of a summary tells, what the recorded step comes to by the answer of the step, and that an act which it counts can
 -- be counted and is counted as in the model. Assumes nothing.
-use Rattle.std.proofs.Common.{◌≡◌, ℕ, suc, ◌+◌, ◌<◌, ◌≤◌, true, cond, ◌&&◌, eqb, leb, ◌≢◌, List, [], ◌∷◌, length, get_or, drop, sym, refl, ◌∙◌, mod-eq_of_lt, arith, eq-eqb, ne_eqb, le-leb}
+use Rattle.std.proofs.Common.{◌≡◌, ℕ, suc, ◌+◌, ◌<◌, ◌≤◌, true, cond, ◌&&◌, eqb, leb, ◌≢◌, List, [], ◌∷◌, length, get_or, drop, sym, refl}
+use Rattle.std.proofs.Common.{◌∙◌, mod-eq_of_lt, arith, eq-eqb, ne_eqb, le-leb}
 use borrow.Author.Tests.{eqb-false, lt-leb}
 use Rattle.model.specs.declared.State.{State}
 use Rattle.model.specs.declared.Outcome.{Outcome}

@@ -1,6 +1,8 @@
 -- What going over the waits so far comes to, and that the unused time of an accepted act is known from the state after it and from who is named
 -- in the answer: laws of the recorded step, of structs and of lists. Assumes nothing.
-use Rattle.std.proofs.Common.{◌≡◌, ℕ, zero, suc, ◌+◌, ◌-◌, ◌^◌, ◌<◌, ◌≤◌, false, cond, not, eqb, ltb, ◌≢◌, ◌⊎◌, List, length, get_or, drop, set, sym, refl, ap, ◌∙◌, inl, inr, mod-eq_of_lt, arith, length-set, get_or-set_other, get_or-set_same, ext_get_or, lt-ltb, eq-eqb, ne_eqb}
+use Rattle.std.proofs.Common.{◌≡◌, ℕ, zero, suc, ◌+◌, ◌-◌, ◌^◌, ◌<◌, ◌≤◌, false, cond, not, eqb, ltb, ◌≢◌, ◌⊎◌, List, length, get_or, drop}
+use Rattle.std.proofs.Common.{set, sym, refl, ap, ◌∙◌, inl, inr, mod-eq_of_lt, arith, length-set, get_or-set_other, get_or-set_same}
+use Rattle.std.proofs.Common.{ext_get_or, lt-ltb, eq-eqb, ne_eqb}
 use Rattle.model.specs.declared.Location.{Location}
 use Rattle.model.specs.declared.Location.TheVariants.{Remainder, Testing, Setting, Checking, Entering, Critical, Resetting, Leaving}
 use Rattle.model.specs.declared.Process.{Process}

@@ -11,6 +11,7 @@ use Rattle.tallies.specs.Cases.{WaitCase}
 
 pub wait_case : WaitCase
 unfolding end_by results_by log_by recorded_of statistics_sound waited_sound answer_counted accepted_counted waited_on
-    step_of sound_of limits_stand own_stand limits_in entries_sound first_deadline first_by entry_of leaves transition_of effect critical_of critical_by limit_at
+    step_of sound_of limits_stand own_stand limits_in entries_sound first_deadline first_by entry_of leaves transition_of effect critical_of
+    critical_by limit_at
     count_of clock_after critical_after unused_since longest_wait
 wait_case = record { answered = refl; waited = refl; counted = refl; told = refl }

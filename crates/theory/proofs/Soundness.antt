@@ -87,7 +87,8 @@ sound_from s h each = record {
   clock = h.clock;
   word = h.word;
   above = λ i k. (each i (omega arith)).above k;
-  past = λ i. elim i as (λ (k : ℕ). (t : ℕ) → Arrival (entry_of s k).location t → t ≤ s.clock) [ zero ↦ (each 1 (omega arith)).past | suc k ↦ (each (suc k) (omega arith)).past ];
+  past = λ i. elim i as (λ (k : ℕ). (t : ℕ) → Arrival (entry_of s k).location t → t ≤ s.clock)
+      [ zero ↦ (each 1 (omega arith)).past | suc k ↦ (each (suc k) (omega arith)).past ];
   in-time = λ i d k. (each i k.from).in-time d k.is;
 }
 

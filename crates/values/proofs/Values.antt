@@ -1,6 +1,8 @@
 -- Laws of the values of a: one look at the top bit of all of them, the values up to n and those past it, and filling 96 of them from the
 -- first on. Assumes nothing.
-use Rattle.std.proofs.Common.{◌≡◌, ℕ, zero, suc, ◌+◌, ◌-◌, ◌%◌, ◌^◌, ◌<◌, ◌≤◌, Bool, true, false, ◌&&◌, ltb, leb, List, [], ◌∷◌, ◌++◌, length, get_or, take, drop, set, replicate, sym, refl, ap, ◌∙◌, arith, length-take-le, take_all, take-suc, le-ltb, lt-ltb, eq-eqb, le-leb}
+use Rattle.std.proofs.Common.{◌≡◌, ℕ, zero, suc, ◌+◌, ◌-◌, ◌%◌, ◌^◌, ◌<◌, ◌≤◌, Bool, true, false, ◌&&◌, ltb, leb, List, [], ◌∷◌, ◌++◌}
+use Rattle.std.proofs.Common.{length, get_or, take, drop, set, replicate, sym, refl, ap, ◌∙◌, arith, length-take-le, take_all, take-suc}
+use Rattle.std.proofs.Common.{le-ltb, lt-ltb, eq-eqb, le-leb}
 use mathlib.Core.Bool.{and_assoc, and-true}
 use lib.Bits.{bit_or, or_add_and, and_le_l, and_le_r, or_lt}
 use lib.Seq.{set-append_seam, append_snoc}

@@ -9,7 +9,7 @@ use Rattle.model.specs.Writings.{events_of}
 use Rattle.model.specs.Executions.{Started, start_gave}
 use Rattle.model.proofs.Steps.{length_steps}
 use Rattle.grammar.specs.RoundTrips.{first_of}
-use Rattle.execution.proofs.Starts.{Ready, ready, refusal}
+use Rattle.execution.proofs.Starts.{Ready, ready_in, refusal_in}
 use Rattle.local_log.specs.Comparisons.{Entry, actions_in, times_in}
 use Rattle.accepted_log.specs.AcceptedLogs.{read_accepted_of}
 use Rattle.accepted_log.specs.Keeping.{Kept}
@@ -70,140 +70,143 @@ module _ {text : List ℕ} {x : Started} (r : Ready text x) (p : ℕ) {next : �
 pub returns-then-found-ne0 : goal.returns-then-found-ne0
 unfolding read_accepted_of
 returns-then-found-ne0 c =
-    let made = lists c.step_list-step_times.result c.step_list-step_processes.result c.step_list-step_actions.result in
-    let wide : room made ≡ 8187 = omega (arith, c.step_list-step_times.ensures.size, c.step_list-step_processes.ensures.size, c.step_list-step_actions.ensures.size) in
-    rw (refusal c.args.text.now made wide c.start-started.ensures c.if-found-ne0.true) (log-gave c.answer_with.ensures refl refl)
+    rw (refusal_in _ (lists _ _ _) c.step_list-step_times.ensures.size c.step_list-step_processes.ensures.size
+    c.step_list-step_actions.ensures.size c.start-started.ensures c.if-found-ne0.true) (log-gave c.answer_with.ensures refl refl)
 
 pub returns-then-process-eq0 : goal.returns-then-process-eq0
 returns-then-process-eq0 c =
-    let made = lists c.step_list-step_times.result c.step_list-step_processes.result c.step_list-step_actions.result in
-    let wide : room made ≡ 8187 = omega (arith, c.step_list-step_times.ensures.size, c.step_list-step_processes.ensures.size, c.step_list-step_actions.ensures.size) in
-    let r = ready c.args.text.now made wide c.start-started.ensures c.if-found-ne0.false in
+    let r = ready_in _ (lists _ _ _) c.step_list-step_times.ensures.size c.step_list-step_processes.ensures.size
+    c.step_list-step_actions.ensures.size c.start-started.ensures c.if-found-ne0.false in
     log-gave c.answer_with-then-process-eq0.ensures refl refl
     ∙ sym (gave_low r c.args.process c.args.times.now c.args.actions.now c.if-process-eq0.true)
 
 pub returns-then-n-process : goal.returns-then-n-process
 returns-then-n-process c =
-    let made = lists c.step_list-step_times.result c.step_list-step_processes.result c.step_list-step_actions.result in
-    let wide : room made ≡ 8187 = omega (arith, c.step_list-step_times.ensures.size, c.step_list-step_processes.ensures.size, c.step_list-step_actions.ensures.size) in
-    let r = ready c.args.text.now made wide c.start-started.ensures c.if-found-ne0.false in
+    let r = ready_in _ (lists _ _ _) c.step_list-step_times.ensures.size c.step_list-step_processes.ensures.size
+    c.step_list-step_actions.ensures.size c.start-started.ensures c.if-found-ne0.false in
     log-gave c.answer_with-then-n-process.ensures refl refl
     ∙ sym (gave_high r c.args.process c.args.times.now c.args.actions.now (omega (arith, c.if-process-eq0.false)) c.if-n-process.true)
 
 pub slice_bounds-step_times-end : goal.slice_bounds-step_times-end
 slice_bounds-step_times-end c =
-    let made = lists c.step_list-step_times.result c.step_list-step_processes.result c.step_list-step_actions.result in
-    let wide : room made ≡ 8187 = omega (arith, c.step_list-step_times.ensures.size, c.step_list-step_processes.ensures.size, c.step_list-step_actions.ensures.size) in
-    let r = ready c.args.text.now made wide c.start-started.ensures c.if-found-ne0.false in
+    let r = ready_in _ (lists _ _ _) c.step_list-step_times.ensures.size c.step_list-step_processes.ensures.size
+    c.step_list-step_actions.ensures.size c.start-started.ensures c.if-found-ne0.false in
     omega (arith, r.few)
 
 pub slice_bounds-keep_steps-end : goal.slice_bounds-keep_steps-end
 slice_bounds-keep_steps-end c =
-    let made = lists c.step_list-step_times.result c.step_list-step_processes.result c.step_list-step_actions.result in
-    let wide : room made ≡ 8187 = omega (arith, c.step_list-step_times.ensures.size, c.step_list-step_processes.ensures.size, c.step_list-step_actions.ensures.size) in
-    let r = ready c.args.text.now made wide c.start-started.ensures c.if-found-ne0.false in
+    let r = ready_in _ (lists _ _ _) c.step_list-step_times.ensures.size c.step_list-step_processes.ensures.size
+    c.step_list-step_actions.ensures.size c.start-started.ensures c.if-found-ne0.false in
     simp length-take (omega (arith, r.few))
 
 pub slice_bounds-step_processes-end : goal.slice_bounds-step_processes-end
 slice_bounds-step_processes-end c =
-    let made = lists c.step_list-step_times.result c.step_list-step_processes.result c.step_list-step_actions.result in
-    let wide : room made ≡ 8187 = omega (arith, c.step_list-step_times.ensures.size, c.step_list-step_processes.ensures.size, c.step_list-step_actions.ensures.size) in
-    let r = ready c.args.text.now made wide c.start-started.ensures c.if-found-ne0.false in
+    let r = ready_in _ (lists _ _ _) c.step_list-step_times.ensures.size c.step_list-step_processes.ensures.size
+    c.step_list-step_actions.ensures.size c.start-started.ensures c.if-found-ne0.false in
     omega (arith, r.few)
 
 pub slice_bounds-keep_steps-end-2 : goal.slice_bounds-keep_steps-end-2
 slice_bounds-keep_steps-end-2 c =
-    let made = lists c.step_list-step_times.result c.step_list-step_processes.result c.step_list-step_actions.result in
-    let wide : room made ≡ 8187 = omega (arith, c.step_list-step_times.ensures.size, c.step_list-step_processes.ensures.size, c.step_list-step_actions.ensures.size) in
-    let r = ready c.args.text.now made wide c.start-started.ensures c.if-found-ne0.false in
+    let r = ready_in _ (lists _ _ _) c.step_list-step_times.ensures.size c.step_list-step_processes.ensures.size
+    c.step_list-step_actions.ensures.size c.start-started.ensures c.if-found-ne0.false in
     simp length-take (omega (arith, r.few))
 
 pub slice_bounds-step_actions-end : goal.slice_bounds-step_actions-end
 slice_bounds-step_actions-end c =
-    let made = lists c.step_list-step_times.result c.step_list-step_processes.result c.step_list-step_actions.result in
-    let wide : room made ≡ 8187 = omega (arith, c.step_list-step_times.ensures.size, c.step_list-step_processes.ensures.size, c.step_list-step_actions.ensures.size) in
-    let r = ready c.args.text.now made wide c.start-started.ensures c.if-found-ne0.false in
+    let r = ready_in _ (lists _ _ _) c.step_list-step_times.ensures.size c.step_list-step_processes.ensures.size
+    c.step_list-step_actions.ensures.size c.start-started.ensures c.if-found-ne0.false in
     omega (arith, r.few)
 
 pub slice_bounds-keep_steps-end-3 : goal.slice_bounds-keep_steps-end-3
 slice_bounds-keep_steps-end-3 c =
-    let made = lists c.step_list-step_times.result c.step_list-step_processes.result c.step_list-step_actions.result in
-    let wide : room made ≡ 8187 = omega (arith, c.step_list-step_times.ensures.size, c.step_list-step_processes.ensures.size, c.step_list-step_actions.ensures.size) in
-    let r = ready c.args.text.now made wide c.start-started.ensures c.if-found-ne0.false in
+    let r = ready_in _ (lists _ _ _) c.step_list-step_times.ensures.size c.step_list-step_processes.ensures.size
+    c.step_list-step_actions.ensures.size c.start-started.ensures c.if-found-ne0.false in
     simp length-take (omega (arith, r.few))
 
 pub keep_steps-kept-requires : goal.keep_steps-kept-requires
 keep_steps-kept-requires c =
-    let made = lists c.step_list-step_times.result c.step_list-step_processes.result c.step_list-step_actions.result in
-    let wide : room made ≡ 8187 = omega (arith, c.step_list-step_times.ensures.size, c.step_list-step_processes.ensures.size, c.step_list-step_actions.ensures.size) in
-    let r = ready c.args.text.now made wide c.start-started.ensures c.if-found-ne0.false in
+    let r = ready_in _ (lists _ _ _) c.step_list-step_times.ensures.size c.step_list-step_processes.ensures.size
+    c.step_list-step_actions.ensures.size c.start-started.ensures c.if-found-ne0.false in
     simp length-take (omega (arith, r.few), omega (arith, r.few))
 
 pub returns-then-least-kept : goal.returns-then-least-kept
 returns-then-least-kept c =
-    let made = lists c.step_list-step_times.result c.step_list-step_processes.result c.step_list-step_actions.result in
-    let wide : room made ≡ 8187 = omega (arith, c.step_list-step_times.ensures.size, c.step_list-step_processes.ensures.size, c.step_list-step_actions.ensures.size) in
-    let r = ready c.args.text.now made wide c.start-started.ensures c.if-found-ne0.false in
+    let r = ready_in _ (lists _ _ _) c.step_list-step_times.ensures.size c.step_list-step_processes.ensures.size
+    c.step_list-step_actions.ensures.size c.start-started.ensures c.if-found-ne0.false in
     let wide_times : length c.start-started.new.times ≡ 8187 = omega (arith, c.step_list-step_times.ensures.size) in
     let wide_actions : length c.start-started.new.actions ≡ 8187 = omega (arith, c.step_list-step_actions.ensures.size) in
     let s = c.start-started in
     let x = start_gave s.result.found s.result.state (lists s.new.times s.new.processes s.new.actions) in
     let log = started_log x c.args.process in
-    let is : (1 ≤ c.args.process) × (c.args.process ≤ c.start-started.result.found.parameters.n) = (omega (arith, c.if-process-eq0.false), c.if-n-process.false) in
-    let short : min (length c.args.times.now) (length c.args.actions.now) < length log = omega (arith, c.least.ensures, c.if-least-kept.true, size r c.args.process c.keep_steps-kept.ensures wide_times wide_actions) in
+    let is : (1 ≤ c.args.process) × (c.args.process ≤ c.start-started.result.found.parameters.n) =
+    (omega (arith, c.if-process-eq0.false), c.if-n-process.false) in
+    let short : min (length c.args.times.now) (length c.args.actions.now) < length log =
+    omega (arith, c.least.ensures, c.if-least-kept.true, size r c.args.process c.keep_steps-kept.ensures wide_times wide_actions) in
     log-gave c.answer_with-then-least-kept.ensures refl refl
     ∙ sym (gave_short r c.args.process c.args.times.now c.args.actions.now is short)
 
 pub slice_bounds-step_times-end-2 : goal.slice_bounds-step_times-end-2
 slice_bounds-step_times-end-2 c =
-    let made = lists c.step_list-step_times.result c.step_list-step_processes.result c.step_list-step_actions.result in
-    let wide : room made ≡ 8187 = omega (arith, c.step_list-step_times.ensures.size, c.step_list-step_processes.ensures.size, c.step_list-step_actions.ensures.size) in
-    let r = ready c.args.text.now made wide c.start-started.ensures c.if-found-ne0.false in
+    let r = ready_in _ (lists _ _ _) c.step_list-step_times.ensures.size c.step_list-step_processes.ensures.size
+    c.step_list-step_actions.ensures.size c.start-started.ensures c.if-found-ne0.false in
     let wide_times : length c.start-started.new.times ≡ 8187 = omega (arith, c.step_list-step_times.ensures.size) in
     let wide_actions : length c.start-started.new.actions ≡ 8187 = omega (arith, c.step_list-step_actions.ensures.size) in
     places_times r c.args.process c.keep_steps-kept.ensures wide_times wide_actions
 
 pub slice_bounds-copy-end : goal.slice_bounds-copy-end
 slice_bounds-copy-end c =
-    let made = lists c.step_list-step_times.result c.step_list-step_processes.result c.step_list-step_actions.result in
-    let wide : room made ≡ 8187 = omega (arith, c.step_list-step_times.ensures.size, c.step_list-step_processes.ensures.size, c.step_list-step_actions.ensures.size) in
-    let r = ready c.args.text.now made wide c.start-started.ensures c.if-found-ne0.false in
+    let r = ready_in _ (lists _ _ _) c.step_list-step_times.ensures.size c.step_list-step_processes.ensures.size
+    c.step_list-step_actions.ensures.size c.start-started.ensures c.if-found-ne0.false in
     let wide_times : length c.start-started.new.times ≡ 8187 = omega (arith, c.step_list-step_times.ensures.size) in
     let wide_actions : length c.start-started.new.actions ≡ 8187 = omega (arith, c.step_list-step_actions.ensures.size) in
     simp length-take (omega (arith, places_times r c.args.process c.keep_steps-kept.ensures wide_times wide_actions))
 
 pub slice_bounds-step_actions-end-2 : goal.slice_bounds-step_actions-end-2
 slice_bounds-step_actions-end-2 c =
-    let made = lists c.step_list-step_times.result c.step_list-step_processes.result c.step_list-step_actions.result in
-    let wide : room made ≡ 8187 = omega (arith, c.step_list-step_times.ensures.size, c.step_list-step_processes.ensures.size, c.step_list-step_actions.ensures.size) in
-    let r = ready c.args.text.now made wide c.start-started.ensures c.if-found-ne0.false in
+    let r = ready_in _ (lists _ _ _) c.step_list-step_times.ensures.size c.step_list-step_processes.ensures.size
+    c.step_list-step_actions.ensures.size c.start-started.ensures c.if-found-ne0.false in
     let wide_times : length c.start-started.new.times ≡ 8187 = omega (arith, c.step_list-step_times.ensures.size) in
     let wide_actions : length c.start-started.new.actions ≡ 8187 = omega (arith, c.step_list-step_actions.ensures.size) in
     places_actions r c.args.process c.keep_steps-kept.ensures wide_times wide_actions
 
 pub slice_bounds-copy-end-2 : goal.slice_bounds-copy-end-2
 slice_bounds-copy-end-2 c =
-    let made = lists c.step_list-step_times.result c.step_list-step_processes.result c.step_list-step_actions.result in
-    let wide : room made ≡ 8187 = omega (arith, c.step_list-step_times.ensures.size, c.step_list-step_processes.ensures.size, c.step_list-step_actions.ensures.size) in
-    let r = ready c.args.text.now made wide c.start-started.ensures c.if-found-ne0.false in
+    let r = ready_in _ (lists _ _ _) c.step_list-step_times.ensures.size c.step_list-step_processes.ensures.size
+    c.step_list-step_actions.ensures.size c.start-started.ensures c.if-found-ne0.false in
     let wide_times : length c.start-started.new.times ≡ 8187 = omega (arith, c.step_list-step_times.ensures.size) in
     let wide_actions : length c.start-started.new.actions ≡ 8187 = omega (arith, c.step_list-step_actions.ensures.size) in
     simp length-take (omega (arith, places_actions r c.args.process c.keep_steps-kept.ensures wide_times wide_actions))
 
 pub returns : goal.returns
 returns c =
-    let made = lists c.step_list-step_times.result c.step_list-step_processes.result c.step_list-step_actions.result in
-    let wide : room made ≡ 8187 = omega (arith, c.step_list-step_times.ensures.size, c.step_list-step_processes.ensures.size, c.step_list-step_actions.ensures.size) in
-    let r = ready c.args.text.now made wide c.start-started.ensures c.if-found-ne0.false in
+    let r = ready_in _ (lists _ _ _) c.step_list-step_times.ensures.size c.step_list-step_processes.ensures.size
+    c.step_list-step_actions.ensures.size c.start-started.ensures c.if-found-ne0.false in
     let wide_times : length c.start-started.new.times ≡ 8187 = omega (arith, c.step_list-step_times.ensures.size) in
     let wide_actions : length c.start-started.new.actions ≡ 8187 = omega (arith, c.step_list-step_actions.ensures.size) in
     let s = c.start-started in
     let x = start_gave s.result.found s.result.state (lists s.new.times s.new.processes s.new.actions) in
     let log = started_log x c.args.process in
-    let is : (1 ≤ c.args.process) × (c.args.process ≤ c.start-started.result.found.parameters.n) = (omega (arith, c.if-process-eq0.false), c.if-n-process.false) in
+    let is : (1 ≤ c.args.process) × (c.args.process ≤ c.start-started.result.found.parameters.n) =
+    (omega (arith, c.if-process-eq0.false), c.if-n-process.false) in
     let size_is = size r c.args.process c.keep_steps-kept.ensures wide_times wide_actions in
     let fits : length log ≤ min (length c.args.times.now) (length c.args.actions.now) = omega (arith, c.least.ensures, c.if-least-kept.false, size_is) in
     log-gave (c.answer_with-2.ensures ∙ ap (answer_of 0 0) size_is)
-    (c.copy.ensures ∙ copied c.args.times.now (front_times r c.args.process c.keep_steps-kept.ensures wide_times wide_actions) (omega (arith, long_times r c.args.process c.keep_steps-kept.ensures wide_times wide_actions, c.least.ensures, c.if-least-kept.false, size_is)))
-    (c.copy-2.ensures ∙ copied c.args.actions.now (front_actions r c.args.process c.keep_steps-kept.ensures wide_times wide_actions) (omega (arith, long_actions r c.args.process c.keep_steps-kept.ensures wide_times wide_actions, c.least.ensures, c.if-least-kept.false, size_is)))
+    (c.copy.ensures
+    ∙ copied c.args.times.now (front_times r c.args.process c.keep_steps-kept.ensures wide_times wide_actions)
+    (omega (
+      arith,
+      long_times r c.args.process c.keep_steps-kept.ensures wide_times wide_actions,
+      c.least.ensures,
+      c.if-least-kept.false,
+      size_is,
+    )))
+    (c.copy-2.ensures
+    ∙ copied c.args.actions.now (front_actions r c.args.process c.keep_steps-kept.ensures wide_times wide_actions)
+    (omega (
+      arith,
+      long_actions r c.args.process c.keep_steps-kept.ensures wide_times wide_actions,
+      c.least.ensures,
+      c.if-least-kept.false,
+      size_is,
+    )))
     ∙ sym (gave_all r c.args.process c.args.times.now c.args.actions.now is fits)

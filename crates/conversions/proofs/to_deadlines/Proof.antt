@@ -104,7 +104,8 @@ loop-again c =
     let s = c.args.state in
     let inside : v.i < length s.processes = omega (arith, length_dated s.parameters 1 s.processes) in
     filled_next _ v.processes v.i _ idle_with v.invariant c.loop-i-test.true
-    (c.entry_with.ensures ∙ rw (c.dated.ensures, c.limit_of-limit.ensures) (entry-dated s v.i _ (sound c.before.before.before.before.before.before.before.before) inside))
+    (c.entry_with.ensures ∙ rw (c.dated.ensures, c.limit_of-limit.ensures)
+    (entry-dated s v.i _ (sound c.before.before.before.before.before.before.before.before) inside))
 
 answer-with-requires-2 : tie.Need-answer_with-requires-2 invariant-loop decreases-loop
 answer-with-requires-2 c κs = search rules

@@ -244,7 +244,8 @@ answered c =
     rw (c.judge-answer.ensures, c.first_of.ensures, c.stage_with-2.ensures, c.scene_of-scene.ensures)
     (goes_with a.state a.action a.process a.time c.loop-at-test.found (own c.before.before.before.before) c.transition_of-transition.result
     (surveyed c.before.before.before.before.before.before) (let v = c.loop-at in size_with a.state a.process v.at v.found v.invariant)
-    (λ from to. ap (λ (i : ℕ). (get_or a.state.processes i idle_with).location) (c.slot_of-slot.ensures ∙ slot_in a.process to)) (is_row c.before.before.before.before.before))
+    (λ from to. ap (λ (i : ℕ). (get_or a.state.processes i idle_with).location) (c.slot_of-slot.ensures ∙ slot_in a.process to))
+    (is_row c.before.before.before.before.before))
 
 limit-of-requires-2 : tie.Need-limit_of-limit-requires-then-action-ne-WAIT invariant-loop decreases-loop
 limit-of-requires-2 c κs = search rules
@@ -283,7 +284,8 @@ returns-4 c =
     (answered c.before.before) c.if-answer-eq0.false
 
 found-offset_bounds-state-slot-then-action-ne-WAIT : tie.Need-offset_bounds-state-slot-then-action-ne-WAIT invariant-loop decreases-loop
-found-offset_bounds-state-slot-then-action-ne-WAIT c = search (rules, own_fits c.before.before.before.before.before.before.before.before.before.before.before.before)
+found-offset_bounds-state-slot-then-action-ne-WAIT c =
+    search (rules, own_fits c.before.before.before.before.before.before.before.before.before.before.before.before)
 
 pub step_spec : {M : Type 1} → statement M
 step_spec =

@@ -79,7 +79,9 @@ same-length-3 c = search rules
 returns : tie.Need-returns
 returns c =
     rw (c.tuple_of-left_counts.ensures, c.answer_row-row.ensures)
-    (ap (λ (r : Recorded). turn_gave r.outcome.state (stored_at (lent c.before.before.before.before.before.before.before.before.before.before.before.before.before) c.args.i r)) (made c.before.before.before.before.before.before.before.before))
+    (ap (λ (r : Recorded). turn_gave r.outcome.state (stored_at
+    (lent c.before.before.before.before.before.before.before.before.before.before.before.before.before) c.args.i r))
+    (made c.before.before.before.before.before.before.before.before))
 
 pub make_turn_spec : {M : Type 1} → statement M
 make_turn_spec =

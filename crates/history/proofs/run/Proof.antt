@@ -67,7 +67,8 @@ returns c =
     let made = c.fresh-start in
     let calls = c.args.calls.now in
     let e = ends made.result c.loop-i.invariant (omega arith)
-    ∙ ap (λ (o : Outcome). ran_from o (calls_of calls (lent c.before.before.before.before.before.before.before.before)) (lent c.before.before.before.before.before.before.before.before)) made.ensures in
+    ∙ ap (λ (o : Outcome). ran_from o (calls_of calls (lent c.before.before.before.before.before.before.before.before))
+    (lent c.before.before.before.before.before.before.before.before)) made.ensures in
     (e, ran_demand3 c.args.parameters calls (lent c.before.before.before.before.before.before.before.before) e)
 
 pub run_spec : {M : Type 1} → statement M

@@ -1,5 +1,6 @@
 -- `layout::record_entry` meets its contract: table and summary are judged, and then the act is taken and counted. Assumes nothing.
-use Rattle.std.proofs.Common.{◌≡◌, ℕ, true, List, ◌++◌, length, get_or, take, drop, sym, refl, ap, ◌∙◌, arith, length-append, length-take-le, get_or-take, take_at, rules}
+use Rattle.std.proofs.Common.{◌≡◌, ℕ, true, List, ◌++◌, length, get_or, take, drop, sym, refl, ap, ◌∙◌, arith, length-append}
+use Rattle.std.proofs.Common.{length-take-le, get_or-take, take_at, rules}
 use Rattle.model.specs.declared.Answer.{Answer}
 use Rattle.statistics.specs.Waitings.{unused_beside}
 use Rattle.layout.specs.Encodings.{clock_place, table_length, is_sound_table, clock_in, summary_length}

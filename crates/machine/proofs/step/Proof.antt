@@ -162,7 +162,8 @@ answered c =
     rw (c.judge-answer.ensures, c.check_from.ensures, c.stage_of.ensures, scene.ensures)
     (goes a.state a.action a.process a.time c.loop-at-test.found (own c.before.before.before.before) c.transition_of-transition.result
     (surveyed c.before.before.before.before.before.before) (search (rules, length_mapped))
-    (λ from to. ap (λ (i : ℕ). (get_or a.state.processes i idle).location) (c.slot_of-slot.ensures ∙ slot_in a.process to)) (is_row c.before.before.before.before.before))
+    (λ from to. ap (λ (i : ℕ). (get_or a.state.processes i idle).location) (c.slot_of-slot.ensures ∙ slot_in a.process to))
+    (is_row c.before.before.before.before.before))
 
 returns-2 : tie.Need-returns-then-action-ne-WAIT invariant-loop decreases-loop
 returns-2 c =
@@ -171,7 +172,8 @@ returns-2 c =
     rw c.entry_at.ensures
     (exit_moved a.state a.action a.process a.time slot.result c.transition_of-transition.result
     (step_of a.state a.action a.process a.time) c.judge-answer.result
-    (λ to. slot.ensures ∙ slot_in a.process to) (is_row c.before.before.before.before.before.before.before.before.before) (answered c.before.before.before.before)
+    (λ to. slot.ensures ∙ slot_in a.process to) (is_row c.before.before.before.before.before.before.before.before.before)
+    (answered c.before.before.before.before)
     c.if-answer-eq0.true c.if-action-ne-WAIT.true)
 
 returns-3 : tie.Need-returns-else-action-ne-WAIT invariant-loop decreases-loop

@@ -140,7 +140,8 @@ returns-5 : tie.Need-returns
 returns-5 c =
     let a = c.args in
     add_accepted a.board.now a.time a.process a.wait (seen c.before.before.before.before.before.before.before.before.before.before.before.before.before.before)
-    (in-time c.before.before.before.before.before.before.before.before.before.before.before.before.before.before.before.before.before.before) (named c.before.before.before.before.before.before.before.before.before.before.before.before.before.before.before.before) c.if-seen-eq-PLACES.false
+    (in-time c.before.before.before.before.before.before.before.before.before.before.before.before.before.before.before.before.before.before)
+    (named c.before.before.before.before.before.before.before.before.before.before.before.before.before.before.before.before) c.if-seen-eq-PLACES.false
     (c.answer_with-2.ensures ∙ rw c.greater.ensures)
     (rw (c.put_header.ensures, c.wrapped_place.ensures) at c.put_entry.ensures)
 

@@ -150,7 +150,8 @@ counted : (c : tie.After-counts_after-statistics)
     → c.counts_after-statistics.result ≡ counts_after c.args.statistics.counts c.args.action c.if-may_wait.wait
 counted c =
     let a = c.args in
-    c.counts_after-statistics.ensures ∙ accepted-after a.statistics.counts a.action c.if-may_wait.wait (room c.before.before.before.before.before.before.before.before.before)
+    c.counts_after-statistics.ensures ∙ accepted-after a.statistics.counts a.action c.if-may_wait.wait
+    (room c.before.before.before.before.before.before.before.before.before)
 
 -- A refusal
 with-refused-requires : tie.Need-with_refused-statistics-requires
@@ -163,7 +164,9 @@ returns-2 c =
     let free = has_room c.before.before.before.before.before.before.before.before.before.before.before in
     let g = grown c.before.before.before in
     gives_accepted a.state a.statistics a.action a.process a.time free c.step-outcome.ensures c.if-answer-eq0.true
-    (counted_cleared a.state (sized c.before.before.before.before.before.before.before.before.before.before.before.before.before.before.before.before.before) a.statistics free a.action a.process a.time (accepted c.before.before.before.before.before.before.before)
+    (counted_cleared a.state
+    (sized c.before.before.before.before.before.before.before.before.before.before.before.before.before.before.before.before.before)
+    a.statistics free a.action a.process a.time (accepted c.before.before.before.before.before.before.before)
     g.unused_is (place c.before.before.before.before.before.before) g.wait_is (counted c.before.before) g.waits
     (sym c.does_clear.ensures ∙ c.if-does_clear.true))
 
@@ -173,7 +176,9 @@ returns-3 c =
     let free = has_room c.before.before.before.before.before.before.before.before.before.before.before in
     let g = grown c.before.before.before in
     gives_accepted a.state a.statistics a.action a.process a.time free c.step-outcome.ensures c.if-answer-eq0.true
-    (counted_kept a.state (sized c.before.before.before.before.before.before.before.before.before.before.before.before.before.before.before.before.before) a.statistics free a.action a.process a.time (accepted c.before.before.before.before.before.before.before)
+    (counted_kept a.state
+    (sized c.before.before.before.before.before.before.before.before.before.before.before.before.before.before.before.before.before)
+    a.statistics free a.action a.process a.time (accepted c.before.before.before.before.before.before.before)
     g.unused_is (place c.before.before.before.before.before.before) g.wait_is (counted c.before.before) g.waits
     (sym c.does_clear.ensures ∙ c.if-does_clear.false))
 

@@ -132,7 +132,8 @@ returns-4 c =
     c.note_at-two.ensures c.if-two-ne0.true
     ∙ so_far c.before.before.before.before.before.before
 
-so-far-2 : (c : tie.Else-two-ne0 invariant-loop decreases-loop invariant-loop2 decreases-loop2) → SoFar (start-2 c) ((start-2 c).loop-i.i + 2) c.note_at-two.result
+so-far-2 : (c : tie.Else-two-ne0 invariant-loop decreases-loop invariant-loop2 decreases-loop2)
+    → SoFar (start-2 c) ((start-2 c).loop-i.i + 2) c.note_at-two.result
 so-far-2 c =
     let t = start-2 c in
     let v = t.loop-i in
@@ -180,7 +181,8 @@ returns-6 c =
     c.note_at-three.ensures c.if-three-ne0.true
     ∙ so-far-2 c.before.before.before.before.before.before
 
-so-far-3 : (c : tie.Else-three-ne0 invariant-loop decreases-loop invariant-loop2 decreases-loop2) → SoFar (start-3 c) ((start-3 c).loop-i.i + 3) c.note_at-three.result
+so-far-3 : (c : tie.Else-three-ne0 invariant-loop decreases-loop invariant-loop2 decreases-loop2)
+    → SoFar (start-3 c) ((start-3 c).loop-i.i + 3) c.note_at-three.result
 so-far-3 c =
     let t = start-3 c in
     let v = t.loop-i in
@@ -228,7 +230,8 @@ returns-8 c =
     c.note_at-four.ensures c.if-four-ne0.true
     ∙ so-far-3 c.before.before.before.before.before.before
 
-so-far-4 : (c : tie.Else-four-ne0 invariant-loop decreases-loop invariant-loop2 decreases-loop2) → SoFar (start-4 c) ((start-4 c).loop-i.i + 4) c.note_at-four.result
+so-far-4 : (c : tie.Else-four-ne0 invariant-loop decreases-loop invariant-loop2 decreases-loop2)
+    → SoFar (start-4 c) ((start-4 c).loop-i.i + 4) c.note_at-four.result
 so-far-4 c =
     let t = start-4 c in
     let v = t.loop-i in

@@ -112,7 +112,8 @@ fault-requires-2 c κs = search rules
 returns-2 : tie.Need-returns-then-found-ne0
 returns-2 c =
     let a = c.args in
-    c.fault-then-found-ne0.ensures ∙ pass_faulty a.table.now a.acting (stands c.before.before.before.before.before.before.before.before) (passed c.before.before.before) c.if-found-ne0.true
+    c.fault-then-found-ne0.ensures ∙ pass_faulty a.table.now a.acting (stands c.before.before.before.before.before.before.before.before)
+    (passed c.before.before.before) c.if-found-ne0.true
 
 mul-bits : tie.Need-offset_bounds-table-end
 mul-bits c = omega (arith, ends c.before.before.before.before.before.before)
@@ -144,13 +145,15 @@ returns-3 : tie.Need-returns-then-bits-ne0
 returns-3 c =
     let a = c.args in
     c.fault-then-bits-ne0.ensures
-    ∙ above_not a.table.now a.acting (stands c.before.before.before.before.before.before.before.before.before.before.before) (passed c.before.before.before.before.before.before) c.if-found-ne0.false
+    ∙ above_not a.table.now a.acting (stands c.before.before.before.before.before.before.before.before.before.before.before)
+    (passed c.before.before.before.before.before.before) c.if-found-ne0.false
     (sym (zeros c.before.before) ∙ ne_eqb _ 0 c.if-bits-ne0.true)
 
 returns-4 : tie.Need-returns
 returns-4 c =
     let a = c.args in
-    all_sound a.table.now a.acting (stands c.before.before.before.before.before.before.before.before.before.before) (passed c.before.before.before.before.before) c.if-found-ne0.false
+    all_sound a.table.now a.acting (stands c.before.before.before.before.before.before.before.before.before.before)
+    (passed c.before.before.before.before.before) c.if-found-ne0.false
     (sym (zeros c.before) ∙ eq-eqb _ 0 c.if-bits-ne0.false)
 
 pub survey_table_spec : {M : Type 1} → statement M

@@ -45,10 +45,14 @@ returns-4 : tie.Need-returns-in-Testing
 returns-4 c =
     elim c.in-Testing.match-location-branch [
       | in-Testing w ↦ rw w.in-Testing.location-1-is (c.is_settled.ensures ∙ rw (w.first-is, w.last-is), λ _. w.in-Testing.known_told-1-own.given.1.0.1)
-      | in-Testing-2 w ↦ rw w.in-Testing.location-in-Setting-1-is (c.is_settled.ensures ∙ rw (w.first-is, w.last-is), λ _. w.in-Testing.known_told-in-Setting-1-own.given.1.0.1)
-      | in-Testing-3 w ↦ rw w.in-Testing.location-in-Entering-1-is (c.is_settled.ensures ∙ rw (w.first-is, w.last-is), λ _. w.in-Testing.known_told-in-Entering-1-own.given.1.0.1)
-      | in-Testing-4 w ↦ rw w.in-Testing.location-in-Resetting-1-is (c.is_settled.ensures ∙ rw (w.first-is, w.last-is), λ _. w.in-Testing.known_told-in-Resetting-1-own.given.1.0.1)
-      | in-Testing-5 w ↦ rw w.in-Testing.location-in-Leaving-1-is (c.is_settled.ensures ∙ rw (w.first-is, w.last-is), λ _. w.in-Testing.known_told-in-Leaving-1-own.given.1.0.1)
+      | in-Testing-2 w ↦ rw w.in-Testing.location-in-Setting-1-is
+          (c.is_settled.ensures ∙ rw (w.first-is, w.last-is), λ _. w.in-Testing.known_told-in-Setting-1-own.given.1.0.1)
+      | in-Testing-3 w ↦ rw w.in-Testing.location-in-Entering-1-is
+          (c.is_settled.ensures ∙ rw (w.first-is, w.last-is), λ _. w.in-Testing.known_told-in-Entering-1-own.given.1.0.1)
+      | in-Testing-4 w ↦ rw w.in-Testing.location-in-Resetting-1-is
+          (c.is_settled.ensures ∙ rw (w.first-is, w.last-is), λ _. w.in-Testing.known_told-in-Resetting-1-own.given.1.0.1)
+      | in-Testing-5 w ↦ rw w.in-Testing.location-in-Leaving-1-is
+          (c.is_settled.ensures ∙ rw (w.first-is, w.last-is), λ _. w.in-Testing.known_told-in-Leaving-1-own.given.1.0.1)
     ]
 
 pub is_settled_at_spec : {M : Type 1} → statement M

@@ -89,8 +89,11 @@ unfolding parts_text open_with open_after
 loop-again c =
     let v = c.loop-i in
     let part = c.put_part-size in
-    let next = attempts_next (steps c.before.before.before.before.before.before.before.before.before.before.before.before.before.before.before) c.args.answers.now v.i [] (omega arith) (omega arith) in
-    let left : List ℕ = parts_text (attempts_by_rows (from (v.i + 1) (steps c.before.before.before.before.before.before.before.before.before.before.before.before.before.before.before)) (drop (v.i + 1) c.args.answers.now)) in
+    let next = attempts_next (steps c.before.before.before.before.before.before.before.before.before.before.before.before.before.before.before)
+    c.args.answers.now v.i [] (omega arith) (omega arith) in
+    let left : List ℕ = parts_text (attempts_by_rows (from (v.i + 1)
+    (steps c.before.before.before.before.before.before.before.before.before.before.before.before.before.before.before))
+    (drop (v.i + 1) c.args.answers.now)) in
     let moved : c.args.at + v.size + part.result ≡ c.args.at + (v.size + part.result) = omega arith in (
       omega arith,
       omega (arith, part.ensures.1),

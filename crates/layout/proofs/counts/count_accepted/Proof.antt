@@ -116,7 +116,8 @@ grown c =
     let l = c.put_counts.new.summary in
     let e = counted c.before.before.before in
     elim c.if-unused-ne0.branch [
-      | then-unused-ne0 w ↦ let back : c.if-unused-ne0.summary ≡ take counts_length l ++ (w.wait_on.new.waited ++ drop (summary_length - counts_length) (drop counts_length l)) = w.summary-is in
+      | then-unused-ne0 w ↦ let back : c.if-unused-ne0.summary ≡ take counts_length l
+          ++ (w.wait_on.new.waited ++ drop (summary_length - counts_length) (drop counts_length l)) = w.summary-is in
           back
           ∙ waits_put l (counted_long c.before.before.before)
           (state_in a.table.now).processes a.unused (w.wait_on.ensures ∙ ap (λ (qs : List Process). waited_on a.unused qs (take

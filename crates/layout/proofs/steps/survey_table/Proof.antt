@@ -99,7 +99,8 @@ passed c =
 returns-2 : tie.Need-returns-then-found-ne0
 returns-2 c =
     let a = c.args in
-    c.fault-then-found-ne0.ensures ∙ pass_faulty a.table.now a.acting (stands c.before.before.before.before.before.before.before.before) (passed c.before.before.before) c.if-found-ne0.true
+    c.fault-then-found-ne0.ensures ∙ pass_faulty a.table.now a.acting (stands c.before.before.before.before.before.before.before.before)
+    (passed c.before.before.before) c.if-found-ne0.true
 
 mul-are-zero : tie.Need-offset_bounds-table-end
 mul-are-zero c = omega (
@@ -142,13 +143,15 @@ returns-3 : tie.Need-returns-then-not-are_zero
 returns-3 c =
     let a = c.args in
     c.fault-then-not-are_zero.ensures
-    ∙ above_not a.table.now a.acting (stands c.before.before.before.before.before.before.before.before.before.before.before) (passed c.before.before.before.before.before.before) c.if-found-ne0.false
+    ∙ above_not a.table.now a.acting (stands c.before.before.before.before.before.before.before.before.before.before.before)
+    (passed c.before.before.before.before.before.before) c.if-found-ne0.false
     (sym (zeros c.before.before) ∙ c.if-not-are_zero.true)
 
 returns-4 : tie.Need-returns
 returns-4 c =
     let a = c.args in
-    all_sound a.table.now a.acting (stands c.before.before.before.before.before.before.before.before.before.before) (passed c.before.before.before.before.before) c.if-found-ne0.false
+    all_sound a.table.now a.acting (stands c.before.before.before.before.before.before.before.before.before.before)
+    (passed c.before.before.before.before.before) c.if-found-ne0.false
     (sym (zeros c.before) ∙ c.if-not-are_zero.false)
 
 pub survey_table_spec : {M : Type 1} → statement M

@@ -48,4 +48,5 @@ unfolding row_of transition_of leaves
 returns-in-9 c = rw c.in-9.is c.row-in-9.ensures
 
 pub returns-in-10-to-18446744073709551615 : goal.returns-in-10-to-18446744073709551615
-returns-in-10-to-18446744073709551615 c = c.no_row-in-10-to-18446744073709551615.ensures ∙ no_row_is _ _ _ _ (none_below (last_act + 1) _ c.in-10-to-18446744073709551615.in-10-to-18446744073709551615-own.rest)
+returns-in-10-to-18446744073709551615 c = c.no_row-in-10-to-18446744073709551615.ensures
+    ∙ no_row_is _ _ _ _ (none_below (last_act + 1) _ c.in-10-to-18446744073709551615.in-10-to-18446744073709551615-own.rest)

@@ -18,7 +18,8 @@ unused-time-requires c κs = search rules
 others-are : (c : tie.Joined-action-eq-CRIT) → (let a = c.args in c.if-action-eq-CRIT.others ≡ others_before a.named a.state.processes a.action a.acting)
 others-are c =
     elim c.if-action-eq-CRIT.branch [
-      | then-action-eq-CRIT+then-named-acting w ↦ simp (eq-eqb _ _ w.if-action-eq-CRIT.true, eq-eqb _ _ w.if-named-acting.true) (w.others-is ∙ w.critical_past-others.ensures)
+      | then-action-eq-CRIT+then-named-acting w ↦ simp (eq-eqb _ _ w.if-action-eq-CRIT.true, eq-eqb _ _ w.if-named-acting.true)
+          (w.others-is ∙ w.critical_past-others.ensures)
       | then-action-eq-CRIT+else-named-acting w ↦ simp (eq-eqb _ _ w.if-action-eq-CRIT.true, ne_eqb _ _ w.if-named-acting.false) w.others-is
       | else-action-eq-CRIT w ↦ simp (ne_eqb _ _ w.if-action-eq-CRIT.false) w.others-is
     ]

@@ -71,8 +71,11 @@ loop-less c = search rules
 loop-again : tie.Need-loop-i-preserved invariant-loop decreases-loop
 loop-again c =
     let v = c.loop-i in
-    let e = sym c.has_form.ensures ∙ c.if-not-has_form.false in
-    (omega arith, formless_next (given c.before.before.before.before.before.before.before.before.before.before.before.before) v.i (omega arith) c.args.first e ∙ v.invariant.1)
+    let e = sym c.has_form.ensures ∙ c.if-not-has_form.false in (
+      omega arith,
+      formless_next (given c.before.before.before.before.before.before.before.before.before.before.before.before) v.i
+          (omega arith) c.args.first e ∙ v.invariant.1,
+    )
 
 returns-2 : tie.Need-returns invariant-loop decreases-loop
 returns-2 c =

@@ -77,7 +77,8 @@ returns-7 c =
     let args = c.args in
     c.are_zero.ensures
     ∙ ap are_zero (part_is args.a.now args.n)
-    ∙ rest_decides args.n args.b args.c args.a.now (count_is c.before.before.before.before.before.before.before.before) (omega arith) (omega arith) (omega arith)
+    ∙ rest_decides args.n args.b args.c args.a.now (count_is c.before.before.before.before.before.before.before.before) (omega arith) (omega arith)
+    (omega arith)
     (sym c.all_faults.ensures ∙ lt-ltb _ _ c.if-all_faults-ge9223372036854775808.false)
 
 pub parameters_stand_spec : {M : Type 1} → statement M
