@@ -29,7 +29,7 @@ USE = re.compile(r"^(?:ghost )?use ([\w.'+-]+?)(?:\.\{([^}]*)\}| as [\w'-]+);?$"
 RT_USE = re.compile(r"^(?:pub(?:\(crate\))? )?use ((?:\w+::)+)(?:(\w+)|\{([^{}]*)\});$", re.MULTILINE)
 # what the checker makes of a type or of a contract, as a module of that name
 MADE = re.compile(r"The[A-Z]\w*|Reads")
-DECLARED = r"(?:pub(?:\(crate\))? )?(?:struct|enum) {}\b"
+DECLARED = r"(?:pub(?:\(crate\))? )?(?:struct|enum|type) {}\b"
 FUNCTION = r'(?:pub(?:\(crate\))? )?(?:unsafe )?(?:extern "C" )?fn {}\b'
 
 Row = collections.namedtuple("Row", "line promise statement figures")

@@ -20,7 +20,7 @@ EDITS = [
     ("a file that is read has a line more", FACTS, "-- [2.80]", "-- and so on\n-- [2.80]", STALE),
     ("a statement uses one file more", CHAINS, ENTERS, f"use Rattle.model.specs.Readings.{{read_of}}\n{ENTERS}", STALE),
     ("a type that is read has a field more", TYPES, "    pub clock: u64,", "    pub clock: u64,\n    pub more: u64,", STALE),
-    ("a type comes to hold another", TYPES, "    pub clock: u64,", "    pub clock: Scan,", STALE),
+    ("a type comes to hold another", TYPES, "    pub clock: u64,", "    pub clock: Found,", STALE),
     ("a contract has a line more", STEP, "    ensures { result ≡ step_of", "    ensures {\n        result ≡ step_of", STALE),
     ("a contract rests on another file", STEP, ANSWERS, f"{ANSWERS}\nghost use Rattle.model.specs.Reports.{{step_of}};", STALE),
     ("a body has a line more", STEP, "    let slot = slot_of", "    // its place\n    let slot = slot_of", None),

@@ -106,7 +106,9 @@ def fingerprint(lines):
 # a definition at the start of a line, or an indented one, which a word before `pub` or `record` or `data` tells from a field
 ANTT = re.compile(r"(?:\s*(?:[a-z]+ )+pub|pub|\s*pub(?= record | data )) (?:record |data )?(?!mod )([^\s:({]+)")
 ANTT_PART = re.compile(r"  (?:pub )?([^\s:(){}]+) :")
-RT = re.compile(r'(pub(?:\(crate\))? )?(?:unsafe )?(?:extern "C" )?(fn|struct|enum|const|type) (\w+)')
+RT = re.compile(r'(pub(?:\(crate\))? )?(?:unsafe )?(?:extern "C" )?(fn|struct|enum|const|static|type) (\w+)')
+RT_BLOCK = re.compile(r"(?:pub(?:\(crate\))? )?(?:impl|trait)(?:<.*?>)? (?:.* for )?(\w+)")
+RT_METHOD = re.compile(r"    (pub(?:\(crate\))? )?fn (\w+)")
 RT_PART = re.compile(r"    (?:pub )?(\w+)[:(,]")
 
 
@@ -123,7 +125,13 @@ def rt_item(line, inside):
     whole, part = RT.match(line), RT_PART.match(line)
     if whole:
         return whole.group(3), whole.group(2), whole.group(1) == "pub "
-    if inside and inside[1] == "const" and line.startswith("    ["):
+    block = RT_BLOCK.match(line)
+    if block:
+        return block.group(1), "block", False
+    method = RT_METHOD.match(line)
+    if method and inside and inside[1] == "block":
+        return f"{inside[0]}::{method.group(2)}", "fn", method.group(1) == "pub "
+    if inside and inside[1] == "static" and line.startswith("    row!("):
         return inside[0], "row", False
     if inside and inside[1] in ("struct", "enum") and part:
         return f"{inside[0]}.{part.group(1)}", "part", False
@@ -160,7 +168,8 @@ def items_in(path, text):
                 name, kind, public = found
                 head = head_of(lines[number - 1:]) if kind == "fn" else ""
                 items.append(Item(path, number, name, kind, public, " ".join(comment), head))
-                inside = inside if kind in ("part", "row") else (name, kind)
+                is_within = kind in ("part", "row") or (inside and inside[1] == "block" and line.startswith(" "))
+                inside = inside if is_within else (name, kind)
             comment = []
     return items
 
@@ -182,7 +191,7 @@ def delivers(item):
     """Definitions, statements, declared types and their parts; contracts; rows of a table. No constant, bare function or inner lemma."""
     if item.kind == "fn":
         return "ensures" in item.head
-    return item.kind in ("definition", "part", "row", "struct", "enum") and ("/proofs/" not in item.path or item.public)
+    return item.kind in ("definition", "part", "row", "struct", "enum", "type") and ("/proofs/" not in item.path or item.public)
 
 
 def delivering(items):

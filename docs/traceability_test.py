@@ -9,6 +9,8 @@ PROPERTIES = "docs/PROPERTIES.md"
 ANSWERS = "crates/model/specs/Answers.antt"
 WHOLES = "crates/grammar/specs/Wholes.antt"
 STEP = "crates/machine/src/lib.rt"
+TYPES = "crates/model/src/lib.rt"
+CASES = "crates/run_cases/src/rows.rt"
 PUTS = "crates/text/specs/Puts.antt"
 PASSES = "crates/trace/specs/Passes.antt"
 PRELUDE = "use Rattle.std.specs.Prelude."
@@ -82,9 +84,15 @@ EDITS = [
     ),
     (
         "it does so on the line of its signature",
-        [(STEP, "fresh(parameters: Parameters) -> Outcome\n", "fresh(parameters: Parameters) -> Outcome requires { 1 ≤ n }\n")],
+        [(STEP, "fresh(parameters: Parameters) -> Outcome<Arrivals>\n", "fresh(parameters: Parameters) -> Outcome<Arrivals> requires { 1 ≤ n }\n")],
         "fresh is public and has a requires",
     ),
+    (
+        "a method does",
+        [(TYPES, "        ensures { result ≡ code_of self", "        requires { 1 ≤ n }\n        ensures { result ≡ code_of self")],
+        "Refusal::code is public and has a requires",
+    ),
+    ("a row of the table of cases loses its clause", [(CASES, "    // [20.90]\n", "")], "[20.90] stands above no"),
     # CLAUSES
     ("its page lacks a heading", [(CLAUSES, "## 3. Actions", "")], STALE),
     ("its opening is edited by hand", [(CLAUSES, "Look up, do not read", "Read")], STALE),

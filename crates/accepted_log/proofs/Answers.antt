@@ -11,6 +11,7 @@ use lib.ListN.{length, take, drop, length-map}
 use lib.Seq.{take-append_seam, drop-append_seam}
 use borrow.Author.Tests.{lt-ltb, le-ltb, ltb-true, ltb-false}
 use Rattle.model.specs.declared.Parameters.{Parameters}
+use Rattle.model.specs.Refusals.{code_of}
 use Rattle.model.specs.Answers.{fresh_of}
 use Rattle.model.specs.Texts.{Event}
 use Rattle.model.specs.Readings.{Trace, refused, trace, trace_of, over}
@@ -65,7 +66,7 @@ module _ (text : List ℕ) (p : ℕ) (times actions : List ℕ) where
 
   given : (t : Trace) → TraceTells text t → Given (log_into p times actions t)
   unfolding logged_in
-  given (refused code line) told = λ e. absurd (omega (arith, fault_some told))
+  given (refused why line) told = λ e. absurd (omega (arith, fault_some told))
   given (trace line k events) told = by_cond Given (is_process k.n p)
       (λ i. by_cond Given (ltb (min (length times) (length actions)) (length (trace_log k events p)))
       (λ _ e. absurd (omega arith))
@@ -105,7 +106,7 @@ module _ (text : List ℕ) (p : ℕ) (times actions : List ℕ) (code line : ℕ
 so : {text : List ℕ} {p : ℕ} {times actions : List ℕ} {code line : ℕ} → Unreadable text p times actions code line
     → read_accepted_of text p times actions ≡ unlogged code line times actions
 unfolding read_accepted_of logged_in
-so {text} (Unreadable.faulty {code} {line} f) = rw ((refused_exactly text code line).1 f) refl
+so {text} (Unreadable.faulty {why} {line} f) = rw ((refused_exactly text why line).1 f) refl
 so {text} {p} (Unreadable.no_process l k events says n) = by_test (is_process k.n p)
     (λ i. absurd (n ((process_iff k.n p).0 i).0 ((process_iff k.n p).0 i).1))
     (λ i. rw ((read_exactly text l k events).1 says, i) refl)
@@ -120,7 +121,7 @@ accepted_refused_exactly text p times actions code line some = (why text p times
 enough : (text : List ℕ) (p : ℕ) (times actions : List ℕ) → 8187 ≤ length times → 8187 ≤ length actions
     → (t : Trace) → TraceTells text t → (log_into p times actions t).answer.code ≢ 16
 unfolding logged_in
-enough text p times actions h g (refused code line) told = λ (e : code ≡ 16). omega (arith, fault_some told)
+enough text p times actions h g (refused r line) told = λ (e : code_of r ≡ 16). omega (arith, fault_some told)
 enough text p times actions h g (trace line k events) told = by_cond Not16 (is_process k.n p)
     (λ i. rw (le-ltb _ _ fits) (omega arith))
     (λ i. omega arith)

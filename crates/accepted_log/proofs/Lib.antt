@@ -1,4 +1,5 @@
 pub mod Keeping
+pub mod Taking
 pub mod Given
 pub mod Runs
 pub mod Answers

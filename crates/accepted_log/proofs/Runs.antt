@@ -8,8 +8,8 @@ use mathlib.Core.List.{List, [], ◌∷◌}
 use native.Mathlib.Omega.{arith}
 use borrow.Author.Tests.{eq-eqb, ne_eqb}
 use Rattle.model.specs.declared.Parameters.{Parameters}
-use Rattle.model.specs.declared.Location.{Location}
-use Rattle.model.specs.declared.State.{State}
+use Rattle.model.specs.Types.{Location}
+use Rattle.model.specs.Types.{State}
 use Rattle.model.specs.Acts.{withdraw_act}
 use Rattle.model.specs.Answers.{fresh_of}
 use Rattle.model.specs.Facts.{Accepted}

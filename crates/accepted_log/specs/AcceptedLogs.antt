@@ -3,6 +3,7 @@
 use Rattle.std.specs.Prelude.{ℕ, min, Bool, cond, ◌&&◌, List, [], ◌∷◌, leb, ltb, eqb, length}
 use Rattle.model.specs.declared.Parameters.{Parameters}
 use Rattle.model.specs.declared.Answer.{Answer}
+use Rattle.model.specs.Refusals.{code_of}
 use Rattle.model.specs.Answers.{answer_of, fresh_of}
 use Rattle.model.specs.Tallies.{Attempt, is_accepted}
 use Rattle.model.specs.Texts.{Event}
@@ -56,7 +57,7 @@ is_process n p = leb 1 p && leb p n
 
 -- [13.120] [13.125] [11.55] [4.7] the log of process p in a trace, or the refusal of a text with its line
 abbrev pub log_into : ℕ → List ℕ → List ℕ → Trace → LogRead
-log_into p times actions (refused code line) = unlogged code line times actions
+log_into p times actions (refused why line) = unlogged (code_of why) line times actions
 log_into p times actions (trace line k events) =
     cond (is_process k.n p) (logged_in (trace_log k events p) times actions) (unlogged 7 0 times actions)
 

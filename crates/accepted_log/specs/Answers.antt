@@ -2,6 +2,8 @@
 -- holds of the log of every trace, in plain facts; and what a comparison with it tells. Assumes nothing.
 use Rattle.std.specs.Prelude.{ℕ, ◌≤◌, ◌<◌, min, ◌≡◌, ◌≢◌, ◌↔◌, List, [], ◌∷◌, ◌++◌, map, length, take, drop}
 use Rattle.model.specs.declared.Parameters.{Parameters}
+use Rattle.model.specs.declared.Refusal.{Refusal}
+use Rattle.model.specs.Refusals.{code_of}
 use Rattle.model.specs.States.{last_time}
 use Rattle.model.specs.Acts.{withdraw_act}
 use Rattle.model.specs.Tallies.{Attempt}
@@ -48,7 +50,7 @@ AcceptedIff = (text : List ℕ) (p : ℕ) (times actions : List ℕ)
 -- [13.125] why: the code, and the line that is told
 pub data Unreadable (text : List ℕ) (p : ℕ) (times actions : List ℕ) : ℕ → ℕ → Type 0 where
   -- [11.55] a fault of the text, with the line that the report prints for it
-  faulty : {code line : ℕ} → Fault text code line → Unreadable text p times actions code line
+  faulty : {why : Refusal} {line : ℕ} → Fault text why line → Unreadable text p times actions (code_of why) line
   -- [4.7] the text is faultless
   no_process : (line : ℕ) (k : Parameters) (events : List Event) → Says text line k events → (1 ≤ p → p ≤ k.n → ⊥)
       → Unreadable text p times actions 7 0

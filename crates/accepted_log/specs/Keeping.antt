@@ -2,10 +2,12 @@
 -- nothing.
 use Rattle.std.specs.Prelude.{ℕ, ◌+◌, ◌≡◌, List, length}
 use Rattle.std.proofs.lemmas.List.Edits.{sets}
+use Rattle.model.specs.Readings.{Lists}
 use Rattle.local_log.specs.Comparisons.{Entry, actions_in, times_in}
 
--- the log `log` has been put into the two lists from place `at` on, and `next` is the place behind it
-pub record Kept (log : List Entry) (at next : ℕ) (times actions times' actions' : List ℕ) : Type 0 where
+-- the log `log` has been put into the lists l from place `at` on, which are m now, and `next` is the place behind it
+pub record Kept (log : List Entry) (at next : ℕ) (l m : Lists) : Type 0 where
   pub next_is : next ≡ at + length log
-  pub times_are : times' ≡ sets times at (times_in log)
-  pub actions_are : actions' ≡ sets actions at (actions_in log)
+  pub times_are : m.times ≡ sets l.times at (times_in log)
+  pub processes_are : m.processes ≡ l.processes
+  pub actions_are : m.actions ≡ sets l.actions at (actions_in log)

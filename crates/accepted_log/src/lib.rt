@@ -8,47 +8,38 @@ ghost use Rattle.std.specs.Prelude.{◌≡◌};
 ghost use Rattle.accepted_log.specs.AcceptedLogs.{log_gave, read_accepted_of};
 
 use crate::steps::keep_steps;
-use execution::{start, step_list};
-use model::Answer;
-use values::{answer_with, copy, least};
+use execution::{Lists, start};
+use model::{Answer, Refusal};
 
 // [13.120] [13.125] [21.110] The times and actions of what was accepted of a process in a recording go to two lists.
 pub fn read_accepted(text: &[u8], process: u64, times: &mut [u64], actions: &mut [u64]) -> Answer
     ensures { log_gave result times.new actions.new
         ≡ read_accepted_of text.now process times.old actions.old }
 {
-    let mut step_times = step_list();
-    let mut step_processes = step_list();
-    let mut step_actions = step_list();
-    let started = start(
+    let mut steps = Lists::new();
+    let started = match start(
         text,
-        &mut step_times,
-        &mut step_processes,
-        &mut step_actions,
-    );
-    let found = started.found;
-    if found.code != 0 {
-        return answer_with(found.code, 0, found.line);
-    }
+        &mut steps.times,
+        &mut steps.processes,
+        &mut steps.actions,
+    ) {
+        Ok(started) => started,
+        Err(fault) => {
+            return Answer::refused(fault.refusal, 0, fault.line);
+        }
+    };
     if process == 0 {
-        return answer_with(7, 0, 0);
+        return Answer::from(Refusal::NoProcess);
     }
-    let n = found.parameters.n;
+    let n = started.found.parameters.n;
     if n < process {
-        return answer_with(7, 0, 0);
+        return Answer::from(Refusal::NoProcess);
     }
-    let count = found.size;
-    let kept = keep_steps(
-        process,
-        started.state,
-        &mut step_times[..count],
-        &step_processes[..count],
-        &mut step_actions[..count],
-    );
-    if least(times.len(), actions.len()) < kept {
-        return answer_with(16, 0, 0);
+    let kept = keep_steps(process, started.state, &mut steps, started.found.steps);
+    if times.len().min(actions.len()) < kept {
+        return Answer::from(Refusal::ShortOutput);
     }
-    copy(times, &step_times[..kept]);
-    copy(actions, &step_actions[..kept]);
-    answer_with(0, 0, kept as u64)
+    times[..kept].copy_from_slice(&steps.times[..kept]);
+    actions[..kept].copy_from_slice(&steps.actions[..kept]);
+    Answer::accepted(0, kept as u64)
 }

@@ -1,108 +1,72 @@
 // What was accepted of a process, moved to the front of the lists of steps: by one step, by a block of steps, and by all steps of a run.
 // As no more is kept than has been looked at, nothing is written over before it is read.
-ghost use Rattle.std.specs.Prelude.{◌≡◌, [], ◌∷◌, ◌+◌, ◌≤◌, ◌<◌, length, get_or, drop};
-ghost use Rattle.model.specs.Tallies.{attempt};
-ghost use Rattle.model.specs.Readings.{lists};
-ghost use Rattle.model.specs.Writings.{events_of};
+ghost use Rattle.std.specs.Prelude.{◌≡◌, [], ◌∷◌, ◌+◌, ◌≤◌, ◌<◌, length, take};
+ghost use Rattle.model.specs.Tallies.{attempted};
+ghost use Rattle.model.specs.Readings.{room};
+ghost use Rattle.model.specs.Writings.{event_in, events_of};
 ghost use Rattle.model.specs.Executions.{attempts_from};
-ghost use Rattle.execution.specs.Turns.{attempts_by_rows};
+ghost use Rattle.execution.specs.Steps.{lists_in, lists_after};
+ghost use Rattle.execution.specs.Blocks.{attempts_by};
 ghost use Rattle.accepted_log.specs.AcceptedLogs.{accepted_log};
 ghost use Rattle.accepted_log.specs.Keeping.{Kept};
 
-use execution::{ROWS, answer_rows, run_steps};
-use model::State;
-use values::least;
+use execution::{Lists, Run};
+use model::{Answer, Arrivals, State};
 
 // [13.110] The step in place i, answered with a code, goes to place `kept` if it was accepted and is of the process.
-fn keep(
-    process: u64,
-    code: u64,
-    times: &mut [u64],
-    processes: &[u64],
-    actions: &mut [u64],
-    kept: usize,
-    i: usize,
-) -> usize
-    requires kept_le_i { (kept ≤ i) × (i < length processes.now) }
-    requires times_len { (length times.old ≡ length processes.now) × (length actions.old ≡ length processes.now) }
-    ensures { Kept
-        (accepted_log process (attempt (get_or actions.old i 0) (get_or processes.now i 0) (get_or times.old i 0) code ∷ []))
-        kept result times.old actions.old times.new actions.new }
+fn keep(process: u64, code: u64, steps: &mut Lists, kept: usize, i: usize) -> usize
+    requires { (kept ≤ i) × (i < room (lists_in steps.old)) }
+    ensures { Kept (accepted_log process (attempted (event_in (lists_in steps.old) i) code ∷ []))
+        kept result (lists_in steps.old) (lists_in steps.new) }
 {
     if code != 0 {
         return kept;
     }
-    if processes[i] != process {
+    if steps.processes[i] != process {
         return kept;
     }
-    let time = times[i];
-    let action = actions[i];
-    times[kept] = time;
-    actions[kept] = action;
+    steps.times[kept] = steps.times[i];
+    steps.actions[kept] = steps.actions[i];
     kept + 1
 }
 
-// [13.110] So with the steps from place `from` on, by the rows of the answers to them.
+// [13.110] So with the steps from place `from` on, by the answers to them.
 fn keep_block(
     process: u64,
-    answers: &[[u64; 3]],
-    times: &mut [u64],
-    processes: &[u64],
-    actions: &mut [u64],
+    answers: &[Answer],
+    steps: &mut Lists,
     kept: usize,
     from: usize,
 ) -> usize
-    requires kept_le_from { (kept ≤ from) × (from + length answers.now ≤ length processes.now) }
-    requires times_len { (length times.old ≡ length processes.now) × (length actions.old ≡ length processes.now) }
-    ensures { Kept (accepted_log process (attempts_by_rows
-        (lists (drop from times.old) (drop from processes.now) (drop from actions.old)) answers.now))
-        kept result times.old actions.old times.new actions.new }
+    requires kept_le_from { kept ≤ from }
+    requires answers_in_bounds { (from + length answers.now ≤ room (lists_in steps.old)) × (from + length answers.now ≤ 8187) }
+    ensures { Kept (accepted_log process (attempts_by (lists_after from (lists_in steps.old)) answers.now))
+        kept result (lists_in steps.old) (lists_in steps.new) }
 {
     let mut size = kept;
-    let mut i: usize = 0;
-    while i < answers.len() {
-        let row = answers[i];
-        size = keep(process, row[0], times, processes, actions, size, from + i);
-        i += 1;
+    for (i, answer) in answers.iter().enumerate() {
+        size = keep(process, answer.code, steps, size, from + i);
     }
     size
 }
 
-// [13.110] Takes the steps in the lists from a state on, and answers how many are kept.
+// [13.110] Takes the first `count` steps in the lists from a state on, and answers how many are kept.
 pub(crate) fn keep_steps(
     process: u64,
-    first: State,
-    times: &mut [u64],
-    processes: &[u64],
-    actions: &mut [u64],
+    first: State<Arrivals>,
+    steps: &mut Lists,
+    count: usize,
 ) -> usize
-    requires { (length times.old ≡ length processes.now) × (length actions.old ≡ length processes.now) }
-    ensures { Kept (accepted_log process (attempts_from first (events_of (lists times.old processes.now actions.old))))
-        0 result times.old actions.old times.new actions.new }
+    requires { count ≤ 8187 }
+    ensures kept { Kept (accepted_log process (attempts_from first (take count (events_of (lists_in steps.old)))))
+        0 result (lists_in steps.old) (lists_in steps.new) }
+    ensures few { result ≤ 8187 }
 {
-    let mut answers = answer_rows();
-    let mut state = first;
+    let mut run = Run::new(first);
     let mut kept: usize = 0;
-    let mut i: usize = 0;
-    while i < processes.len() {
-        let count = least(ROWS, processes.len() - i);
-        state = run_steps(
-            state,
-            &times[i..],
-            &processes[i..],
-            &actions[i..],
-            &mut answers,
-        );
-        kept = keep_block(
-            process,
-            &answers[..count],
-            times,
-            processes,
-            actions,
-            kept,
-            i,
-        );
-        i += count;
+    while let Some(block) = run.take_block(&steps.first(count)) {
+        let from = run.taken - block;
+        kept = keep_block(process, &run.answers[..block], steps, kept, from);
     }
     kept
 }

@@ -2,55 +2,49 @@
 // the counts with the longest wait, as the programs of `bench` in Rust do.
 #![tactic(auto)]
 
-use model::{Counts, State};
+ghost use Rattle.std.specs.Prelude.{◌≡◌};
+ghost use Rattle.model.specs.Summaries.{recorded_of};
+
+use model::{Answer, Arrivals, State, Statistics};
 use statistics::{new_statistics, record};
 use std::io;
-use std::num::wrapping_add_u64;
-use workload::{act_of, chosen, state_of};
+use workload::{Act, Machine, chosen, run, state_of};
 
-// The case that makes no step.
-const NONE: u64 = 0;
-
-fn put(rt: &impl Print, number: u64) -> io::Result<()> {
-    print!(rt; "{number}, ")
+// A table and its summary.
+#[derive(Drop)]
+struct Table {
+    state: State<Arrivals>,
+    summary: Statistics,
 }
 
-fn report(rt: &impl Print, sum: u64, clock: u64, counts: Counts) -> io::Result<()> {
-    print!(rt; "{sum} {clock} [")?;
-    put(rt, counts.accepted)?;
-    put(rt, counts.refused)?;
-    put(rt, counts.entries)?;
-    put(rt, counts.exits)?;
-    let longest = counts.longest;
-    println!(rt; "{longest}]")
-}
+impl Machine for Table {
+    ghost step = { λ table act answer next.
+        recorded_of table.state table.summary act.action act.process act.time
+        ≡ record { outcome = record { answer = answer; state = next.state }; statistics = next.summary } };
 
-fn run(rt: &impl Print, case: u64, start: State, steps: u64) -> io::Result<()> {
-    let mut state = start;
-    let mut summary = new_statistics();
-    let mut sum: u64 = 0;
-    for i in 0..steps {
-        let act = act_of(case, i);
-        let recorded = record(state, summary, act.action, act.process, act.time);
-        let outcome = recorded.outcome;
-        let answer = outcome.answer;
-        sum = wrapping_add_u64(sum, answer.code);
-        sum = wrapping_add_u64(sum, answer.process);
-        sum = wrapping_add_u64(sum, answer.time);
-        state = outcome.state;
-        summary = recorded.statistics;
+    fn step(&mut self, act: Act) -> Answer {
+        let recorded = record(self.state, self.summary, act.action, act.process, act.time);
+        self.state = recorded.outcome.state;
+        self.summary = recorded.statistics;
+        recorded.outcome.answer
     }
-    report(rt, sum, state.clock, summary.counts)
-}
-
-fn steps_of(case: u64) -> u64 {
-    if case == NONE {
-        return 0;
-    }
-    2000
 }
 
 fn main(rt: HostRuntime) -> io::Result<()> {
     let case = chosen(&rt);
-    run(&rt, case, state_of(case), steps_of(case))
+    let mut table = Table {
+        state: state_of(case),
+        summary: new_statistics(),
+    };
+    let sum = run(case, &mut table);
+    let counts = table.summary.counts;
+    println!(rt;
+        "{sum} {} [{}, {}, {}, {}, {}]",
+        table.state.clock,
+        counts.accepted,
+        counts.refused,
+        counts.entries,
+        counts.exits,
+        counts.longest
+    )
 }

@@ -1,20 +1,23 @@
--- What both conversions need: a wait at a state's own clock is accepted just where the state is sound, and what holds of an array that is filled
--- entry by entry. Assumes nothing.
-use Prim.Native.Nat.{ℕ, ◌+◌, ◌≤◌, ◌<◌}
-use mathlib.Core.Path.{◌≡◌, refl, sym, ap, ◌∙◌}
-use mathlib.Core.Logic.{◌↔◌, inl}
-use mathlib.Core.Bool.{true}
-use mathlib.Core.List.{List}
-use native.Mathlib.Omega.{arith}
-use native.Mathlib.Numerals.{add-one}
-use lib.ListN.{length, get_or, take, set, length-set}
-use lib.Seq.{take-suc, take-suc-set, take_all}
-use Rattle.model.specs.declared.State.{State}
+-- What both conversions need: a wait at a state's own clock is accepted just where the state is sound, and what an array is that calls make, of
+-- another one or of its places. Assumes nothing.
+use Rattle.std.proofs.Common.{◌≡◌, ◌↔◌, ℕ, zero, suc, ◌+◌, ◌≤◌, ◌<◌, true, List, [], ◌∷◌, length, get_or, take, drop, map}
+use Rattle.std.proofs.Common.{refl, sym, ap, ◌∙◌, arith, take_all}
+use mathlib.Core.Logic.{inl}
+use Rattle.std.specs.Fn.{Mut}
+use Rattle.std.specs.Iterator.{ActsAs}
+use Rattle.std.specs.Array.{MapsFrom, IsMapOf, IsFromFnResultFrom, IsFromFnResult}
+use Rattle.model.specs.declared.Parameters.{Parameters}
+use Rattle.model.specs.Types.{Process}
+use Rattle.model.specs.States.{entry}
+use Rattle.model.proofs.Lists.{drop_at}
+use Rattle.deadlines.specs.Types.{DeadlineProcess}
+use Rattle.deadlines.specs.Matching.{arrived_at, arrived_from}
+use Rattle.model.specs.Types.{State}
 use Rattle.model.specs.Acts.{wait_act}
 use Rattle.model.specs.States.{sound_of}
 use Rattle.model.specs.Answers.{step_of}
 use Rattle.model.specs.Facts.{Accepted}
-use Rattle.deadlines.specs.declared.DeadlineState.{DeadlineState}
+use Rattle.deadlines.specs.Types.{DeadlineState}
 use Rattle.deadlines.specs.Deadlines.{sound_with, step_with}
 use Rattle.deadlines.specs.Matching.{arrived}
 use Rattle.model.proofs.Tests.{by_test}
@@ -43,26 +46,40 @@ sound_iff_waits_with d = (
   λ e. by_test (sound_with d) (λ h. h) (λ h. absurd (omega (arith, rw (← exit_unsound_with d wait_act 0 d.clock h) at e))),
 )
 
--- An array that is filled
+-- An array that `map` makes of another, by calls that act as h
 
--- the first i of the 96 entries of l are those of `made`
-pub record Filled {A : Type 0} (made l : List A) (i : ℕ) : Type 0 where
-  pub all : length made ≡ 96
-  pub size : length l ≡ 96
-  pub some : i ≤ 96
-  pub front : take i l ≡ take i made
+module _ {F A B : Type 0} (g : Mut F (A × Unit {0}) B) (f : F) (h : A → B) (acts : ActsAs g f h) (xs : List A) (ys : List B) where
+  mapped_from : (i n : ℕ) → i + n ≤ length xs → i + n ≤ length ys → MapsFrom g f xs ys i n → take n (drop i ys) ≡ map h (take n (drop i xs))
+  mapped_from i zero a b m = refl
+  mapped_from i (suc n) a b m =
+      let called = acts m.1 m.2 m.0 m.5 in
+      let rest : MapsFrom g f xs ys (i + 1) n = rw called.0 at m.6 in
+      rw (drop_at ys i m.2 (omega arith), drop_at xs i m.1 (omega arith), m.4.0, m.3.0, called.1)
+      (ap (λ (l : List B). h m.1 ∷ l) (mapped_from (i + 1) n (omega arith) (omega arith) rest))
 
-module _ {A : Type 0} (made l : List A) where
-  pub filled_none : length made ≡ 96 → length l ≡ 96 → Filled made l 0
-  filled_none all size = record { all = all; size = size; some = omega arith; front = refl }
+  pub mapped : (n : ℕ) → length xs ≡ n → IsMapOf g f xs ys n → ys ≡ map h xs
+  mapped n size m =
+      sym (take_all n ys (omega (arith, m.long))) ∙ mapped_from 0 n (omega arith) (omega (arith, m.long)) m.each ∙ ap (map h) (take_all n xs (omega arith))
 
-  pub filled_next : (i : ℕ) (a d : A) → Filled made l i → i < 96 → a ≡ get_or made i d → Filled made (set l i a) (i + 1)
-  filled_next i a d f h e = record {
-    all = f.all;
-    size = length-set l i a ∙ f.size;
-    some = omega arith;
-    front = rw (add-one, take-suc-set l i a (omega (arith, f.size)), take-suc made i d (omega (arith, f.all)), e, f.front);
-  }
+-- An array that calls which act as h make of its places, where `made` has what h gives
 
-  pub filled_whole : (i : ℕ) → Filled made l i → 96 ≤ i → l ≡ made
-  filled_whole i f h = sym (take_all i l (omega arith)) ∙ f.front ∙ take_all i made (omega arith)
+module _ {F B : Type 0} (g : Mut F (ℕ × Unit {0}) B) (f : F) (h : ℕ → B) (acts : ActsAs g f h) (made ys : List B) (d : B)
+    (same : (i : ℕ) → i < length made → h i ≡ get_or made i d) where
+  placed_from : (i n : ℕ) → i + n ≤ length made → i + n ≤ length ys → IsFromFnResultFrom g f ys i n → take n (drop i ys) ≡ take n (drop i made)
+  placed_from i zero a b m = refl
+  placed_from i (suc n) a b m =
+      let called = acts i m.1 m.0 m.3 in
+      let rest : IsFromFnResultFrom g f ys (i + 1) n = rw called.0 at m.4 in
+      rw (drop_at ys i m.1 (omega arith), drop_at made i d (omega arith), m.2.0, called.1, same i (omega arith))
+      (ap (λ (l : List B). get_or made i d ∷ l) (placed_from (i + 1) n (omega arith) (omega arith) rest))
+
+  pub placed : (n : ℕ) → length made ≡ n → IsFromFnResult g f ys n → ys ≡ made
+  placed n size m =
+      sym (take_all n ys (omega (arith, m.long))) ∙ placed_from 0 n (omega arith) (omega (arith, m.long)) m.each ∙ take_all n made (omega arith)
+
+-- The entries of both engines
+
+pub arrived_mapped : (k : Parameters) (es : List DeadlineProcess) → map (λ e. entry (arrived_at k.b e.location)) es ≡ arrived_from k es
+unfolding arrived_from
+arrived_mapped k [] = refl
+arrived_mapped k (e ∷ es) = ap (λ (l : List Process). entry (arrived_at k.b e.location) ∷ l) (arrived_mapped k es)

@@ -6,85 +6,69 @@ ghost use Rattle.std.specs.Prelude.{◌≡◌};
 ghost use Rattle.deadlines.specs.Matching.{to_deadlines, to_arrivals};
 
 use deadlines::locations::{arrived, dated};
-use deadlines::{DeadlineLocation, DeadlineOutcome, DeadlineProcess, DeadlineState, entry_with};
+use deadlines::{Deadlines, entry_with};
 use machine::entry_at;
-use model::{Location, Outcome, Process, State};
+use model::{Answer, Arrivals, Outcome, Parameters, Refusal, State};
 use rules::actions::WAIT;
-use values::limits::limit_of;
-use values::{answer_with, no_parameters};
+use std::array;
+use values::no_parameters;
 
 // [12.100] [21.110] The state of deadlines that matches a sound state.
-pub fn to_deadlines(state: State) -> DeadlineOutcome
+pub fn to_deadlines(state: State<Arrivals>) -> Outcome<Deadlines>
     ensures { result ≡ to_deadlines state }
 {
     let looked = machine::step(state, WAIT, 0, state.clock);
-    let answer = looked.answer;
-    if answer.code != 0 {
-        let none = deadlines::fresh(no_parameters());
-        let blank = none.state;
-        return DeadlineOutcome {
-            answer: answer_with(1, 0, 0),
-            state: blank,
+    if looked.answer.code != 0 {
+        return Outcome {
+            answer: Answer::from(Refusal::NoTable),
+            state: deadlines::fresh(no_parameters()).state,
         };
     }
-    let b = state.parameters.b;
-    let c = state.parameters.c;
-    let mut processes = [DeadlineProcess {
-        location: DeadlineLocation::Remainder,
-    }; 96];
-    let mut i: usize = 0;
-    while i < 96 {
-        let entry = state.processes[i];
-        let location = entry.location;
-        let limit = limit_of(&state.parameters.a, (i as u64) + 1);
-        processes[i] = entry_with(dated(b, c, limit, location));
-        i += 1;
-    }
-    let parameters = state.parameters;
-    DeadlineOutcome {
-        answer: answer_with(0, 0, 0),
-        state: DeadlineState {
-            parameters: parameters,
-            clock: state.clock,
-            word: state.word,
-            processes: processes,
+    let State {
+        parameters,
+        clock,
+        word,
+        processes,
+    } = state;
+    let Parameters { b, c, a, .. } = parameters;
+    Outcome {
+        answer: Answer::accepted(0, 0),
+        state: State {
+            parameters,
+            clock,
+            word,
+            processes: array::from_fn(|place: usize| {
+                entry_with(dated(b, c, a[place], processes[place].location))
+            }),
         },
     }
 }
 
 // [12.100] [21.110] The state that matches a sound state of deadlines.
-pub fn to_arrivals(state: DeadlineState) -> Outcome
+pub fn to_arrivals(state: State<Deadlines>) -> Outcome<Arrivals>
     ensures { result ≡ to_arrivals state }
 {
     let looked = deadlines::step(state, WAIT, 0, state.clock);
-    let answer = looked.answer;
-    if answer.code != 0 {
-        let none = machine::fresh(no_parameters());
-        let blank = none.state;
+    if looked.answer.code != 0 {
         return Outcome {
-            answer: answer_with(1, 0, 0),
-            state: blank,
+            answer: Answer::from(Refusal::NoTable),
+            state: machine::fresh(no_parameters()).state,
         };
     }
-    let b = state.parameters.b;
-    let mut processes = [Process {
-        location: Location::Remainder,
-    }; 96];
-    let mut i: usize = 0;
-    while i < 96 {
-        let entry = state.processes[i];
-        let location = entry.location;
-        processes[i] = entry_at(arrived(b, location));
-        i += 1;
-    }
-    let parameters = state.parameters;
+    let State {
+        parameters,
+        clock,
+        word,
+        processes,
+    } = state;
+    let b = parameters.b;
     Outcome {
-        answer: answer_with(0, 0, 0),
+        answer: Answer::accepted(0, 0),
         state: State {
-            parameters: parameters,
-            clock: state.clock,
-            word: state.word,
-            processes: processes,
+            parameters,
+            clock,
+            word,
+            processes: processes.map(|entry| entry_at(arrived(b, entry.location))),
         },
     }
 }

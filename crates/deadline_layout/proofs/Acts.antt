@@ -27,10 +27,10 @@ use Rattle.layout.specs.Places.{clocked}
 use Rattle.layout.specs.Steps.{scene_in, row_in}
 use Rattle.layout.proofs.Acts.{lent-gave}
 use Rattle.layout.proofs.Numbers.{limits_size}
-use Rattle.deadlines.specs.declared.DeadlineLocation.{DeadlineLocation}
-use Rattle.deadlines.specs.declared.DeadlineProcess.{DeadlineProcess}
-use Rattle.deadlines.specs.declared.DeadlineState.{DeadlineState}
-use Rattle.deadlines.specs.declared.DeadlineOutcome.{DeadlineOutcome}
+use Rattle.deadlines.specs.Types.{DeadlineLocation}
+use Rattle.deadlines.specs.Types.{DeadlineProcess}
+use Rattle.deadlines.specs.Types.{DeadlineState}
+use Rattle.deadlines.specs.Types.{DeadlineOutcome}
 use Rattle.deadlines.specs.Deadlines.{entry_with, idle_with, entry_in, sound_with, changed_with, step_with}
 use Rattle.deadlines.specs.Looks.{dated_with}
 use Rattle.deadlines.specs.Matching.{arrived}

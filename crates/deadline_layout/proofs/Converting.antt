@@ -5,23 +5,21 @@ use mathlib.Core.Logic.{◌≢◌}
 use mathlib.Core.Bool.{true, false}
 use mathlib.Core.List.{List, ◌++◌}
 use native.Mathlib.Omega.{arith}
-use lib.ListN.{length, get_or, take, drop, length-take}
+use lib.ListN.{length, get_or, take, drop, length-append, length-drop}
 use lib.Seq.{take_at, take-take, take-append-le, length-take-le}
-use borrow.Author.Tests.{lt-ltb, le-ltb, eq-eqb, ne_eqb}
-use Rattle.model.specs.declared.Location.{Location}
+use borrow.Author.Tests.{lt-leb, lt-ltb, le-ltb, eq-eqb, ne_eqb}
+use Rattle.model.specs.Types.{Location}
 use Rattle.model.specs.declared.Parameters.{Parameters}
-use Rattle.model.specs.declared.Process.{Process}
-use Rattle.model.specs.declared.State.{State}
+use Rattle.model.specs.Types.{Process}
+use Rattle.model.specs.Types.{State}
 use Rattle.model.specs.declared.Answer.{Answer}
 use Rattle.model.specs.Stages.{checking}
 use Rattle.model.specs.States.{idle, limit_in, sound_of, location_at}
 use Rattle.model.specs.Answers.{answer_of}
-use Rattle.model.specs.Readings.{over}
-use Rattle.model.proofs.Lists.{length_over}
 use Rattle.model.proofs.Soundness.{sound_numbers, sound_past}
 use Rattle.model.proofs.Tests.{and_true_iff}
 use Rattle.layout.specs.Encodings.{limit_place, header_length, table_length, header_numbers, b_in, c_in, table_parameters, clock_in, word_in}
-use Rattle.layout.specs.Encodings.{state_numbers, state_in, table_in, is_sound_table}
+use Rattle.layout.specs.Encodings.{state_numbers, state_in, table_in, is_table, is_sound_table}
 use Rattle.layout.specs.Interface.{lent_gave}
 use Rattle.layout.specs.Numbers.{IsWhole}
 use Rattle.layout.specs.Places.{placed_at}
@@ -38,9 +36,9 @@ use Rattle.layout.proofs.Saving.{entry_written as plain-written}
 use Rattle.layout.proofs.Lists.{front_over}
 use Rattle.layout.proofs.Numbers.{limits_size, header_long, header_told}
 use Rattle.layout.proofs.Acts.{lent-gave}
-use Rattle.deadlines.specs.declared.DeadlineLocation.{DeadlineLocation}
-use Rattle.deadlines.specs.declared.DeadlineProcess.{DeadlineProcess}
-use Rattle.deadlines.specs.declared.DeadlineState.{DeadlineState}
+use Rattle.deadlines.specs.Types.{DeadlineLocation}
+use Rattle.deadlines.specs.Types.{DeadlineProcess}
+use Rattle.deadlines.specs.Types.{DeadlineState}
 use Rattle.deadlines.specs.Deadlines.{idle_with, opens_after}
 use Rattle.deadlines.specs.Matching.{matched, arrived_at, arrived, to_deadlines, to_arrivals}
 use Rattle.deadlines.specs.Looks.{dated_with}
@@ -56,23 +54,15 @@ use Rattle.deadline_layout.proofs.Encodings.{table-length, table_fits, entries_a
 use Rattle.deadline_layout.proofs.Entries.{limit-at, entry_at, entries_size, each_told}
 use Rattle.deadline_layout.proofs.Saving.{EntriesWritten, header_written, entry_written}
 
--- What stands before the entries is copied, and after it as many numbers as there is room for
+-- What stands before the entries is copied
 
-module _ (l out : List ℕ) where
-  -- what is written
-  abbrev copied : List ℕ
-  copied = over (take (length out) l) out
-
-  pub copied_long : length copied ≡ length out
-  copied_long = length_over (take (length out) l) out (omega (arith, length-take (length out) l))
-
-  pub copied_header : header_length ≤ length l → header_length ≤ length out
+module _ (l : List ℕ) (fits : header_length ≤ length l) where
+  pub copied_header : (copied : List ℕ) → take header_length copied ≡ take header_length l
       → take header_length copied ≡ header_numbers (table_parameters l) (clock_in l) (word_in l)
-  copied_header fits room =
-      let header = header_numbers (table_parameters l) (clock_in l) (word_in l) in
-      take-append-le header_length (take (length out) l) _ (omega (arith, length-take (length out) l)) ∙ take-take header_length (length out) l room
-      ∙ ap (take header_length) (sym (header_told l fits))
-      ∙ take_at header (drop header_length l) header_length (header_long (table_parameters l) (limits_size l fits) (clock_in l) (word_in l))
+  copied_header copied is =
+      is ∙ ap (take header_length) (sym (header_told l fits))
+      ∙ take_at (header_numbers (table_parameters l) (clock_in l) (word_in l)) (drop header_length l) header_length
+      (header_long (table_parameters l) (limits_size l fits) (clock_in l) (word_in l))
 
 -- From a sound table
 
@@ -90,10 +80,13 @@ module _ (l : List ℕ) (long : length l ≡ table_length) (sound : sound_of (st
   unfolding state_in
   dated_whole = record { limits = limits_size l (omega arith); entries = dated_size }
 
-  pub dated_start : (out : List ℕ) → length out ≡ deadline_length → EntriesWritten (matched s) (over (take (length out) l) out) 0
+  pub dated_start : (out : List ℕ) → length out ≡ deadline_length → {front : List ℕ} → front ≡ l
+      → EntriesWritten (matched s) (front ++ drop table_length out) 0
   unfolding state_in
-  dated_start out h =
-      header_written (matched s) _ dated_size (copied_long l out ∙ h) (copied_header l out (omega arith) (omega arith))
+  dated_start out room {front} is =
+      let size = ap length is ∙ long in
+      header_written (matched s) _ dated_size (length-append front (drop table_length out) ∙ omega (arith, length-drop table_length out))
+      (copied_header l (omega arith) _ (take-append-le header_length front (drop table_length out) (omega arith) ∙ ap (take header_length) is))
 
   -- no sum wraps
   few : Small (matched s)
@@ -143,9 +136,11 @@ module _ (l : List ℕ) (long : length l ≡ deadline_length) (told : entries_to
   unfolding state_with_in
   arrived_whole = record { limits = limits_size l (omega arith); entries = arrived_size }
 
-  pub arrived_start : (out : List ℕ) → length out ≡ table_length → PlainWritten (arrived d) (over (take (length out) l) out) 0
+  pub arrived_start : {copied : List ℕ} → copied ≡ take table_length l → PlainWritten (arrived d) copied 0
   unfolding state_with_in
-  arrived_start out h = plain-header (arrived d) _ arrived_size (copied_long l out ∙ h) (copied_header l out (omega arith) (omega arith))
+  arrived_start is =
+      plain-header (arrived d) _ arrived_size (ap length is ∙ length-take-le table_length l (omega arith))
+      (copied_header l (omega arith) _ (ap (take header_length) is ∙ take-take header_length table_length l (omega arith)))
 
   arrived_entry : (i : ℕ) → i < 96 → (get_or (arrived d).processes i idle).location ≡ arrived_in l i d.parameters.b
   arrived_entry i more =
@@ -160,6 +155,11 @@ module _ (l : List ℕ) (long : length l ≡ deadline_length) (told : entries_to
   arrived_written out i done more e = rw (e ∙ sym (arrived_entry i more)) (plain-written (arrived d) out i done idle more)
 
 -- What `to_deadlines` gives back
+
+-- too few numbers tell no table
+pub short_table : (table : List ℕ) → length table < table_length → is_sound_table table ≡ false
+unfolding is_sound_table is_table
+short_table table h = rw (lt-leb table_length (length table) h)
 
 module _ (table : List ℕ) (e : is_sound_table table ≡ true) where
   pub table_sound : sound_of (table_in table) ≡ true

@@ -10,7 +10,7 @@ use lib.ListN.{length, take, drop, length-append}
 use lib.Seq.{take_at, length-take-le}
 use borrow.Author.Tests.{leb-true}
 use Rattle.layout.specs.Encodings.{header_length}
-use Rattle.deadlines.specs.declared.DeadlineState.{DeadlineState}
+use Rattle.deadlines.specs.Types.{DeadlineState}
 use Rattle.deadlines.specs.Deadlines.{sound_with}
 use Rattle.layout.proofs.Numbers.{limits_size}
 use Rattle.deadline_layout.specs.Encodings.{deadline_length, state_numbers_with, state_with_in, are_deadlines, deadline_table_in}

@@ -16,9 +16,9 @@ use Rattle.model.specs.States.{limit_at}
 use Rattle.values.specs.Bits.{are_zero}
 use Rattle.layout.specs.Encodings.{limits_place, limit_place, header_length, limits_told}
 use Rattle.layout.proofs.Entries.{regroup}
-use Rattle.deadlines.specs.declared.DeadlineLocation.{DeadlineLocation}
-use Rattle.deadlines.specs.declared.DeadlineProcess.{DeadlineProcess}
-use Rattle.deadlines.specs.declared.DeadlineState.{DeadlineState}
+use Rattle.deadlines.specs.Types.{DeadlineLocation}
+use Rattle.deadlines.specs.Types.{DeadlineProcess}
+use Rattle.deadlines.specs.Types.{DeadlineState}
 use Rattle.deadlines.specs.Deadlines.{stage_with, deadline_at, entry_with, entry_sound_with, entries_sound_with}
 use Rattle.deadline_layout.specs.Encodings.{deadline_stride, deadline_length, stage_place_with, first_place, last_place, tells_times, are_deadlines}
 use Rattle.deadline_layout.specs.Encodings.{deadlines_in, state_with_in}

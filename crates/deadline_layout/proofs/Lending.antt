@@ -15,7 +15,7 @@ use Rattle.rules.specs.declared.survey.Survey.{Survey}
 use Rattle.layout.specs.Interface.{Lent, lent_gave}
 use Rattle.layout.proofs.Lists.{front_over}
 use Rattle.layout.proofs.Acts.{lent-gave}
-use Rattle.deadlines.specs.declared.DeadlineOutcome.{DeadlineOutcome}
+use Rattle.deadlines.specs.Types.{DeadlineOutcome}
 use Rattle.deadlines.specs.Deadlines.{step_with}
 use Rattle.deadline_layout.specs.Encodings.{deadline_length, is_deadline_table, deadline_table_in, is_sound_deadline_table}
 use Rattle.deadline_layout.specs.Interface.{lent_step_with}

@@ -1,5 +1,5 @@
 -- A look at an entry that is given as three numbers, stage by stage: whether its numbers stand, and what it finds then. Assumes nothing.
-use Prim.Native.Nat.{ℕ, zero, suc, ◌+◌, ◌-◌, ◌*◌, ◌^◌, ◌≤◌, ◌<◌}
+use Prim.Native.Nat.{ℕ, zero, suc, ◌+◌, ◌-◌, ◌^◌, ◌≤◌, ◌<◌}
 use mathlib.Core.Path.{◌≡◌, refl, sym, ap, ◌∙◌}
 use mathlib.Core.Logic.{◌≢◌}
 use mathlib.Core.Bool.{Bool, true, false, cond, not, ◌&&◌, false≢true}
@@ -7,17 +7,15 @@ use mathlib.Core.List.{List}
 use native.Mathlib.Omega.{arith}
 use native.Mathlib.Nat.{mod-eq_of_lt}
 use lib.Dec.{ltb, eqb}
-use lib.ListN.{get_or}
 use borrow.Author.Tests.{ltb-false, eqb-true, lt-leb, le-leb, le-ltb, eq-eqb, ne_eqb, not-false}
 use Rattle.model.specs.Stages.{remainder, checking, critical, leaving}
-use Rattle.model.specs.States.{limit_at}
 use Rattle.model.proofs.Tests.{by_test, by_cond, if_eq, tests}
 use Rattle.rules.specs.declared.survey.Scene.{Scene}
 use Rattle.rules.specs.declared.survey.Survey.{Survey}
 use Rattle.rules.specs.Survey.{unsound, critical_noted, due_from, due_noted}
 use Rattle.deadlines.specs.Looks.{bounds_noted, back_from, settled_by, location_noted, three_zeros}
-use Rattle.deadline_layout.specs.Encodings.{deadline_stride, tells_times}
-use Rattle.deadline_layout.specs.Steps.{numbers_noted_with, stage_in, first_in, last_in, standing_noted, Ready, OfArrival, Stands}
+use Rattle.deadline_layout.specs.Encodings.{tells_times}
+use Rattle.deadline_layout.specs.Steps.{numbers_noted_with, stage_in, first_in, last_in, standing_noted, OfArrival, Stands}
 
 -- Two times of a location that has none
 
@@ -102,64 +100,50 @@ module _ (x : Scene) (k first last b limit : ℕ) (f : Survey) where
     timed-noted (suc (suc (suc (suc (suc (suc (suc zero))))))) a b c d = simp (eq-eqb first first refl, eq-eqb last last refl, le-ltb x.n k h)
     timed-noted (suc (suc (suc (suc (suc (suc (suc (suc j)))))))) a b c d = absurd (omega arith)
 
--- Whether the numbers of entry i stand
+-- Whether the numbers of an entry stand
 
-module _ (ns a : List ℕ) (b : ℕ) (x : Scene) (ready : Ready ns a b x) (i : ℕ) (here : i < x.n) {stage : ℕ} (at : stage ≡ stage_in ns i) where
+module _ (e : List ℕ) (limit b : ℕ) (x : Scene) where
   abbrev first : ℕ
-  first = first_in ns i
+  first = first_in e
 
   abbrev last : ℕ
-  last = last_in ns i
+  last = last_in e
 
-  abbrev limit : ℕ
-  limit = limit_at a (i + 1)
-
-  pub idle_stands : {r : Bool} → stage ≡ remainder → r ≡ three_zeros 0 first last → Stands ns a b x i r
+  pub idle_stands : {r : Bool} → stage_in e ≡ remainder → r ≡ three_zeros 0 first last → Stands e limit b x r
   unfolding standing_noted
-  idle_stands e is = record {
-    look = λ f. rw (sym at ∙ e) (idle_noted x (i + 1) first last b limit f ∙ ap (λ (t : Bool). cond t f unsound) (sym is));
+  idle_stands s is = record { look = λ k f h. rw s (idle_noted x k first last b limit f ∙ ap (λ (t : Bool). cond t f unsound) (sym is)) }
+
+  pub critical_stands : {r : Bool} → stage_in e ≡ critical → r ≡ three_zeros 0 first last → Stands e limit b x r
+  unfolding standing_noted
+  critical_stands s is = record {
+    look = λ k f h. rw s (critical-noted x k first last b limit f h ∙ ap (λ (t : Bool). cond t (critical_noted x.acting k f) unsound) (sym is));
   }
 
-  pub critical_stands : {r : Bool} → stage ≡ critical → r ≡ three_zeros 0 first last → Stands ns a b x i r
-  unfolding standing_noted
-  critical_stands e is = record {
-    look = λ f.
-        rw (sym at ∙ e) (critical-noted x (i + 1) first last b limit f (omega arith)
-        ∙ ap (λ (t : Bool). cond t (critical_noted x.acting (i + 1) f) unsound) (sym is));
-  }
-
-  pub past_stands : leaving < stage → Stands ns a b x i false
-  past_stands h = record { look = λ f. past_noted x (i + 1) first last b limit f (stage_in ns i) (rw at at h) }
+  pub past_stands : leaving < stage_in e → Stands e limit b x false
+  past_stands h = record { look = λ k f _. past_noted x k first last b limit f (stage_in e) h }
 
   -- what is noted of a timed location
-  timed_standing : (f : Survey) → stage ≢ remainder → stage ≢ critical → standing_noted ns x i f ≡ due_noted x.clock (i + 1) last f
+  timed_standing : (k : ℕ) (f : Survey) → stage_in e ≢ remainder → stage_in e ≢ critical → standing_noted e x k f ≡ due_noted x.clock k last f
   unfolding standing_noted
-  timed_standing f some other = rw (ne_eqb (stage_in ns i) remainder (rw at at some), ne_eqb (stage_in ns i) critical (rw at at other))
+  timed_standing k f some other = rw (ne_eqb (stage_in e) remainder some, ne_eqb (stage_in e) critical other)
 
-  by_bounds : {r : Bool} (opens closes : ℕ) → stage ≢ remainder → stage ≢ critical → OfArrival ns (deadline_stride * i) x.clock opens closes r
-      → x.clock + opens < 2 ^ 64 → closes < 2 ^ 64 → (f : Survey)
-      → bounds_noted x.clock (i + 1) first last opens closes f ≡ cond r (standing_noted ns x i f) unsound
-  by_bounds opens closes some other s o c f =
-      bounds_by x.clock (i + 1) first last opens closes f o c s.fits
-      ∙ (λ j. cond (sym s.is j) (sym (timed_standing f some other) j) unsound)
+  by_bounds : {r : Bool} (opens closes : ℕ) → stage_in e ≢ remainder → stage_in e ≢ critical → OfArrival e x.clock opens closes r
+      → x.clock + opens < 2 ^ 64 → closes < 2 ^ 64 → (k : ℕ) (f : Survey)
+      → bounds_noted x.clock k first last opens closes f ≡ cond r (standing_noted e x k f) unsound
+  by_bounds opens closes some other s o c k f =
+      bounds_by x.clock k first last opens closes f o c s.fits ∙ (λ j. cond (sym s.is j) (sym (timed_standing k f some other) j) unsound)
 
-  pub checking_stands : {r : Bool} → stage ≡ checking → OfArrival ns (deadline_stride * i) x.clock b x.c r → Stands ns a b x i r
-  checking_stands e s = record {
-    look = λ f.
-        ap (λ (k : ℕ). numbers_noted_with x (i + 1) k first last b limit f) (sym at ∙ e) ∙ checking_noted x (i + 1) first last b limit f (omega arith)
-        ∙ by_bounds b x.c (λ z. omega arith) (λ z. omega arith) s ready.opens ready.closes f;
+  pub checking_stands : {r : Bool} → x.clock + b < 2 ^ 64 → x.c < 2 ^ 64 → stage_in e ≡ checking → OfArrival e x.clock b x.c r → Stands e limit b x r
+  checking_stands o c q s = record {
+    look = λ k f h.
+        ap (λ (j : ℕ). numbers_noted_with x k j first last b limit f) q ∙ checking_noted x k first last b limit f h
+        ∙ by_bounds b x.c (λ z. omega arith) (λ z. omega arith) s o c k f;
   }
 
-  -- its a stands at its place
-  limit_is : limit ≡ get_or a i 0
-  unfolding limit_at
-  limit_is = ap (λ (j : ℕ). get_or a j 0) (omega arith)
-
-  pub timed_stands : {r : Bool} → stage ≢ remainder → stage ≢ checking → stage ≢ critical → stage ≤ leaving
-      → OfArrival ns (deadline_stride * i) x.clock 0 (get_or a i 0) r → Stands ns a b x i r
-  timed_stands some plain other known s = record {
-    look = λ f.
-        timed-noted x (i + 1) first last b limit f (omega arith) (stage_in ns i) (rw at at some) (rw at at plain) (rw at at other) (rw at at known)
-        ∙ ap (λ (k : ℕ). bounds_noted x.clock (i + 1) first last 0 k f) limit_is
-        ∙ by_bounds 0 (get_or a i 0) some other s (omega (arith, ready.opens)) (rw limit_is at (ready.limit (i + 1))) f;
+  pub timed_stands : {r : Bool} → x.clock + b < 2 ^ 64 → limit < 2 ^ 64 → stage_in e ≢ remainder → stage_in e ≢ checking → stage_in e ≢ critical
+      → stage_in e ≤ leaving → OfArrival e x.clock 0 limit r → Stands e limit b x r
+  timed_stands o c some plain other known s = record {
+    look = λ k f h.
+        timed-noted x k first last b limit f h (stage_in e) some plain other known
+        ∙ by_bounds 0 limit some other s (omega arith) c k f;
   }

@@ -9,10 +9,10 @@ use lib.ListN.{length, get_or, drop, length-append}
 use borrow.Author.Tests.{eq-eqb}
 use Rattle.model.specs.Stages.{leaving}
 use Rattle.layout.specs.Encodings.{limit_place, header_length, header_numbers, table_parameters, clock_in, word_in}
-use Rattle.deadlines.specs.declared.DeadlineLocation.{DeadlineLocation}
-use Rattle.deadlines.specs.declared.DeadlineLocation.TheVariants.{Remainder, Testing, Setting, Checking, Entering, Critical, Resetting, Leaving}
-use Rattle.deadlines.specs.declared.DeadlineProcess.{DeadlineProcess}
-use Rattle.deadlines.specs.declared.DeadlineState.{DeadlineState}
+use Rattle.deadlines.specs.Types.{DeadlineLocation}
+use Rattle.model.specs.declared.Location.TheVariants.{Remainder, Testing, Setting, Checking, Entering, Critical, Resetting, Leaving}
+use Rattle.deadlines.specs.Types.{DeadlineProcess}
+use Rattle.deadlines.specs.Types.{DeadlineState}
 use Rattle.deadlines.specs.Deadlines.{stage_with, first_of, last_of, deadline_at, entry_with}
 use Rattle.deadline_layout.specs.Encodings.{deadline_stride, deadline_numbers, state_numbers_with, deadlines_in, state_with_in}
 use Rattle.deadline_layout.specs.Encodings.{tells_times, are_deadlines}
@@ -27,24 +27,24 @@ both_same f l = (and_true_iff _ _).1 (eq-eqb f f refl, eq-eqb l l refl)
 
 pub location_tells : (q : DeadlineLocation) → tells_times (stage_with q) (first_of q) (last_of q) ≡ true
 location_tells Remainder = refl
-location_tells (Testing f l) = both_same f l
-location_tells (Setting f l) = both_same f l
-location_tells (Checking f l) = both_same f l
-location_tells (Entering f l) = both_same f l
+location_tells (Testing t) = both_same t.first t.last
+location_tells (Setting t) = both_same t.first t.last
+location_tells (Checking t) = both_same t.first t.last
+location_tells (Entering t) = both_same t.first t.last
 location_tells Critical = refl
-location_tells (Resetting f l) = both_same f l
-location_tells (Leaving f l) = both_same f l
+location_tells (Resetting t) = both_same t.first t.last
+location_tells (Leaving t) = both_same t.first t.last
 
 -- and it is the one that they tell
 pub location_is : (q : DeadlineLocation) → deadline_at (stage_with q) (first_of q) (last_of q) ≡ q
 location_is Remainder = refl
-location_is (Testing f l) = refl
-location_is (Setting f l) = refl
-location_is (Checking f l) = refl
-location_is (Entering f l) = refl
+location_is (Testing t) = refl
+location_is (Setting t) = refl
+location_is (Checking t) = refl
+location_is (Entering t) = refl
 location_is Critical = refl
-location_is (Resetting f l) = refl
-location_is (Leaving f l) = refl
+location_is (Resetting t) = refl
+location_is (Leaving t) = refl
 
 -- a stage up to leaving is that of its location
 stage_told : (stage f l : ℕ) → stage ≤ leaving → stage_with (deadline_at stage f l) ≡ stage

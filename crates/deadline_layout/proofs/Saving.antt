@@ -9,8 +9,8 @@ use lib.Seq.{take_all}
 use Rattle.model.proofs.Lists.{drop_at, drop_end}
 use Rattle.layout.specs.Encodings.{header_length, header_numbers}
 use Rattle.layout.proofs.Lists.{fill_at, fill_pair}
-use Rattle.deadlines.specs.declared.DeadlineProcess.{DeadlineProcess}
-use Rattle.deadlines.specs.declared.DeadlineState.{DeadlineState}
+use Rattle.deadlines.specs.Types.{DeadlineProcess}
+use Rattle.deadlines.specs.Types.{DeadlineState}
 use Rattle.deadlines.specs.Deadlines.{stage_with, first_of, last_of}
 use Rattle.deadline_layout.specs.Encodings.{deadline_stride, deadline_length, stage_place_with, deadline_numbers, state_numbers_with}
 use Rattle.deadline_layout.specs.Places.{placed_with}

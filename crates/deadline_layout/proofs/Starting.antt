@@ -15,7 +15,7 @@ use Rattle.model.proofs.Tests.{by_cond}
 use Rattle.layout.specs.Interface.{lent_gave}
 use Rattle.layout.proofs.Lists.{front_over}
 use Rattle.layout.proofs.Acts.{lent-gave}
-use Rattle.deadlines.specs.declared.DeadlineOutcome.{DeadlineOutcome}
+use Rattle.deadlines.specs.Types.{DeadlineOutcome}
 use Rattle.deadlines.specs.Deadlines.{fresh_with}
 use Rattle.deadline_layout.specs.Encodings.{deadline_length, state_numbers_with}
 use Rattle.deadline_layout.specs.Interface.{lent_fresh_with}

@@ -8,9 +8,9 @@ use Rattle.model.specs.declared.Parameters.{Parameters}
 use Rattle.layout.specs.Encodings.{header_numbers}
 use Rattle.layout.specs.Places.{clocked}
 use Rattle.layout.proofs.Numbers.{stored_behind}
-use Rattle.deadlines.specs.declared.DeadlineLocation.{DeadlineLocation}
-use Rattle.deadlines.specs.declared.DeadlineProcess.{DeadlineProcess}
-use Rattle.deadlines.specs.declared.DeadlineState.{DeadlineState}
+use Rattle.deadlines.specs.Types.{DeadlineLocation}
+use Rattle.deadlines.specs.Types.{DeadlineProcess}
+use Rattle.deadlines.specs.Types.{DeadlineState}
 use Rattle.deadlines.specs.Deadlines.{stage_with, first_of, last_of, entry_with, changed_with}
 use Rattle.deadline_layout.specs.Encodings.{deadline_stride, stage_place_with, first_place, last_place, deadline_numbers, state_numbers_with}
 use Rattle.deadline_layout.specs.Places.{placed_with}

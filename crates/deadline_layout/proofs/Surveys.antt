@@ -1,6 +1,6 @@
 -- The pass over the numbers of a deadline table finds what the pass over the entries of the state finds that they tell, or a fault where they tell
 -- no sound one. Assumes nothing.
-use Prim.Native.Nat.{ℕ, zero, suc, ◌+◌, ◌*◌, ◌-◌, ◌≤◌, ◌<◌}
+use Prim.Native.Nat.{ℕ, zero, suc, ◌+◌, ◌*◌, ◌-◌, ◌/◌, ◌^◌, ◌≤◌, ◌<◌}
 use mathlib.Core.Path.{◌≡◌, refl, sym, ap, subst, ◌∙◌}
 use mathlib.Core.Logic.{◌≢◌}
 use mathlib.Core.Bool.{Bool, true, false, cond, not, ◌&&◌, and-false}
@@ -8,7 +8,7 @@ use mathlib.Core.List.{List, []}
 use native.Mathlib.Omega.{arith}
 use lib.Dec.{eqb}
 use lib.ListN.{length, get_or, take, drop, length-drop}
-use lib.Seq.{get_or-drop, length-take-le}
+use lib.Seq.{get_or-drop, drop-drop}
 use borrow.Author.Tests.{eqb-true, eqb-false, eq-eqb, ne_eqb, not-true, not-false}
 use Rattle.model.specs.Stages.{remainder}
 use Rattle.model.specs.States.{limit_at}
@@ -22,10 +22,9 @@ use Rattle.values.specs.Bits.{are_zero}
 use Rattle.layout.specs.Encodings.{header_length, count_in, b_in, limits_told, table_parameters, clock_in, word_in}
 use Rattle.layout.specs.Steps.{scene_in}
 use Rattle.layout.proofs.Entries.{zero_at}
-use Rattle.layout.proofs.Numbers.{limits_size}
-use Rattle.deadlines.specs.declared.DeadlineLocation.{DeadlineLocation}
-use Rattle.deadlines.specs.declared.DeadlineProcess.{DeadlineProcess}
-use Rattle.deadlines.specs.declared.DeadlineState.{DeadlineState}
+use Rattle.deadlines.specs.Types.{DeadlineLocation}
+use Rattle.deadlines.specs.Types.{DeadlineProcess}
+use Rattle.deadlines.specs.Types.{DeadlineState}
 use Rattle.deadlines.specs.Deadlines.{stage_with, deadline_at, idle_with, entries_sound_with, sound_with}
 use Rattle.deadlines.specs.Matching.{arrived}
 use Rattle.deadlines.specs.Looks.{location_noted}
@@ -34,8 +33,11 @@ use Rattle.deadlines.proofs.Passing.{turn_fault_with, turn_passed_with, passed_w
 use Rattle.deadlines.proofs.Passing as passing
 use Rattle.deadline_layout.specs.Encodings.{deadline_stride, deadline_length, stage_place_with, first_place, last_place, are_deadlines, state_with_in}
 use Rattle.deadline_layout.specs.Places.{tells_at, entries_from, entries_told, first_entries}
-use Rattle.deadline_layout.specs.Steps.{numbers_noted_with, entries_noted_with, Ready, pass_with, survey_with}
+use Rattle.deadline_layout.specs.Steps.{numbers_noted_with, entries_noted_with, pass_with, survey_with}
 use Rattle.deadline_layout.proofs.Entries.{entry_at, entries_size, next_told, first_next, left_zero}
+use Rattle.deadline_layout.proofs.Zeros.{rows_size, rows_from, rows_to}
+use Rattle.std.specs.List.{concat}
+use Rattle.std.specs.Simd.{first_chunks}
 
 -- Whether the numbers of a deadline table tell a sound one
 
@@ -189,35 +191,48 @@ survey_found l long acting =
 
 -- Of the function: what it gives back, from what the functions that it calls ensure
 
--- the part that is lent is the entries up to n, and of numbers that stand no sum wraps
-pub pass_ready : (l : List ℕ) → length l ≡ deadline_length → {x : Scene} {acting end : ℕ}
-    → numbers_stand (table_parameters l) (clock_in l) (word_in l) ≡ true → x ≡ scene_in l acting → end ≡ stage_place_with (count_in l)
-    → Ready (take (end - header_length) (drop header_length l)) (limits_told l) (b_in l) x
-pass_ready l long {x} {acting} {end} stand x-is end_is =
+-- of numbers that stand no sum wraps
+pub pass_opens : (l : List ℕ) → numbers_stand (table_parameters l) (clock_in l) (word_in l) ≡ true → clock_in l + b_in l < 2 ^ 64
+pass_opens l stand =
     let h = small (record { parameters = table_parameters l; clock = clock_in l; word = word_in l; processes = [] }) stand in
-    rw x-is (record {
-      few = h.few;
-      long = length-take-le (end - header_length) (drop header_length l) (rw (length-drop header_length l) (omega (arith, h.few))) ∙ omega arith;
-      own = omega (arith, h.few, limits_size l (omega arith));
-      opens = omega (arith, h.clock, h.opens);
-      closes = omega (arith, h.closes);
-      limit = λ k. omega (arith, h.limit k);
-    })
+    omega (arith, h.clock, h.opens)
 
 module _ (l : List ℕ) (acting : ℕ) where
-  pub pass_is : {x : Scene} {end : ℕ} {f : Survey} → x ≡ scene_in l acting → end ≡ stage_place_with (count_in l)
-      → f ≡ entries_noted_with (b_in l) (limits_told l) x 1 (take (end - header_length) (drop header_length l)) nothing → f ≡ pass_with l acting
-  pass_is {end = end} x-is end_is f-is =
-      let e : end - header_length ≡ deadline_stride * count_in l = omega arith in
-      rw (x-is, e) at f-is
+  -- the numbers of each entry
+  abbrev pub rows : List (List ℕ)
+  rows = first_chunks deadline_stride 96 (drop header_length l)
 
-  -- and the other part those above
-  pub above_is : {end : ℕ} (bits : ℕ) → length l ≡ deadline_length → end ≡ stage_place_with (count_in l)
-      → eqb bits 0 ≡ are_zero (take (deadline_length - end) (drop end l)) → eqb bits 0 ≡ are_zero (entries_from l (count_in l))
-  above_is {end = end} bits long end_is t-is =
-      let whole : take (deadline_length - end) (drop end l) ≡ drop end l =
-      ap (λ (k : ℕ). take (k - end) (drop end l)) (sym long) ∙ part_is l end in
-      t-is ∙ ap are_zero (whole ∙ ap (λ (k : ℕ). drop k l) end_is)
+  -- all numbers after those that stand before the entries
+  abbrev pub behind : List ℕ
+  behind = take (deadline_length - header_length) (drop header_length l)
+
+  module _ (long : length l ≡ deadline_length) {parts : List (List ℕ)}
+      (chunks : parts ≡ first_chunks deadline_stride (length behind / deadline_stride) behind) where
+    parts_are : parts ≡ rows
+    parts_are =
+        let whole : behind ≡ drop header_length l = ap (λ (k : ℕ). take (k - header_length) (drop header_length l)) (sym long) ∙ part_is l header_length in
+        chunks ∙ ap (λ (k : List ℕ). first_chunks deadline_stride (length k / deadline_stride) k) whole
+        ∙ ap (λ (k : ℕ). first_chunks deadline_stride (k / deadline_stride) (drop header_length l))
+        (length-drop header_length l ∙ ap (λ (k : ℕ). k - header_length) long)
+
+    module _ (few : count_in l ≤ 96) where
+      pub parts_reach : count_in l ≤ length parts
+      parts_reach = omega (arith, few, ap length parts_are ∙ rows_size 96 (drop header_length l))
+
+      pub pass_is : {es : List (List ℕ)} → es ≡ take (count_in l) parts → {x : Scene} {f : Survey} → x ≡ scene_in l acting
+          → f ≡ entries_noted_with (b_in l) (limits_told l) x 1 (concat es) nothing → f ≡ pass_with l acting
+      pass_is e x-is f-is =
+          let part = ap concat (e ∙ ap (take (count_in l)) parts_are) ∙ rows_to 96 (count_in l) (drop header_length l) few in
+          f-is ∙ (λ j. entries_noted_with (b_in l) (limits_told l) (x-is j) 1 (part j) nothing)
+
+    -- and those above n
+    pub above_is : {es : List (List ℕ)} (bits : ℕ) → es ≡ drop (count_in l) parts → eqb bits 0 ≡ are_zero (concat es)
+        → eqb bits 0 ≡ are_zero (entries_from l (count_in l))
+    above_is bits e t-is =
+        let n = count_in l in
+        t-is
+        ∙ ap are_zero (ap concat (e ∙ ap (drop n) parts_are) ∙ rows_from 96 n (drop header_length l) (length-drop header_length l ∙ omega arith)
+        ∙ drop-drop (deadline_stride * n) header_length l)
 
   pub standing_not : numbers_stand (table_parameters l) (clock_in l) (word_in l) ≡ false → unsound ≡ survey_with l acting
   unfolding survey_with

@@ -3,8 +3,8 @@
 use Rattle.std.specs.Prelude.{ℕ, ◌+◌, ◌*◌, Bool, true, false, ◌&&◌, List, [], ◌∷◌, ◌++◌, length, take, drop, leb, eqb}
 use Rattle.model.specs.Stages.{leaving}
 use Rattle.layout.specs.Encodings.{header_length, header_numbers, table_parameters, clock_in, word_in}
-use Rattle.deadlines.specs.declared.DeadlineProcess.{DeadlineProcess}
-use Rattle.deadlines.specs.declared.DeadlineState.{DeadlineState}
+use Rattle.deadlines.specs.Types.{DeadlineProcess}
+use Rattle.deadlines.specs.Types.{DeadlineState}
 use Rattle.deadlines.specs.Deadlines.{stage_with, first_of, last_of, deadline_at, entry_with, sound_with}
 
 -- A deadline table, the numbers of a state of deadlines

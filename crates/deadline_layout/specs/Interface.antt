@@ -5,7 +5,7 @@ use Rattle.model.specs.Answers.{answer_of}
 use Rattle.model.specs.Readings.{over}
 use Rattle.layout.specs.Encodings.{table_length, table_in, is_sound_table}
 use Rattle.layout.specs.Interface.{Lent, lent_gave, outcome_lent}
-use Rattle.deadlines.specs.declared.DeadlineOutcome.{DeadlineOutcome}
+use Rattle.deadlines.specs.Types.{DeadlineOutcome}
 use Rattle.deadlines.specs.Deadlines.{step_with, fresh_with}
 use Rattle.deadlines.specs.Matching.{to_deadlines, to_arrivals}
 use Rattle.deadline_layout.specs.Encodings.{deadline_length, state_numbers_with, deadline_table_in, is_sound_deadline_table}

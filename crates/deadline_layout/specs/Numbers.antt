@@ -3,7 +3,7 @@ use Rattle.std.specs.Prelude.{ℕ, ◌≡◌, true, List, ◌++◌}
 use Rattle.model.specs.Readings.{over}
 use Rattle.layout.specs.Layouts.{layout}
 use Rattle.layout.specs.Numbers.{HasAll}
-use Rattle.deadlines.specs.declared.DeadlineState.{DeadlineState}
+use Rattle.deadlines.specs.Types.{DeadlineState}
 use Rattle.deadline_layout.specs.Encodings.{deadline_length, state_numbers_with, is_deadline_table, deadline_table_in}
 
 -- [2.10] [12.10] 96 values of a and 96 entries, as each of the code has

@@ -1,13 +1,23 @@
 -- Places of the numbers of entries, and what the functions that write them make of a list. For the proofs only. What stands before the entries is
 -- written as in a table of `layout`. Assumes nothing.
-use Rattle.std.specs.Prelude.{ℕ, ◌*◌, ◌-◌, Bool, List, get_or, take, drop, set}
-use Rattle.model.specs.declared.Location.{Location}
+use Rattle.std.specs.Prelude.{ℕ, ◌*◌, ◌-◌, ◌≡◌, Bool, true, List, [], ◌∷◌, get_or, take, drop, set}
+use Rattle.model.specs.Types.{Location}
 use Rattle.model.specs.States.{location_at}
-use Rattle.deadlines.specs.declared.DeadlineLocation.{DeadlineLocation}
+use Rattle.deadlines.specs.Types.{DeadlineLocation}
 use Rattle.deadlines.specs.Deadlines.{stage_with, first_of, last_of, deadline_at, opens_after}
-use Rattle.deadline_layout.specs.Encodings.{deadline_stride, stage_place_with, first_place, last_place, tells_times, are_deadlines}
+use Rattle.deadline_layout.specs.Encodings.{deadline_stride, deadline_length, stage_place_with, first_place, last_place, tells_times, are_deadlines}
+use Rattle.deadline_layout.specs.Encodings.{is_sound_deadline_table}
+
+-- [12.115] what is lent of a list that starts with the numbers of a sound state of deadlines: just these
+pub record IsSoundPart (l part : List ℕ) : Type 0 where
+  pub sound : is_sound_deadline_table l ≡ true
+  pub is : part ≡ take deadline_length l
 
 -- Entry i of a deadline table
+
+-- [12.110] its numbers
+abbrev pub entry_in : List ℕ → ℕ → List ℕ
+entry_in l i = get_or l (stage_place_with i) 0 ∷ get_or l (first_place i) 0 ∷ get_or l (last_place i) 0 ∷ []
 
 -- [12.115] whether its numbers tell a location
 abbrev pub tells_at : List ℕ → ℕ → Bool

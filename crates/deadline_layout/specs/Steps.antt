@@ -1,6 +1,6 @@
 -- What is found of a lent deadline table, and what an action makes of it, on the numbers themselves. For the proofs only. `proofs/` relates these
 -- definitions to the step of the second engine. Assumes nothing.
-use Rattle.std.specs.Prelude.{ℕ, ◌+◌, ◌*◌, ◌^◌, ◌≤◌, ◌<◌, ◌≡◌, Bool, cond, not, List, [], ◌∷◌, eqb, length, get_or}
+use Rattle.std.specs.Prelude.{ℕ, ◌+◌, ◌^◌, ◌≤◌, ◌<◌, ◌≡◌, Bool, cond, not, List, [], ◌∷◌, eqb, get_or}
 use Rattle.model.specs.declared.Transition.{Transition}
 use Rattle.model.specs.declared.Answer.{Answer}
 use Rattle.model.specs.Acts.{wait_act}
@@ -17,7 +17,7 @@ use Rattle.layout.specs.Places.{clocked}
 use Rattle.layout.specs.Steps.{scene_in, row_in}
 use Rattle.deadlines.specs.Deadlines.{deadline_at}
 use Rattle.deadlines.specs.Looks.{dated_with, location_noted, settled_by}
-use Rattle.deadline_layout.specs.Encodings.{deadline_stride, stage_place_with, first_place, tells_times}
+use Rattle.deadline_layout.specs.Encodings.{stage_place_with, first_place, tells_times}
 use Rattle.deadline_layout.specs.Places.{entries_from, first_entries, placed_with}
 
 -- What is found
@@ -37,47 +37,37 @@ entries_noted_with b a x k (stage ∷ first ∷ last ∷ rest) f =
     (entries_noted_with b a x (k + 1) rest (numbers_noted_with x k stage first last b (limit_at a k) f))
     unsound
 
--- Entry i of a list of entries, from process 1 on
+-- The numbers of an entry
 
 -- its stage
-abbrev pub stage_in : List ℕ → ℕ → ℕ
-stage_in ns i = get_or ns (deadline_stride * i) 0
+abbrev pub stage_in : List ℕ → ℕ
+stage_in e = get_or e 0 0
 
 -- its first time
-abbrev pub first_in : List ℕ → ℕ → ℕ
-first_in ns i = get_or ns (deadline_stride * i + 1) 0
+abbrev pub first_in : List ℕ → ℕ
+first_in e = get_or e 1 0
 
 -- its last time
-abbrev pub last_in : List ℕ → ℕ → ℕ
-last_in ns i = get_or ns (deadline_stride * i + 2) 0
+abbrev pub last_in : List ℕ → ℕ
+last_in e = get_or e 2 0
 
--- a look at its numbers
-abbrev pub look_in : List ℕ → List ℕ → ℕ → Scene → ℕ → Survey → Survey
-look_in ns a b x i f = numbers_noted_with x (i + 1) (stage_in ns i) (first_in ns i) (last_in ns i) b (limit_at a (i + 1)) f
+-- a look at them, where they are the entry of process k, whose a is `limit`
+abbrev pub look_at : List ℕ → Scene → ℕ → ℕ → ℕ → Survey → Survey
+look_at e x k b limit f = numbers_noted_with x k (stage_in e) (first_in e) (last_in e) b limit f
 
 -- the same, where they tell a location and the times of one arrival up to the clock
 unfoldable pub standing_noted : List ℕ → Scene → ℕ → Survey → Survey
-standing_noted ns x i f =
-    cond (eqb (stage_in ns i) remainder) f
-    (cond (eqb (stage_in ns i) critical) (critical_noted x.acting (i + 1) f) (due_noted x.clock (i + 1) (last_in ns i) f))
+standing_noted e x k f =
+    cond (eqb (stage_in e) remainder) f (cond (eqb (stage_in e) critical) (critical_noted x.acting k f) (due_noted x.clock k (last_in e) f))
 
--- the entries are those of the processes from 1 to n, with their values of a, and no sum that a look takes wraps
-pub record Ready (ns a : List ℕ) (b : ℕ) (x : Scene) : Type 0 where
-  pub few : x.n ≤ 96
-  pub long : length ns ≡ deadline_stride * x.n
-  pub own : x.n ≤ length a
-  pub opens : x.clock + b < 2 ^ 64
-  pub closes : x.c < 2 ^ 64
-  pub limit : (k : ℕ) → limit_at a k < 2 ^ 64
+-- whether the two times are of one arrival up to the clock; the last is a number of 64 bits
+pub record OfArrival (e : List ℕ) (clock opens closes : ℕ) (r : Bool) : Type 0 where
+  pub is : r ≡ settled_by 0 clock (first_in e) (last_in e) opens closes
+  pub fits : last_in e < 2 ^ 64
 
--- whether the two times of the entry whose numbers start at a place are of one arrival up to the clock; the last is a number of 64 bits
-pub record OfArrival (ns : List ℕ) (at clock opens closes : ℕ) (r : Bool) : Type 0 where
-  pub is : r ≡ settled_by 0 clock (get_or ns (at + 1) 0) (get_or ns (at + 2) 0) opens closes
-  pub fits : get_or ns (at + 2) 0 < 2 ^ 64
-
--- whether the numbers of entry i are such, so that there is no fault in a look at them but that of a last time before the clock
-pub record Stands (ns a : List ℕ) (b : ℕ) (x : Scene) (i : ℕ) (r : Bool) : Type 0 where
-  pub look : (f : Survey) → look_in ns a b x i f ≡ cond r (standing_noted ns x i f) unsound
+-- whether they are such, so that there is no fault in a look at them but that of a last time before the clock
+pub record Stands (e : List ℕ) (limit b : ℕ) (x : Scene) (r : Bool) : Type 0 where
+  pub look : (k : ℕ) (f : Survey) → k ≤ x.n → look_at e x k b limit f ≡ cond r (standing_noted e x k f) unsound
 
 -- The whole table
 

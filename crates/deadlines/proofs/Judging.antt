@@ -3,13 +3,13 @@
 use Rattle.std.proofs.Common.{◌≡◌, ℕ, ◌+◌, ◌-◌, ◌≤◌, Bool, true, false, cond, not, ◌&&◌, eqb, ltb, ◌≢◌, length, set, sym, refl, ap, ◌∙◌}
 use Rattle.std.proofs.Common.{subst, mod-eq_of_lt, arith, ltb-false, eq-eqb, ne_eqb, eqb-true}
 use borrow.Author.Tests.{eqb-false, not-false}
-use Rattle.model.specs.declared.Location.{Location}
+use Rattle.model.specs.Types.{Location}
 use Rattle.model.specs.declared.Location.TheVariants.{Remainder, Testing, Setting, Checking, Entering, Critical, Resetting, Leaving}
 use Rattle.model.specs.declared.Parameters.{Parameters}
-use Rattle.model.specs.declared.State.{State}
+use Rattle.model.specs.Types.{State}
 use Rattle.model.specs.declared.Transition.{Transition}
 use Rattle.model.specs.declared.Answer.{Answer}
-use Rattle.model.specs.declared.Outcome.{Outcome}
+use Rattle.model.specs.Types.{Outcome}
 use Rattle.model.specs.Stages.{checking}
 use Rattle.model.specs.Acts.{wait_act, try_act, test_act, set_act, check_act, crit_act, exit_act, reset_act, rem_act, last_act, leaves}
 use Rattle.model.specs.States.{last_time, limit_in, stage_of, since_of, release_in, entry_of}
@@ -19,12 +19,12 @@ use Rattle.rules.specs.declared.survey.Scene.{Scene}
 use Rattle.rules.specs.declared.survey.Survey.{Survey}
 use Rattle.rules.specs.Survey.{scene_of, due_from, due_so_far}
 use Rattle.rules.specs.Judging.{lowest_of, check_from, turn_judged, overdue, judged}
-use Rattle.deadlines.specs.declared.DeadlineLocation.{DeadlineLocation}
-use Rattle.deadlines.specs.declared.DeadlineLocation.TheVariants as with
-use Rattle.deadlines.specs.declared.DeadlineProcess.{DeadlineProcess}
-use Rattle.deadlines.specs.declared.DeadlineState.{DeadlineState}
-use Rattle.deadlines.specs.declared.DeadlineOutcome.{DeadlineOutcome}
-use Rattle.deadlines.specs.Deadlines.{stage_with, first_of, dated_at, entry_with, entry_in, sound_with, answers_with, changed_with, moved_with, step_with}
+use Rattle.deadlines.specs.Types.{DeadlineLocation}
+use Rattle.model.specs.declared.Location.TheVariants as with
+use Rattle.deadlines.specs.Types.{DeadlineProcess}
+use Rattle.deadlines.specs.Types.{DeadlineState}
+use Rattle.deadlines.specs.Types.{DeadlineOutcome}
+use Rattle.deadlines.specs.Deadlines.{period, stage_with, first_of, dated_at, entry_with, entry_in, sound_with, answers_with, changed_with, moved_with, step_with}
 use Rattle.deadlines.specs.Matching.{matched, arrived_at, arrived}
 use Rattle.deadlines.specs.Looks.{dated_with}
 use Rattle.model.proofs.Rows.{row_leaves}
@@ -199,13 +199,13 @@ sum t x h g = mod-eq_of_lt (omega arith)
 pub dated_fits : (k : Parameters) (i : ℕ) (l : Location) → since_of l ≤ last_time → k.b ≤ 10_000_000 → k.c ≤ 10_000_000
     → limit_in k i ≤ 10_000_000 → dated_with k.b k.c (limit_in k i) l ≡ dated_at k i l
 dated_fits k i Remainder h b c a = refl
-dated_fits k i (Testing t) h b c a = λ j. with.Testing (plain t j) (sum t (limit_in k i) h a j)
-dated_fits k i (Setting t) h b c a = λ j. with.Setting (plain t j) (sum t (limit_in k i) h a j)
-dated_fits k i (Checking t) h b c a = λ j. with.Checking (sum t k.b h b j) (sum t k.c h c j)
-dated_fits k i (Entering t) h b c a = λ j. with.Entering (plain t j) (sum t (limit_in k i) h a j)
+dated_fits k i (Testing t) h b c a = λ j. with.Testing (period (plain t j) (sum t (limit_in k i) h a j))
+dated_fits k i (Setting t) h b c a = λ j. with.Setting (period (plain t j) (sum t (limit_in k i) h a j))
+dated_fits k i (Checking t) h b c a = λ j. with.Checking (period (sum t k.b h b j) (sum t k.c h c j))
+dated_fits k i (Entering t) h b c a = λ j. with.Entering (period (plain t j) (sum t (limit_in k i) h a j))
 dated_fits k i Critical h b c a = refl
-dated_fits k i (Resetting t) h b c a = λ j. with.Resetting (plain t j) (sum t (limit_in k i) h a j)
-dated_fits k i (Leaving t) h b c a = λ j. with.Leaving (plain t j) (sum t (limit_in k i) h a j)
+dated_fits k i (Resetting t) h b c a = λ j. with.Resetting (period (plain t j) (sum t (limit_in k i) h a j))
+dated_fits k i (Leaving t) h b c a = λ j. with.Leaving (period (plain t j) (sum t (limit_in k i) h a j))
 
 -- the entry of a process is stored at its slot, with sums that do not wrap
 pub exit_moved_with : (d : DeadlineState) (act p m slot : ℕ) (t : Transition) (o : DeadlineOutcome) (j : Answer)

@@ -2,13 +2,13 @@
 -- same answer and states that match; and a sound state of deadlines is the one that matches the state of its arrivals. Assumes nothing.
 use Rattle.std.proofs.Common.{◌≡◌, ℕ, zero, suc, ◌+◌, ◌-◌, ◌≤◌, Bool, true, false, cond, not, ◌&&◌, eqb, ltb, leb, List, [], ◌∷◌, length}
 use Rattle.std.proofs.Common.{get_or, set, sym, refl, ap, ◌∙◌, arith, eq-eqb, eqb-true, le-leb}
-use Rattle.model.specs.declared.Location.{Location}
+use Rattle.model.specs.Types.{Location}
 use Rattle.model.specs.declared.Location.TheVariants.{Remainder, Testing, Setting, Checking, Entering, Critical, Resetting, Leaving}
-use Rattle.model.specs.declared.Process.{Process}
+use Rattle.model.specs.Types.{Process}
 use Rattle.model.specs.declared.Parameters.{Parameters}
-use Rattle.model.specs.declared.State.{State}
+use Rattle.model.specs.Types.{State}
 use Rattle.model.specs.declared.Transition.{Transition}
-use Rattle.model.specs.declared.Outcome.{Outcome}
+use Rattle.model.specs.Types.{Outcome}
 use Rattle.model.specs.Stages.{remainder}
 use Rattle.model.specs.Acts.{wait_act}
 use Rattle.model.specs.States.{entry, idle, stage_of, timed, bounded, deadline, limit_in, deadline_in, release_in}
@@ -16,12 +16,12 @@ use Rattle.model.specs.States.{entry_sound, entries_sound, sound_of, entry_of}
 use Rattle.model.specs.Actions.{transition_of, moved, effect}
 use Rattle.model.specs.Answers.{beyond, unknown, misnamed, missed, misplaced, early, Due, due, sooner, first_by, first_deadline}
 use Rattle.model.specs.Answers.{critical_by, critical_of, Sight, sight_of, judged_by, answers, accepts, step_of}
-use Rattle.deadlines.specs.declared.DeadlineLocation.{DeadlineLocation}
-use Rattle.deadlines.specs.declared.DeadlineLocation.TheVariants as with
-use Rattle.deadlines.specs.declared.DeadlineProcess.{DeadlineProcess}
-use Rattle.deadlines.specs.declared.DeadlineState.{DeadlineState}
-use Rattle.deadlines.specs.declared.DeadlineOutcome.{DeadlineOutcome}
-use Rattle.deadlines.specs.Deadlines.{stage_with, timed_with, first_of, last_of, dated_at, entry_with, idle_with, entry_in, of_one_arrival}
+use Rattle.deadlines.specs.Types.{DeadlineLocation}
+use Rattle.model.specs.declared.Location.TheVariants as with
+use Rattle.deadlines.specs.Types.{DeadlineProcess}
+use Rattle.deadlines.specs.Types.{DeadlineState}
+use Rattle.deadlines.specs.Types.{DeadlineOutcome}
+use Rattle.deadlines.specs.Deadlines.{period, stage_with, timed_with, first_of, last_of, dated_at, entry_with, idle_with, entry_in, of_one_arrival}
 use Rattle.deadlines.specs.Deadlines.{entry_sound_with, entries_sound_with, sound_with, first_last, critical_with, sight_with, moved_with, effect_with}
 use Rattle.deadlines.specs.Deadlines.{answers_with, accepts_with, step_with}
 use Rattle.deadlines.specs.Matching.{dated_from, matched, arrived_at, arrived_from, arrived}
@@ -58,24 +58,24 @@ dated_is k i (Leaving t) = record { stage = refl; first = refl; back = ap Leavin
 -- the way back: a location whose times are those of one arrival, or that has none
 pub stage_arrived : (b : ℕ) (q : DeadlineLocation) → stage_of (arrived_at b q) ≡ stage_with q
 stage_arrived b with.Remainder = refl
-stage_arrived b (with.Testing f l) = refl
-stage_arrived b (with.Setting f l) = refl
-stage_arrived b (with.Checking f l) = refl
-stage_arrived b (with.Entering f l) = refl
+stage_arrived b (with.Testing t) = refl
+stage_arrived b (with.Setting t) = refl
+stage_arrived b (with.Checking t) = refl
+stage_arrived b (with.Entering t) = refl
 stage_arrived b with.Critical = refl
-stage_arrived b (with.Resetting f l) = refl
-stage_arrived b (with.Leaving f l) = refl
+stage_arrived b (with.Resetting t) = refl
+stage_arrived b (with.Leaving t) = refl
 
 pub dated_back : (k : Parameters) (i : ℕ) (q : DeadlineLocation) → (timed_with q ≡ true → of_one_arrival k i q ≡ true)
     → dated_at k i (arrived_at k.b q) ≡ q
 dated_back k i with.Remainder told = refl
-dated_back k i (with.Testing f l) told = let h = simp tests at (told refl) in λ j. with.Testing (sym h.0 j) (sym h.1 j)
-dated_back k i (with.Setting f l) told = let h = simp tests at (told refl) in λ j. with.Setting (sym h.0 j) (sym h.1 j)
-dated_back k i (with.Checking f l) told = let h = simp tests at (told refl) in λ j. with.Checking (sym h.0 j) (sym h.1 j)
-dated_back k i (with.Entering f l) told = let h = simp tests at (told refl) in λ j. with.Entering (sym h.0 j) (sym h.1 j)
+dated_back k i (with.Testing t) told = let h = simp tests at (told refl) in λ j. with.Testing (period (sym h.0 j) (sym h.1 j))
+dated_back k i (with.Setting t) told = let h = simp tests at (told refl) in λ j. with.Setting (period (sym h.0 j) (sym h.1 j))
+dated_back k i (with.Checking t) told = let h = simp tests at (told refl) in λ j. with.Checking (period (sym h.0 j) (sym h.1 j))
+dated_back k i (with.Entering t) told = let h = simp tests at (told refl) in λ j. with.Entering (period (sym h.0 j) (sym h.1 j))
 dated_back k i with.Critical told = refl
-dated_back k i (with.Resetting f l) told = let h = simp tests at (told refl) in λ j. with.Resetting (sym h.0 j) (sym h.1 j)
-dated_back k i (with.Leaving f l) told = let h = simp tests at (told refl) in λ j. with.Leaving (sym h.0 j) (sym h.1 j)
+dated_back k i (with.Resetting t) told = let h = simp tests at (told refl) in λ j. with.Resetting (period (sym h.0 j) (sym h.1 j))
+dated_back k i (with.Leaving t) told = let h = simp tests at (told refl) in λ j. with.Leaving (period (sym h.0 j) (sym h.1 j))
 
 -- Entries
 
@@ -138,12 +138,12 @@ module _ (s : State) where
   untimed = rw (le-leb 0 s.clock (omega arith))
 
   entry_same : (i : ℕ) (l : Location) → entry_sound_with (matched s) i (entry_with (dated_at k i l)) ≡ entry_sound s i (entry l)
-  entry_same i Remainder = up_to i (stage_of Remainder) untimed
+  entry_same i Remainder = up_to i (stage_of {T = ℕ} Remainder) untimed
   entry_same i (Testing t) = up_to i (stage_of (Testing t)) (times_same t 0 (limit_in k i))
   entry_same i (Setting t) = up_to i (stage_of (Setting t)) (times_same t 0 (limit_in k i))
   entry_same i (Checking t) = up_to i (stage_of (Checking t)) (times_same t k.b k.c)
   entry_same i (Entering t) = up_to i (stage_of (Entering t)) (times_same t 0 (limit_in k i))
-  entry_same i Critical = up_to i (stage_of Critical) untimed
+  entry_same i Critical = up_to i (stage_of {T = ℕ} Critical) untimed
   entry_same i (Resetting t) = up_to i (stage_of (Resetting t)) (times_same t 0 (limit_in k i))
   entry_same i (Leaving t) = up_to i (stage_of (Leaving t)) (times_same t 0 (limit_in k i))
 
@@ -267,13 +267,13 @@ step_same s act p m =
 
 untimed_idle : (q : DeadlineLocation) → stage_with q ≡ remainder → timed_with q ≡ false
 untimed_idle with.Remainder e = refl
-untimed_idle (with.Testing f l) e = absurd (omega (arith, e))
-untimed_idle (with.Setting f l) e = absurd (omega (arith, e))
-untimed_idle (with.Checking f l) e = absurd (omega (arith, e))
-untimed_idle (with.Entering f l) e = absurd (omega (arith, e))
+untimed_idle (with.Testing t) e = absurd (omega (arith, e))
+untimed_idle (with.Setting t) e = absurd (omega (arith, e))
+untimed_idle (with.Checking t) e = absurd (omega (arith, e))
+untimed_idle (with.Entering t) e = absurd (omega (arith, e))
 untimed_idle with.Critical e = refl
-untimed_idle (with.Resetting f l) e = absurd (omega (arith, e))
-untimed_idle (with.Leaving f l) e = absurd (omega (arith, e))
+untimed_idle (with.Resetting t) e = absurd (omega (arith, e))
+untimed_idle (with.Leaving t) e = absurd (omega (arith, e))
 
 entry_told : (d : DeadlineState) (i : ℕ) (q : DeadlineProcess) → entry_sound_with d i q ≡ true
     → entry_with (dated_at d.parameters i (arrived_at d.parameters.b q.location)) ≡ q

@@ -5,18 +5,18 @@ use Rattle.std.proofs.Common.{length, get_or, drop, sym, refl, ap, ◌∙◌, mo
 use Rattle.std.proofs.Common.{ne_eqb, eqb-true, le-leb}
 use mathlib.Core.Bool.{false≢true}
 use borrow.Author.Tests.{lt-leb, eqb-false, not-true, not-false}
-use Rattle.model.specs.declared.Location.{Location}
-use Rattle.model.specs.declared.Process.{Process}
+use Rattle.model.specs.Types.{Location}
+use Rattle.model.specs.Types.{Process}
 use Rattle.model.specs.declared.Parameters.{Parameters}
 use Rattle.model.specs.Stages.{remainder, checking, critical}
 use Rattle.model.specs.States.{idle, limit_in}
 use Rattle.rules.specs.declared.survey.Scene.{Scene}
 use Rattle.rules.specs.declared.survey.Survey.{Survey}
 use Rattle.rules.specs.Survey.{numbers_stand, scene_of, endless, nothing, unsound, due_from, due_so_far, due_noted, timed_noted, noted}
-use Rattle.deadlines.specs.declared.DeadlineLocation.{DeadlineLocation}
-use Rattle.deadlines.specs.declared.DeadlineLocation.TheVariants as with
-use Rattle.deadlines.specs.declared.DeadlineProcess.{DeadlineProcess}
-use Rattle.deadlines.specs.declared.DeadlineState.{DeadlineState}
+use Rattle.deadlines.specs.Types.{DeadlineLocation}
+use Rattle.model.specs.declared.Location.TheVariants as with
+use Rattle.deadlines.specs.Types.{DeadlineProcess}
+use Rattle.deadlines.specs.Types.{DeadlineState}
 use Rattle.deadlines.specs.Deadlines.{stage_with, timed_with, first_of, last_of, entry_with, idle_with}
 use Rattle.deadlines.specs.Deadlines.{times_sound, entry_sound_with, entries_sound_with, sound_with}
 use Rattle.deadlines.specs.Matching.{arrived_at, arrived}
@@ -172,22 +172,22 @@ module _ (d : DeadlineState) (acting i : ℕ) (f : Survey) (stand : standing_wit
   pub look_at : (q : DeadlineLocation) → Looked q (location_noted scene i q k.b (limit_in k i) f)
   unfolding location_noted noted
   look_at with.Remainder = same (by_test (leb i k.n) (λ e. simp e) (λ e. simp e)) refl so_far
-  look_at (with.Testing a z) =
-      timed_looked (with.Testing a z) 0 (limit_in k i) ((small d stand).limit i) refl (λ h. up_to (ltb-false _ _ h) (with.Testing a z)) (λ h. rw h)
-  look_at (with.Setting a z) =
-      timed_looked (with.Setting a z) 0 (limit_in k i) ((small d stand).limit i) refl (λ h. up_to (ltb-false _ _ h) (with.Setting a z)) (λ h. rw h)
-  look_at (with.Checking a z) =
-      timed_looked (with.Checking a z) k.b k.c (small d stand).closes refl (λ h. up_to (ltb-false _ _ h) (with.Checking a z)) (λ h. rw h)
-  look_at (with.Entering a z) =
-      timed_looked (with.Entering a z) 0 (limit_in k i) ((small d stand).limit i) refl (λ h. up_to (ltb-false _ _ h) (with.Entering a z)) (λ h. rw h)
+  look_at (with.Testing t) =
+      timed_looked (with.Testing t) 0 (limit_in k i) ((small d stand).limit i) refl (λ h. up_to (ltb-false _ _ h) (with.Testing t)) (λ h. rw h)
+  look_at (with.Setting t) =
+      timed_looked (with.Setting t) 0 (limit_in k i) ((small d stand).limit i) refl (λ h. up_to (ltb-false _ _ h) (with.Setting t)) (λ h. rw h)
+  look_at (with.Checking t) =
+      timed_looked (with.Checking t) k.b k.c (small d stand).closes refl (λ h. up_to (ltb-false _ _ h) (with.Checking t)) (λ h. rw h)
+  look_at (with.Entering t) =
+      timed_looked (with.Entering t) 0 (limit_in k i) ((small d stand).limit i) refl (λ h. up_to (ltb-false _ _ h) (with.Entering t)) (λ h. rw h)
   look_at with.Critical =
       by_cond (Looked with.Critical) (ltb k.n i) (above with.Critical refl)
       (λ h. same (up_to (ltb-false _ _ h) with.Critical) (rw h) (by_cond (λ (g : Survey). g.faulty ≡ 0) (eqb i acting) (λ _. so_far)
       (λ _. by_cond (λ (g : Survey). g.faulty ≡ 0) (not (eqb f.critical 0)) (λ _. so_far) (λ _. so_far))))
-  look_at (with.Resetting a z) =
-      timed_looked (with.Resetting a z) 0 (limit_in k i) ((small d stand).limit i) refl (λ h. up_to (ltb-false _ _ h) (with.Resetting a z)) (λ h. rw h)
-  look_at (with.Leaving a z) =
-      timed_looked (with.Leaving a z) 0 (limit_in k i) ((small d stand).limit i) refl (λ h. up_to (ltb-false _ _ h) (with.Leaving a z)) (λ h. rw h)
+  look_at (with.Resetting t) =
+      timed_looked (with.Resetting t) 0 (limit_in k i) ((small d stand).limit i) refl (λ h. up_to (ltb-false _ _ h) (with.Resetting t)) (λ h. rw h)
+  look_at (with.Leaving t) =
+      timed_looked (with.Leaving t) 0 (limit_in k i) ((small d stand).limit i) refl (λ h. up_to (ltb-false _ _ h) (with.Leaving t)) (λ h. rw h)
 
   -- a location that is settled, of a process up to n
   pub settled_noted : (q : DeadlineLocation) → i ≤ k.n → last_of q < 2 ^ 64 → settled_at (due_so_far d.clock f) d.clock (limit_in k i) q ≡ true

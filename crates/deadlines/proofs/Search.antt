@@ -7,9 +7,9 @@ use Rattle.model.specs.Answers.{Due, first_deadline}
 use Rattle.rules.specs.declared.survey.Survey.{Survey}
 use Rattle.rules.specs.Survey.{scene_of, endless, nothing, noted}
 use Rattle.rules.specs.Search.{searched, TellsFirst}
-use Rattle.deadlines.specs.declared.DeadlineLocation.{DeadlineLocation}
-use Rattle.deadlines.specs.declared.DeadlineProcess.{DeadlineProcess}
-use Rattle.deadlines.specs.declared.DeadlineState.{DeadlineState}
+use Rattle.deadlines.specs.Types.{DeadlineLocation}
+use Rattle.deadlines.specs.Types.{DeadlineProcess}
+use Rattle.deadlines.specs.Types.{DeadlineState}
 use Rattle.deadlines.specs.Deadlines.{entry_with, entry_sound_with, entries_sound_with, sound_with, first_last}
 use Rattle.deadlines.specs.Matching.{arrived_at, arrived_from, arrived}
 use Rattle.deadlines.specs.Search.{searched_with, SearchTellsFirstWith}

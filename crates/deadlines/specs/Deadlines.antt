@@ -1,77 +1,50 @@
 -- Section 12 of the specification, the second engine: its locations and their two times, which of its states are sound, what it answers and
 -- what an accepted action changes. The rows, the judgement, the search for the first deadline and what stands are the model's. Assumes nothing.
 use Rattle.std.specs.Prelude.{ℕ, ◌+◌, ◌-◌, Bool, true, false, cond, not, ◌&&◌, ◌||◌, List, [], ◌∷◌, replicate, ◌==◌, nat_le, nat_lt, slice_index_or, slice_set}
-use Rattle.model.specs.declared.Location.{Location}
+use Rattle.model.specs.Types.{Location}
 use Rattle.model.specs.declared.Parameters.{Parameters}
 use Rattle.model.specs.declared.Transition.{Transition}
 use Rattle.model.specs.Stages.{remainder, testing, setting, checking, entering, critical, resetting, leaving}
 use Rattle.model.specs.Acts.{wait_act}
-use Rattle.model.specs.States.{no_parameters, parameters_stand, clock_stands, word_stands, limit_in, stage_of, deadline_in, release_in}
+use Rattle.model.specs.States.{initial_over, no_parameters, parameters_stand, clock_stands, word_stands, limit_in, stage_of, timed, time_of, location_at, deadline_in, release_in}
 use Rattle.model.specs.Actions.{transition_of}
-use Rattle.model.specs.Answers.{answer_of, Due, none_due, first_by, critical_by, Sight, judged_by, fresh_by}
-use Rattle.deadlines.specs.declared.DeadlineLocation.{DeadlineLocation}
-use Rattle.deadlines.specs.declared.DeadlineLocation.TheVariants.{Remainder, Testing, Setting, Checking, Entering, Critical, Resetting, Leaving}
-use Rattle.deadlines.specs.declared.DeadlineProcess.{DeadlineProcess}
-use Rattle.deadlines.specs.declared.DeadlineState.{DeadlineState}
-use Rattle.deadlines.specs.declared.DeadlineOutcome.{DeadlineOutcome}
+use Rattle.model.specs.Answers.{answer_of, Due, none_due, first_by, critical_by, Sight, judged_by, fresh_over}
+use Rattle.deadlines.specs.declared.Period.{Period}
+use Rattle.deadlines.specs.Types.{DeadlineLocation}
+use Rattle.model.specs.declared.Location.TheVariants.{Remainder}
+use Rattle.deadlines.specs.Types.{DeadlineProcess}
+use Rattle.deadlines.specs.Types.{DeadlineState}
+use Rattle.deadlines.specs.Types.{DeadlineOutcome}
 
 -- Locations
 
+-- [12.10] the two times of a timed location
+abbrev pub period : ℕ → ℕ → Period
+period first last = record { first = first; last = last }
+
 -- [2.70] [12.10]
 abbrev pub stage_with : DeadlineLocation → ℕ
-stage_with Remainder = remainder
-stage_with (Testing f l) = testing
-stage_with (Setting f l) = setting
-stage_with (Checking f l) = checking
-stage_with (Entering f l) = entering
-stage_with Critical = critical
-stage_with (Resetting f l) = resetting
-stage_with (Leaving f l) = leaving
+stage_with q = stage_of q
 
 -- [12.10] whether a location holds two times
 abbrev pub timed_with : DeadlineLocation → Bool
-timed_with Remainder = false
-timed_with (Testing f l) = true
-timed_with (Setting f l) = true
-timed_with (Checking f l) = true
-timed_with (Entering f l) = true
-timed_with Critical = false
-timed_with (Resetting f l) = true
-timed_with (Leaving f l) = true
+timed_with q = timed q
+
+-- [12.10] the two times of a location; both 0 where there are none
+abbrev pub period_of : DeadlineLocation → Period
+period_of q = time_of (period 0 0) q
 
 -- [12.10] the first time; 0 where there is none
 abbrev pub first_of : DeadlineLocation → ℕ
-first_of Remainder = 0
-first_of (Testing f l) = f
-first_of (Setting f l) = f
-first_of (Checking f l) = f
-first_of (Entering f l) = f
-first_of Critical = 0
-first_of (Resetting f l) = f
-first_of (Leaving f l) = f
+first_of q = (period_of q).first
 
 -- [12.10] the last time; 0 where there is none
 abbrev pub last_of : DeadlineLocation → ℕ
-last_of Remainder = 0
-last_of (Testing f l) = l
-last_of (Setting f l) = l
-last_of (Checking f l) = l
-last_of (Entering f l) = l
-last_of Critical = 0
-last_of (Resetting f l) = l
-last_of (Leaving f l) = l
+last_of q = (period_of q).last
 
 -- [12.10] back from a stage and two times
 abbrev pub deadline_at : ℕ → ℕ → ℕ → DeadlineLocation
-deadline_at stage f l =
-    cond (stage == remainder) Remainder
-    (cond (stage == testing) (Testing f l)
-    (cond (stage == setting) (Setting f l)
-    (cond (stage == checking) (Checking f l)
-    (cond (stage == entering) (Entering f l)
-    (cond (stage == critical) Critical
-    (cond (stage == resetting) (Resetting f l)
-    (Leaving f l)))))))
+deadline_at stage f l = location_at stage (period f l)
 
 -- [12.20] [12.60] a location with its times written out: the first is its release, and the last its deadline
 abbrev pub dated_at : Parameters → ℕ → Location → DeadlineLocation
@@ -89,7 +62,7 @@ idle_with = entry_with Remainder
 
 -- [12.40] a fresh state, with any parameters
 abbrev pub initial_with : Parameters → DeadlineState
-initial_with k = record { parameters = k; clock = 0; word = 0; processes = replicate 96 idle_with }
+initial_with k = initial_over (replicate 96 idle_with) k
 
 -- [12.10] the entry of process p, from 1
 unfoldable pub entry_in : DeadlineState → ℕ → DeadlineProcess
@@ -190,4 +163,4 @@ blank_with = initial_with no_parameters
 
 -- [12.40]
 unfoldable pub fresh_with : Parameters → DeadlineOutcome
-fresh_with k = fresh_by k (λ code. answers_with code 0 0 blank_with) (answers_with 0 0 0 (initial_with k))
+fresh_with k = fresh_over (replicate 96 idle_with) k

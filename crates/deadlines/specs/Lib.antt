@@ -1,3 +1,4 @@
+pub mod Types
 pub mod Deadlines
 pub mod Matching
 pub mod Looks

@@ -1,13 +1,13 @@
 -- What a look at an entry of the second engine finds, on numbers and on a location. `proofs/` relates these definitions, which hand over no state, to
 -- those of `Deadlines` and to the looks of `rules`. Assumes nothing.
 use Rattle.std.specs.Prelude.{ℕ, ◌+◌, ◌-◌, ◌%◌, ◌^◌, Bool, false, cond, not, ◌&&◌, ◌||◌, ◌==◌, nat_le, nat_lt}
-use Rattle.model.specs.declared.Location.{Location}
+use Rattle.model.specs.Types.{Location}
 use Rattle.model.specs.Stages.{remainder, checking, critical}
 use Rattle.model.specs.States.{stage_of, since_of}
 use Rattle.rules.specs.declared.survey.Scene.{Scene}
 use Rattle.rules.specs.declared.survey.Survey.{Survey}
 use Rattle.rules.specs.Survey.{unsound, critical_noted, due_from, due_noted}
-use Rattle.deadlines.specs.declared.DeadlineLocation.{DeadlineLocation}
+use Rattle.deadlines.specs.Types.{DeadlineLocation}
 use Rattle.deadlines.specs.Deadlines.{stage_with, first_of, last_of, deadline_at, opens_after, closes_after}
 
 -- A location with its times written out, by sums that may wrap

@@ -1,33 +1,32 @@
 -- Section 12 of the specification, the two engines side by side: the relation of a state and a state of deadlines that match, in plain facts, and
 -- the two ways from one to the other. Assumes nothing.
 use Rattle.std.specs.Prelude.{◌≡◌, ℕ, ◌+◌, ◌-◌, cond, List, [], ◌∷◌, slice_index}
-use Rattle.model.specs.declared.Location.{Location}
+use Rattle.model.specs.Types.{Location}
 use Rattle.model.specs.declared.Location.TheVariants.{Remainder, Testing, Setting, Checking, Entering, Critical, Resetting, Leaving}
-use Rattle.model.specs.declared.Process.{Process}
+use Rattle.model.specs.Types.{Process}
 use Rattle.model.specs.declared.Parameters.{Parameters}
-use Rattle.model.specs.declared.State.{State}
-use Rattle.model.specs.declared.Outcome.{Outcome}
+use Rattle.model.specs.Types.{State}
+use Rattle.model.specs.Types.{Outcome}
 use Rattle.model.specs.States.{entry, location_at, sound_of}
 use Rattle.model.specs.Answers.{answers, blank}
-use Rattle.deadlines.specs.declared.DeadlineLocation.{DeadlineLocation}
-use Rattle.deadlines.specs.declared.DeadlineLocation.TheVariants as with
-use Rattle.deadlines.specs.declared.DeadlineProcess.{DeadlineProcess}
-use Rattle.deadlines.specs.declared.DeadlineState.{DeadlineState}
-use Rattle.deadlines.specs.declared.DeadlineOutcome.{DeadlineOutcome}
-use Rattle.deadlines.specs.Deadlines.{stage_with, dated_at, entry_with, arrival_in, sound_with, answers_with, blank_with}
+use Rattle.deadlines.specs.Types.{DeadlineLocation}
+use Rattle.deadlines.specs.Types.{DeadlineProcess}
+use Rattle.deadlines.specs.Types.{DeadlineState}
+use Rattle.deadlines.specs.Types.{DeadlineOutcome}
+use Rattle.deadlines.specs.Deadlines.{period, stage_with, dated_at, entry_with, arrival_in, sound_with, answers_with, blank_with}
 
 -- Matching, in plain facts
 
 -- [12.20] the locations of a process with the bound a
 pub data LocationsMatch (a b c : ℕ) : Location → DeadlineLocation → Type 0 where
-  remainder : LocationsMatch a b c Remainder with.Remainder
-  testing : {t : ℕ} → LocationsMatch a b c (Testing t) (with.Testing t (t + a))
-  setting : {t : ℕ} → LocationsMatch a b c (Setting t) (with.Setting t (t + a))
-  checking : {t : ℕ} → LocationsMatch a b c (Checking t) (with.Checking (t + b) (t + c))
-  entering : {t : ℕ} → LocationsMatch a b c (Entering t) (with.Entering t (t + a))
-  critical : LocationsMatch a b c Critical with.Critical
-  resetting : {t : ℕ} → LocationsMatch a b c (Resetting t) (with.Resetting t (t + a))
-  leaving : {t : ℕ} → LocationsMatch a b c (Leaving t) (with.Leaving t (t + a))
+  remainder : LocationsMatch a b c Remainder Remainder
+  testing : {t : ℕ} → LocationsMatch a b c (Testing t) (Testing (period t (t + a)))
+  setting : {t : ℕ} → LocationsMatch a b c (Setting t) (Setting (period t (t + a)))
+  checking : {t : ℕ} → LocationsMatch a b c (Checking t) (Checking (period (t + b) (t + c)))
+  entering : {t : ℕ} → LocationsMatch a b c (Entering t) (Entering (period t (t + a)))
+  critical : LocationsMatch a b c Critical Critical
+  resetting : {t : ℕ} → LocationsMatch a b c (Resetting t) (Resetting (period t (t + a)))
+  leaving : {t : ℕ} → LocationsMatch a b c (Leaving t) (Leaving (period t (t + a)))
 
 -- [12.20] as many entries, one by one, from process i on; the a of each is named by its place, and not by what the step asks for it
 pub data EntriesMatch (k : Parameters) : ℕ → List Process → List DeadlineProcess → Type 0 where

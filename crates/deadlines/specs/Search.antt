@@ -5,8 +5,8 @@ use Rattle.model.specs.States.{limit_in}
 use Rattle.rules.specs.declared.survey.Survey.{Survey}
 use Rattle.rules.specs.Survey.{scene_of, nothing}
 use Rattle.rules.specs.Search.{TellsFirst}
-use Rattle.deadlines.specs.declared.DeadlineProcess.{DeadlineProcess}
-use Rattle.deadlines.specs.declared.DeadlineState.{DeadlineState}
+use Rattle.deadlines.specs.Types.{DeadlineProcess}
+use Rattle.deadlines.specs.Types.{DeadlineState}
 use Rattle.deadlines.specs.Deadlines.{sound_with, first_last}
 use Rattle.deadlines.specs.Looks.{location_noted}
 

@@ -1,105 +1,61 @@
-// The locations of the second engine: the stage and the two times of each, and the ways from a location with an arrival and back.
-ghost use Rattle.std.specs.Prelude.{◌≡◌, ◌-◌};
-ghost use Rattle.deadlines.specs.Deadlines.{stage_with, first_of, last_of};
+// The locations of the second engine: their two times, and the ways from a location with an arrival and back.
+ghost use Rattle.std.specs.Prelude.{◌≡◌};
+ghost use Rattle.deadlines.specs.Deadlines.{period_of, first_of, last_of};
 ghost use Rattle.deadlines.specs.Looks.{dated_with};
 ghost use Rattle.deadlines.specs.Matching.{arrived_at};
 
-use crate::DeadlineLocation;
+use crate::Period;
 use model::Location;
-use rules::stages::{
-    CHECKING, CRITICAL, ENTERING, LEAVING, REMAINDER, RESETTING, SETTING, TESTING,
-};
+use rules::stages::{CHECKING, location_at, since_of, stage_of, time_of};
 use std::num::wrapping_add_u64;
 
-// [2.70] [12.10]
-pub fn stage_with(location: DeadlineLocation) -> u64
-    ensures { result ≡ stage_with location }
+// [12.10] The two times; both 0 where the location carries none.
+pub fn period_of(location: Location<Period>) -> Period
+    ensures { result ≡ period_of location }
 {
-    match location {
-        DeadlineLocation::Remainder => REMAINDER,
-        DeadlineLocation::Testing(_, _) => TESTING,
-        DeadlineLocation::Setting(_, _) => SETTING,
-        DeadlineLocation::Checking(_, _) => CHECKING,
-        DeadlineLocation::Entering(_, _) => ENTERING,
-        DeadlineLocation::Critical => CRITICAL,
-        DeadlineLocation::Resetting(_, _) => RESETTING,
-        DeadlineLocation::Leaving(_, _) => LEAVING,
-    }
+    time_of(Period { first: 0, last: 0 }, location)
 }
 
 // [12.10] The first time; 0 where the location carries none.
-pub fn first_of(location: DeadlineLocation) -> u64
+pub fn first_of(location: Location<Period>) -> u64
     ensures { result ≡ first_of location }
 {
-    match location {
-        DeadlineLocation::Remainder => 0,
-        DeadlineLocation::Testing(first, _) => first,
-        DeadlineLocation::Setting(first, _) => first,
-        DeadlineLocation::Checking(first, _) => first,
-        DeadlineLocation::Entering(first, _) => first,
-        DeadlineLocation::Critical => 0,
-        DeadlineLocation::Resetting(first, _) => first,
-        DeadlineLocation::Leaving(first, _) => first,
-    }
+    period_of(location).first
 }
 
 // [12.10] The last time; 0 where the location carries none.
-pub fn last_of(location: DeadlineLocation) -> u64
+pub fn last_of(location: Location<Period>) -> u64
     ensures { result ≡ last_of location }
 {
-    match location {
-        DeadlineLocation::Remainder => 0,
-        DeadlineLocation::Testing(_, last) => last,
-        DeadlineLocation::Setting(_, last) => last,
-        DeadlineLocation::Checking(_, last) => last,
-        DeadlineLocation::Entering(_, last) => last,
-        DeadlineLocation::Critical => 0,
-        DeadlineLocation::Resetting(_, last) => last,
-        DeadlineLocation::Leaving(_, last) => last,
-    }
+    period_of(location).last
 }
 
 // [12.20] [12.60] A location with its two times written out. The sums may wrap, of an arrival that no sound state has, and are of no account then.
 // `limit` is the process's own a.
-pub fn dated(b: u64, c: u64, limit: u64, location: Location) -> DeadlineLocation
+#[tactic(auto, using(std::proofs::lemmas::Bool::Decides::nat_tests))]
+pub fn dated(b: u64, c: u64, limit: u64, location: Location<u64>) -> Location<Period>
     ensures { result ≡ dated_with b c limit location }
 {
-    match location {
-        Location::Remainder => DeadlineLocation::Remainder,
-        Location::Testing(t) => DeadlineLocation::Testing(t, wrapping_add_u64(t, limit)),
-        Location::Setting(t) => DeadlineLocation::Setting(t, wrapping_add_u64(t, limit)),
-        Location::Checking(t) => {
-            DeadlineLocation::Checking(wrapping_add_u64(t, b), wrapping_add_u64(t, c))
-        }
-        Location::Entering(t) => DeadlineLocation::Entering(t, wrapping_add_u64(t, limit)),
-        Location::Critical => DeadlineLocation::Critical,
-        Location::Resetting(t) => DeadlineLocation::Resetting(t, wrapping_add_u64(t, limit)),
-        Location::Leaving(t) => DeadlineLocation::Leaving(t, wrapping_add_u64(t, limit)),
+    let stage = stage_of(location);
+    let since = since_of(location);
+    if stage == CHECKING {
+        let first = wrapping_add_u64(since, b);
+        let last = wrapping_add_u64(since, c);
+        return location_at(stage, Period { first, last });
     }
-}
-
-// The difference, or 0 where there is none.
-pub fn less(first: u64, b: u64) -> u64
-    ensures { result ≡ first - b }
-{
-    if first < b {
-        return 0;
-    }
-    first - b
+    let last = wrapping_add_u64(since, limit);
+    location_at(stage, Period { first: since, last })
 }
 
 // [12.100] A location with the arrival that its first time tells.
-pub fn arrived(b: u64, location: DeadlineLocation) -> Location
+#[tactic(auto, using(std::proofs::lemmas::Bool::Decides::nat_tests))]
+pub fn arrived(b: u64, location: Location<Period>) -> Location<u64>
     ensures { result ≡ arrived_at b location }
 {
-    match location {
-        DeadlineLocation::Remainder => Location::Remainder,
-        DeadlineLocation::Testing(first, _) => Location::Testing(first),
-        DeadlineLocation::Setting(first, _) => Location::Setting(first),
-        DeadlineLocation::Checking(first, _) => Location::Checking(less(first, b)),
-        DeadlineLocation::Entering(first, _) => Location::Entering(first),
-        DeadlineLocation::Critical => Location::Critical,
-        DeadlineLocation::Resetting(first, _) => Location::Resetting(first),
-        DeadlineLocation::Leaving(first, _) => Location::Leaving(first),
+    let stage = stage_of(location);
+    let first = first_of(location);
+    if stage == CHECKING {
+        return location_at(stage, first.saturating_sub(b));
     }
+    location_at(stage, first)
 }

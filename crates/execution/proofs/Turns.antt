@@ -1,21 +1,20 @@
--- The loop that takes steps, by the record `Going` of model: the steps that there are rows for, a turn, and the end. Assumes nothing.
+-- The loops that take steps, by the record `Going` of model: the steps that there are rows for, a turn, and the end. Assumes nothing.
 use Prim.Native.Nat.{ℕ, ◌+◌, ◌≤◌, ◌<◌, min}
 use mathlib.Core.Path.{◌≡◌, refl, sym, ap, ◌∙◌}
 use mathlib.Core.List.{List, map, map-map}
 use native.Mathlib.Omega.{arith}
-use lib.ListN.{length, take, length-take}
+use lib.ListN.{length, set, take, length-take}
 use lib.Seq.{get_or-take}
-use Rattle.model.specs.declared.State.{State}
-use Rattle.model.specs.declared.Outcome.{Outcome}
+use Rattle.model.specs.Types.{State}
+use Rattle.model.specs.Types.{Outcome}
 use Rattle.model.specs.Answers.{answer_numbers}
 use Rattle.model.specs.Texts.{Event}
 use Rattle.model.specs.Readings.{Lists, room, over}
 use Rattle.model.specs.Writings.{events_of, event_in}
 use Rattle.model.specs.Folds.{results_by}
-use Rattle.model.specs.Executions.{step_by, state_after, Executed, executed_gave, executed_of}
+use Rattle.model.specs.Executions.{step_by, state_after, executed_gave, executed_of}
 use Rattle.model.proofs.Lists.{rows_snoc}
-use Rattle.model.proofs.Folds.{Going, sets_out, count_going, long_going, moves_on, end_reached, all_written}
-use Rattle.execution.specs.Turns.{step_turn_of}
+use Rattle.model.proofs.Folds.{Going, sets_out, count_going, moves_on, end_reached, all_written}
 use Rattle.model.proofs.Steps.{length_steps, step_at}
 
 -- The steps that there are rows for
@@ -44,16 +43,13 @@ module _ {s : State} {l : Lists} {rows : List (List ℕ)} {n i : ℕ} {t : State
   pub is_inside : i < n → i < min (length rows) (room l)
   is_inside h = omega (arith, g.all, length_for l rows)
 
-  pub takes_on : i < n → {u : State} {k : List (List ℕ)} → executed_gave u k ≡ step_turn_of t l m i → Taking s l rows n (i + 1) u k
-  takes_on h e =
+  pub takes_on : i < n → (e : Event) → e ≡ event_in l i → (o : Outcome) → o ≡ step_by t e
+      → Taking s l rows n (i + 1) o.state (set m i (answer_numbers o.answer))
+  takes_on h e at o gave =
       let inside = is_inside h in
-      let this = get_or-take (length rows) (events_of l) i (event_in l i) (omega arith) ∙ step_at l i (event_in l i) (omega arith) in
-      moves_on g h (event_in l i) (event_in l i) this (ap (λ (x : Executed). x.state) e)
-      (ap (λ (x : Executed). x.answers) e ∙ rw g.written (rows_snoc row_of g.results rows i (count_going g) (omega arith) _))
-
-  -- there are as many rows as before
-  pub rows_kept : length m ≡ length rows
-  rows_kept = rw g.written (long_going g row_of rows (omega (arith, g.all, length_for l rows)))
+      let this = get_or-take (length rows) (events_of l) i e (omega arith) ∙ step_at l i e (omega arith) ∙ sym at in
+      moves_on g h e e this (ap state_after gave)
+      (rw (gave, g.written) (rows_snoc row_of g.results rows i (count_going g) (omega arith) _))
 
   pub all_taken : n ≤ i → executed_gave t m ≡ executed_of s (events_of l) rows
   unfolding executed_of

@@ -9,7 +9,7 @@ use lib.Dec.{eqb, ltb}
 use lib.ListN.{length, drop}
 use borrow.Author.Tests.{eq-eqb, eqb-true, eqb-false, le-ltb}
 use Rattle.model.specs.declared.Parameters.{Parameters}
-use Rattle.model.specs.declared.State.{State}
+use Rattle.model.specs.Types.{State}
 use Rattle.model.specs.Answers.{answer_of}
 use Rattle.model.specs.States.{parameters_of, sound_of}
 use Rattle.model.specs.Folds.{end_by, results_by}
@@ -18,8 +18,8 @@ use Rattle.model.specs.Texts.{Event}
 use Rattle.layout.specs.Encodings.{table_length, state_numbers, table_in, is_sound_table}
 use Rattle.layout.specs.Interface.{Lent, lent_gave}
 use Rattle.layout.specs.Numbers.{IsWhole}
-use Rattle.deadlines.specs.declared.DeadlineState.{DeadlineState}
-use Rattle.deadlines.specs.declared.DeadlineOutcome.{DeadlineOutcome}
+use Rattle.deadlines.specs.Types.{DeadlineState}
+use Rattle.deadlines.specs.Types.{DeadlineOutcome}
 use Rattle.deadlines.specs.Deadlines.{sound_with, step_with, fresh_with}
 use Rattle.deadlines.specs.Matching.{matched, arrived, to_deadlines, to_arrivals}
 use Rattle.matching.specs.Facts.{AcceptedWith}

@@ -3,7 +3,7 @@
 use Prim.Native.Nat.{ℕ}
 use mathlib.Core.Path.{◌≡◌, refl, sym, ap, ◌∙◌}
 use mathlib.Core.List.{List, []}
-use Rattle.model.specs.declared.State.{State}
+use Rattle.model.specs.Types.{State}
 use Rattle.model.specs.declared.Parameters.{Parameters}
 use Rattle.model.specs.Acts.{withdraw_act}
 use Rattle.model.specs.States.{parameters_of}

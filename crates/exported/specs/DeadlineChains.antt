@@ -13,8 +13,8 @@ use Rattle.model.specs.Texts.{Event}
 use Rattle.theory.specs.Soundness.{ParametersStand}
 use Rattle.layout.specs.Encodings.{table_length, state_numbers, is_sound_table, table_in}
 use Rattle.layout.specs.Interface.{Lent, lent_gave}
-use Rattle.deadlines.specs.declared.DeadlineState.{DeadlineState}
-use Rattle.deadlines.specs.declared.DeadlineOutcome.{DeadlineOutcome}
+use Rattle.deadlines.specs.Types.{DeadlineState}
+use Rattle.deadlines.specs.Types.{DeadlineOutcome}
 use Rattle.deadlines.specs.Matching.{Matches}
 use Rattle.matching.specs.Facts.{HasTimes}
 use Rattle.matching.specs.Lists.{Demand3With}

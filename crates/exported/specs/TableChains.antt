@@ -2,7 +2,7 @@
 -- recorded steps the tally, where a result for each call is one that the contract of the exported function allows. Assumes nothing.
 use Rattle.std.specs.Prelude.{ℕ, ◌+◌, ◌≤◌, ◌<◌, ◌≡◌, ◌↔◌, true, false, List, ◌++◌, map, length, drop}
 use Rattle.model.specs.declared.Parameters.{Parameters}
-use Rattle.model.specs.declared.State.{State}
+use Rattle.model.specs.Types.{State}
 use Rattle.model.specs.declared.Recorded.{Recorded}
 use Rattle.model.specs.Acts.{wait_act, try_act, withdraw_act}
 use Rattle.model.specs.States.{last_time}

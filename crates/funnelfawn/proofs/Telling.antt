@@ -6,12 +6,12 @@ use mathlib.Core.List.{List}
 use borrow.Author.Tests.{ne_eqb}
 use Rattle.model.specs.declared.Answer.{Answer}
 use Rattle.model.specs.Acts.{crit_act}
+use Rattle.model.specs.Answers.{answer_of}
 use Rattle.layout.specs.Interface.{record_gave, lent_record, entry_gave, lent_entry}
 use Rattle.recent.specs.Encodings.{board_gave, lent_add}
 use Rattle.recent.specs.Tellings.{told_gave, lent_tell}
 use Rattle.layout.proofs.Recording.{entry_record, entry_wait}
 use Rattle.funnelfawn.specs.declared.Told.{Told}
-use Rattle.funnelfawn.specs.Telling.{alone_with}
 
 module _ (table summary board : List ℕ) (act p m : ℕ) {step : Answer} {t x : List ℕ} {wait : ℕ}
     (entered : entry_gave (record_gave step t x) wait ≡ lent_entry table summary act p m) where
@@ -21,11 +21,12 @@ module _ (table summary board : List ℕ) (act p m : ℕ) {step : Answer} {t x :
   stepped : record_gave step t x ≡ lent_record table summary act p m
   stepped = entry_record table summary act p m entered
 
-  pub tell_refused : step.code ≢ 0 → {r : Told} → r ≡ alone_with step → Gives r board
+  pub tell_refused : step.code ≢ 0 → {told : Answer} → told ≡ answer_of 0 0 0 → Gives (record { answer = step; told = told }) board
   unfolding lent_tell
   tell_refused n e = rw (e, ← stepped, ne_eqb _ _ n)
 
-  pub tell_other : step.code ≡ 0 → act ≢ crit_act → {r : Told} → r ≡ alone_with step → Gives r board
+  pub tell_other : step.code ≡ 0 → act ≢ crit_act → {told : Answer} → told ≡ answer_of 0 0 0
+      → Gives (record { answer = step; told = told }) board
   unfolding lent_tell
   tell_other a n e = rw (e, ← stepped, a, ne_eqb _ _ n)
 

@@ -18,7 +18,6 @@ ghost use Rattle.layout.specs.Interface.{lent_gave, lent_fresh, lent_step, recor
 ghost use Rattle.deadline_layout.specs.Interface.{lent_fresh_with, lent_step_with, lent_to_deadlines, lent_to_arrivals};
 ghost use Rattle.recent.specs.Encodings.{board_gave, lent_set_up, lent_add, lent_show};
 ghost use Rattle.recent.specs.Tellings.{told_gave, lent_tell};
-ghost use Rattle.funnelfawn.specs.Telling.{alone_with};
 
 use accepted_log::read_accepted;
 use intervals::write_intervals;
@@ -27,7 +26,6 @@ use model::{Answer, Parameters};
 use report::report;
 use rules::actions::CRIT;
 use trace::ReadingTo;
-use values::answer_with;
 use values::limits::limits_in;
 
 // [9.15] [21.110] The layout of what is lent, as one number.
@@ -42,9 +40,9 @@ fn parameters_with(n: u64, b: u64, c: u64, a: &[u64]) -> Parameters
     ensures { result ≡ parameters_of n b c (limits_in a.now) }
 {
     Parameters {
-        n: n,
-        b: b,
-        c: c,
+        n,
+        b,
+        c,
         a: limits_in(a),
     }
 }
@@ -190,16 +188,6 @@ pub struct Told {
     pub told: Answer,
 }
 
-// [10.205] The board was told nothing.
-fn alone(answer: Answer) -> Told
-    ensures { result ≡ alone_with answer }
-{
-    Told {
-        answer: answer,
-        told: answer_with(0, 0, 0),
-    }
-}
-
 // [10.200] [10.205] [21.110] One act, in the lent table, counted in the lent summary; the lent board is told of an accepted crit, with
 // the wait that the recorded step hands on.
 pub fn funnelfawn_record_and_tell(
@@ -214,19 +202,16 @@ pub fn funnelfawn_record_and_tell(
         ≡ lent_tell table.old summary.old board.old action process time }
 {
     let entered = layout::record_entry(table, summary, action, process, time);
-    let wait = entered.wait;
     let answer = entered.answer;
-    if answer.code != 0 {
-        return alone(answer);
+    if answer.code != 0 || action != CRIT {
+        // the board is told nothing
+        return Told {
+            answer,
+            told: Answer::accepted(0, 0),
+        };
     }
-    if action != CRIT {
-        return alone(answer);
-    }
-    let told = recent::add(board, time, process, wait);
-    Told {
-        answer: answer,
-        told: told,
-    }
+    let told = recent::add(board, time, process, entered.wait);
+    Told { answer, told }
 }
 
 // The second engine

@@ -10,18 +10,20 @@ use lib.Dec.{eqb}
 use lib.ListN.{length, drop, length-append, length-drop}
 use lib.Seq.{drop-append_seam}
 use borrow.Author.Tests.{eqb-true, eqb-false}
-use Rattle.model.specs.declared.Row.{Row}
-use Rattle.model.specs.declared.Row.TheVariants.{Step, Unread}
+use Rattle.std.specs.Prelude.{None, Result, Ok, Err}
+use Rattle.model.specs.declared.Refusal.{Refusal}
+use Rattle.model.specs.declared.Refusal.TheVariants.{BadLine}
+use Rattle.model.specs.declared.Parsed.{Parsed}
+use Rattle.model.specs.declared.Fault.{Fault as Refused}
+use Rattle.model.specs.declared.Head.{Head}
 use Rattle.model.specs.declared.Parameters.{Parameters}
-use Rattle.model.specs.declared.Scan.{Scan}
 use Rattle.model.specs.States.{parameters_stand}
-use Rattle.model.specs.Texts.{Event, event, event_text, head_text, first_line, events_text, trace_text, has_form, text_limit}
-use Rattle.model.specs.Readings.{event_at, scan_of, scan_fails, head_of, Body, body_in, body_of, Trace, refused, trace, of_body, of_head, trace_of}
+use Rattle.model.specs.Texts.{Event, event_text, head_text, first_line, events_text, trace_text, has_form, text_limit}
+use Rattle.model.specs.Readings.{parsed, fault, event_at, head as head_gave, head_of, Body, body_in, body_of, Trace, refused, trace, of_body, of_head, trace_of}
 use Rattle.model.specs.Writings.{formless_from}
 use Rattle.grammar.specs.Exact.{Formed, FirstLines, Says, ReadExactly, WordForEachAct}
 use Rattle.grammar.specs.Faults.{NoStep, Fault, long, names, values, count, limit-names, limit, limits, steps, step, RefusedExactly, OneFault}
 use Rattle.model.proofs.Tests.{by_test, by_cond}
-use Rattle.grammar.proofs.Faults.{fault_some}
 use Rattle.grammar.proofs.Lines.{took_then, event_some, event_was, event_reads}
 use Rattle.grammar.proofs.Digits.{form_iff_digits}
 use Rattle.grammar.proofs.Bodies.{body_step, body_fault, body_end}
@@ -31,11 +33,9 @@ use Rattle.grammar.proofs.Heads.{fails_long, fails_names, fails_values, fails_co
 
 -- The steps
 
-no_step : (line : ℕ) (s : List ℕ) (code at : ℕ) → event_at line s ≡ Unread code at → NoStep s
-no_step line s code at u e f more q =
-    let read = sym u ∙ (ap (event_at line) q ∙ event_reads line e more ((form_iff_digits e).1 f)) in
-    let z : ◌≡◌ {A = ℕ} 0 1 = cc in
-    absurd (omega arith)
+no_step : (line : ℕ) (s : List ℕ) (r : Refused) → event_at line s ≡ Err r → NoStep s
+no_step line s r u e f more q =
+    let read = sym u ∙ (ap (event_at line) q ∙ event_reads line e more ((form_iff_digits e).1 f)) in cc
 
 -- the steps before a line that is none, which `rest` starts with
 record Stops (line : ℕ) (b : Body) (rest : List ℕ) : Type 0 where
@@ -47,7 +47,7 @@ record Stops (line : ℕ) (b : Body) (rest : List ℕ) : Type 0 where
 record BodyTells (s : List ℕ) (line : ℕ) (b : Body) : Type 0 where
   rest : List ℕ
   split : s ≡ events_text b.events ++ rest
-  forms : (n : ℕ) → formless_from n b.events ≡ 0
+  forms : (n : ℕ) → formless_from n b.events ≡ None
   ends : b.fault ≡ 0 → rest ≡ []
   stops : b.fault ≢ 0 → Stops line b rest
 
@@ -62,22 +62,21 @@ body_tells zero line (x ∷ s) p h = absurd (omega arith)
 body_tells (suc k) line [] p h = nothing_left line
 body_tells (suc k) line (x ∷ s) p h = go (event_at line (x ∷ s)) refl (λ i. body_tells k (line + 1) (drop i (x ∷ s)) (omega arith))
   where
-    go : (r : Row) → event_at line (x ∷ s) ≡ r
+    go : (r : Result (Parsed Event) Refused) → event_at line (x ∷ s) ≡ r
         → ((i : ℕ) → length (drop i (x ∷ s)) ≤ k → BodyTells (drop i (x ∷ s)) (line + 1) (body_in k (line + 1) (drop i (x ∷ s))))
         → BodyTells (x ∷ s) line (body_in (suc k) line (x ∷ s))
-    go (Unread code at) q later =
+    go (Err f) q later =
         rw (q, body_in)
         (record {
           rest = x ∷ s;
           split = refl;
           forms = λ _. refl;
           ends = λ (z : line ≡ 0). absurd (omega arith);
-          stops = λ _. record { named = omega arith; some = omega arith; none = no_step line (x ∷ s) code at q };
+          stops = λ _. record { named = omega arith; some = omega arith; none = no_step line (x ∷ s) f q };
         })
-    go (Step t p a i) q later =
-        let w = event_was line (x ∷ s) t p a i q in
-        let e : Event = event t p a in
-        let r = later i (omega (arith, length-drop i (x ∷ s), w.took.size, event_some e)) in
+    go (Ok l) q later =
+        let w = event_was line (x ∷ s) l q in
+        let r = later l.size (omega (arith, length-drop l.size (x ∷ s), w.took.size, event_some l.value)) in
         rw (q, body_in)
         (record {
           rest = r.rest;
@@ -87,37 +86,36 @@ body_tells (suc k) line (x ∷ s) p h = go (event_at line (x ∷ s)) refl (λ i.
           stops = λ n. let o = r.stops n in record { named = omega (arith, o.named); some = o.some; none = o.none };
         })
 
-pub first_formed : (line : ℕ) (e : Event) (es : List Event) → 0 < line → formless_from line (e ∷ es) ≡ 0
-    → (has_form e ≡ true) × (formless_from (line + 1) es ≡ 0)
+pub first_formed : (line : ℕ) (e : Event) (es : List Event) → formless_from line (e ∷ es) ≡ None
+    → (has_form e ≡ true) × (formless_from (line + 1) es ≡ None)
 unfolding formless_from
-first_formed line e es h f =
-    by_test (has_form e) (λ t. (t, simp t at f)) (λ t. let z : line ≡ 0 = simp t at f in absurd (omega arith))
+first_formed line e es f = by_test (has_form e) (λ t. (t, simp t at f)) (λ t. let z = simp t at f in cc)
 
 -- whatever the line of the first
-pub forms_anywhere : (line m : ℕ) (events : List Event) → 0 < line → formless_from line events ≡ 0 → formless_from m events ≡ 0
+pub forms_anywhere : (line m : ℕ) (events : List Event) → formless_from line events ≡ None → formless_from m events ≡ None
 unfolding formless_from
-forms_anywhere line m [] h f = refl
-forms_anywhere line m (e ∷ es) h f = let g = first_formed line e es h f in rw g.0 (forms_anywhere (line + 1) (m + 1) es (omega arith) g.1)
+forms_anywhere line m [] f = refl
+forms_anywhere line m (e ∷ es) f = let g = first_formed line e es f in rw g.0 (forms_anywhere (line + 1) (m + 1) es g.1)
 
 -- steps that have a form are read from what is written for them, and then what follows is
 abbrev after : List Event → Body → Body
 after es b = record { events = es ++ b.events; fault = b.fault }
 
-body_reads : (line : ℕ) (events : List Event) (rest : List ℕ) → 0 < line → formless_from line events ≡ 0
+body_reads : (line : ℕ) (events : List Event) (rest : List ℕ) → formless_from line events ≡ None
     → body_of line (events_text events ++ rest) ≡ after events (body_of (line + length events) rest)
 unfolding events_text
-body_reads line [] rest h f = let z : line + 0 ≡ line = omega arith in rw z
-body_reads line (e ∷ es) rest h f =
-    let g = first_formed line e es h f in
+body_reads line [] rest f = let z : line + 0 ≡ line = omega arith in rw z
+body_reads line (e ∷ es) rest f =
+    let g = first_formed line e es f in
     let s : List ℕ = event_text e ++ (events_text es ++ rest) in
     let some : 0 < length s = omega (arith, length-append (event_text e) (events_text es ++ rest), event_some e) in
     let q = event_reads line e (events_text es ++ rest) g.0 in
     let n : line + 1 + length es ≡ line + suc (length es) = omega arith in
     rw (
       append_assoc,
-      body_step line s some e.time e.process e.action (length (event_text e)) q,
+      body_step line s some (parsed e (length (event_text e))) q,
       drop-append_seam,
-      body_reads (line + 1) es rest (omega arith) g.1,
+      body_reads (line + 1) es rest g.1,
       n,
     )
 
@@ -126,29 +124,29 @@ body_reads line (e ∷ es) rest h f =
 trace_reads : {text : List ℕ} {line : ℕ} {k : Parameters} {events : List Event} → Says text line k events → trace_of text ≡ trace line k events
 trace_reads {text} {line} {k} {events} f =
     let head : List ℕ = f.head in
-    let h : head_of text ≡ scan_of line k (length head) =
+    let h : head_of text ≡ Ok (head_gave line k (length head)) =
     rw f.text_is (head_reads f.shape (events_text events) f.stand (rw f.text_is at f.short)) in
     let body : body_of line (drop (length head) text) ≡ record { events = events; fault = 0 } =
     rw (f.text_is, drop-append_seam, ← append-nil (events_text events))
-    (body_reads line events [] (first-line f.shape f.stand).0 f.forms ∙ rw (body_end (line + length events), append-nil)) in
-    trace_events text (scan_of line k (length head)) h refl (ap (λ (b : Body). b.fault) body) ∙ rw body
+    (body_reads line events [] f.forms ∙ rw (body_end (line + length events), append-nil)) in
+    trace_events text (head_gave line k (length head)) h (ap (λ (b : Body). b.fault) body) ∙ rw body
 
 -- a line that is no step ends the steps
 body_stops : (line : ℕ) (rest : List ℕ) → 0 < length rest → NoStep rest → body_of line rest ≡ record { events = []; fault = line }
 body_stops line rest some none = go (event_at line rest) refl
   where
-    go : (r : Row) → event_at line rest ≡ r → body_of line rest ≡ record { events = []; fault = line }
-    go (Unread code at) q = body_fault line rest some code at q
-    go (Step t p a i) q =
-        let w = event_was line rest t p a i q in
-        absurd (none (event t p a) ((form_iff_digits (event t p a)).0 w.formed) (drop i rest) w.took.split)
+    go : (r : Result (Parsed Event) Refused) → event_at line rest ≡ r → body_of line rest ≡ record { events = []; fault = line }
+    go (Err f) q = body_fault line rest some f q
+    go (Ok l) q =
+        let w = event_was line rest l q in
+        absurd (none l.value ((form_iff_digits l.value).0 w.formed) (drop l.size rest) w.took.split)
 
 -- what a text tells: the trace that it says, or a fault
 abbrev pub TraceTells : List ℕ → Trace → Type 0
 TraceTells text (trace line k events) = Says text line k events
-TraceTells text (refused code line) = Fault text code line
+TraceTells text (refused why line) = Fault text why line
 
-module _ (text : List ℕ) (h : Scan) (told : HeadTook text h) (body : Body) (r : BodyTells (drop h.size text) h.line body) where
+module _ (text : List ℕ) (h : Head) (told : HeadTook text h) (body : Body) (r : BodyTells (drop h.size text) h.line body) where
   split : text ≡ told.head ++ (events_text body.events ++ r.rest)
   split = told.took.split ∙ ap (λ (l : List ℕ). told.head ++ l) r.split
 
@@ -164,7 +162,7 @@ module _ (text : List ℕ) (h : Scan) (told : HeadTook text h) (body : Body) (r 
   }
 
   -- or to a line that is none
-  faulty : body.fault ≢ 0 → Fault text 14 body.fault
+  faulty : body.fault ≢ 0 → Fault text BadLine body.fault
   faulty n =
       let o = r.stops n in
       rw o.named
@@ -174,15 +172,12 @@ module _ (text : List ℕ) (h : Scan) (told : HeadTook text h) (body : Body) (r 
   body_then : TraceTells text (of_body h.line h.parameters body)
   body_then = by_cond (TraceTells text) (eqb body.fault 0) (λ t. says (eqb-true _ _ t)) (λ t. faulty (eqb-false _ _ t))
 
-head_then : (text : List ℕ) (h : Scan) → HeadTells text h → TraceTells text (of_head text h)
+head_then : (text : List ℕ) (r : Result Head Refused) → HeadTells text r → TraceTells text (of_head text r)
 unfolding body_of
-head_then text h t =
+head_then text (Err f) told = told
+head_then text (Ok h) told =
     let s = drop h.size text in
-    by_cond (TraceTells text) (eqb h.code 0)
-    (λ z.
-    let told = t.read (eqb-true h.code 0 z) in
-    body_then text h told (body_in (length s) h.line s) (body_tells (length s) h.line s (head_line told).0 (omega arith)))
-    (λ n. t.faulty (eqb-false h.code 0 n))
+    body_then text h told (body_in (length s) h.line s) (body_tells (length s) h.line s (head_line told).0 (omega arith))
 
 pub trace_tells : (text : List ℕ) → TraceTells text (trace_of text)
 unfolding trace_of
@@ -199,36 +194,36 @@ formed_says {k} f =
 
 -- A text with a fault is refused for it
 
-fails_first : {text : List ℕ} {code line : ℕ} → Fault text code line → head_of text ≡ scan_fails code line → trace_of text ≡ refused code line
-fails_first {text} {code} {line} f e = trace_refused text (scan_fails code line) e (λ z. omega (arith, fault_some f))
+fails_first : (text : List ℕ) {why : Refusal} {line : ℕ} → head_of text ≡ Err (fault why line) → trace_of text ≡ refused why line
+fails_first text {why} {line} e = trace_refused text (fault why line) e
 
 fails_step : {text : List ℕ} {k : Parameters} {head : List ℕ} {line : ℕ} (events : List Event) (rest : List ℕ) → FirstLines k head line
     → length text ≤ text_limit → text ≡ head ++ (events_text events ++ rest) → parameters_stand k ≡ true
-    → formless_from line events ≡ 0 → 0 < length rest → NoStep rest
-    → trace_of text ≡ refused 14 (line + length events)
+    → formless_from line events ≡ None → 0 < length rest → NoStep rest
+    → trace_of text ≡ refused BadLine (line + length events)
 fails_step {text} {k} {head} {line} events rest shape short is stand forms some none =
     let first = first-line shape stand in
-    let h : head_of text ≡ scan_of line k (length head) = rw is (head_reads shape (events_text events ++ rest) stand (rw is at short)) in
+    let h : head_of text ≡ Ok (head_gave line k (length head)) = rw is (head_reads shape (events_text events ++ rest) stand (rw is at short)) in
     let fault : (body_of line (drop (length head) text)).fault ≡ line + length events =
-    rw (is, drop-append_seam, body_reads line events rest first.0 forms, body_stops (line + length events) rest some none) in
-    trace_fault text (scan_of line k (length head)) h refl (λ z. omega (arith, fault)) ∙ rw fault
+    rw (is, drop-append_seam, body_reads line events rest forms, body_stops (line + length events) rest some none) in
+    trace_fault text (head_gave line k (length head)) h (λ z. omega (arith, fault, first.0)) ∙ rw fault
 
-pub refused_when : {text : List ℕ} {code line : ℕ} → Fault text code line → trace_of text ≡ refused code line
-refused_when {text} (long h) = fails_first (long h) (fails_long text h)
-refused_when {text} (names h d f) = fails_first (names h d f) (fails_names text h d f)
-refused_when (values first rest more w h e d) = fails_first (values first rest more w h e d) (fails_values w rest h e d)
-refused_when (count first n others rest w s c) = fails_first (count first n others rest w s c) (fails_count w refl s c)
-refused_when (limit-names n b c rest s e d) = fails_first (limit-names n b c rest s e d) (fails_limit_names s e d)
-refused_when (limit n b c a rest s e f l d) = fails_first (limit n b c a rest s e f l d) (fails_limit a rest s e f l d)
-refused_when (limits k first rest line w h e c l) = fails_first (limits k first rest line w h e c l) (fails_limits h w rest e c l)
-refused_when (steps k first rest line w h e st d) = fails_first (steps k first rest line w h e st d) (fails_steps h w rest e st d)
+pub refused_when : {text : List ℕ} {why : Refusal} {line : ℕ} → Fault text why line → trace_of text ≡ refused why line
+refused_when {text} (long h) = fails_first text (fails_long text h)
+refused_when {text} (names h d f) = fails_first text (fails_names text h d f)
+refused_when {text} (values first rest more w h e d) = fails_first text (fails_values w rest h e d)
+refused_when {text} (count first n others rest w s c) = fails_first text (fails_count w refl s c)
+refused_when {text} (limit-names n b c rest s e d) = fails_first text (fails_limit_names s e d)
+refused_when {text} (limit n b c a rest s e f l d) = fails_first text (fails_limit a rest s e f l d)
+refused_when {text} (limits k first rest line w h e c l) = fails_first text (fails_limits h w rest e c l)
+refused_when {text} (steps k first rest line w h e st d) = fails_first text (fails_steps h w rest e st d)
 refused_when (step k head line events rest w h e st f some none) = fails_step events rest w h e st f some none
 
 pub refused_exactly : RefusedExactly
-refused_exactly text code line = (λ e. rw e at (trace_tells text), refused_when)
+refused_exactly text why line = (λ e. rw e at (trace_tells text), refused_when)
 
 pub one_fault : OneFault
-one_fault text code line code' line' f g = let p = refused_when f in let q = refused_when g in (cc, cc)
+one_fault text why line why' line' f g = let p = refused_when f in let q = refused_when g in (cc, cc)
 
 pub word_for_each_act : WordForEachAct
 word_for_each_act = refl

@@ -5,13 +5,15 @@ use mathlib.Core.Bool.{false}
 use mathlib.Core.List.{List}
 use native.Mathlib.Omega.{arith}
 use lib.ListN.{length, drop}
+use Rattle.model.specs.declared.Refusal.{Refusal}
+use Rattle.model.specs.Refusals.{code_of}
 use Rattle.model.specs.Readings.{starts_with}
 use Rattle.model.proofs.Tests.{by_test, clash}
 use Rattle.grammar.specs.Faults.{Differs, Fault, long, names, values, count, limit-names, limit, limits, steps, step}
 use Rattle.grammar.proofs.Fields.{starts_here, starts_took}
 
 -- a refusal has a number that is not 0
-pub fault_some : {text : List ℕ} {code line : ℕ} → Fault text code line → (0 < code) × (code < 16)
+pub fault_some : {text : List ℕ} {why : Refusal} {line : ℕ} → Fault text why line → (0 < code_of why) × (code_of why < 16)
 fault_some (long h) = omega arith
 fault_some (names h d f) = omega arith
 fault_some (values first rest more w h e d) = omega arith

@@ -10,10 +10,10 @@ use lib.Dec.{leb, ltb, eqb}
 use lib.ListN.{length, get_or, drop, length-append}
 use lib.Seq.{drop_at, drop-append_seam, append_snoc}
 use borrow.Author.Tests.{lt-leb, eq-eqb, ne_eqb, eqb-true, leb-false}
-use Rattle.model.specs.declared.Field.{Field}
-use Rattle.model.specs.declared.Field.TheVariants.{Value, Bad}
+use Rattle.std.specs.Prelude.{Option, Some, None}
+use Rattle.model.specs.declared.Parsed.{Parsed}
 use Rattle.model.specs.Texts.{decimal, number_text, newline, words, word_text}
-use Rattle.model.specs.Readings.{starts_with, number_from, number_at, word_from, word_at}
+use Rattle.model.specs.Readings.{parsed, starts_with, number_from, number_at, word_from, word_at}
 use Rattle.model.proofs.Tests.{by_cond, if_lt, if_eq, tests}
 use Rattle.grammar.proofs.Tables.{every, every_at}
 use Rattle.grammar.proofs.Digits.{decimal_small, decimal_more, decimal_next, some_digit}
@@ -32,6 +32,11 @@ pub took : (text s : List ℕ) (k : ℕ) → k ≡ length text → Took (text ++
 took text s k e = record { split = ap (λ (l : List ℕ). text ++ l) (sym (drop_at text s k (sym e))); size = e }
 
 -- A number that is written is read
+
+-- the value of a field, 0 where there is none
+abbrev value_of : Option (Parsed ℕ) → ℕ
+value_of (Some field) = field.value
+value_of None = 0
 
 module _ (bound end : ℕ) (small : end < 48) where
   digit_taken : (v k d : ℕ) (s : List ℕ) → d < 10 → (0 < k → 0 < v) → v * 10 + d < bound
@@ -61,7 +66,7 @@ module _ (bound end : ℕ) (small : end < 48) where
       ∙ (digit_taken (v / 10) k (v % 10) s (omega arith) (λ (g : 0 < k). omega arith) (omega arith) ∙ rw q)))
 
   pub number_reads : (v : ℕ) (s : List ℕ) → v < bound
-      → number_at bound end (number_text end v ++ s) ≡ Value v (length (number_text end v))
+      → number_at bound end (number_text end v ++ s) ≡ Some (parsed v (length (number_text end v)))
   unfolding number_text number_from
   number_reads v s l =
       let some : eqb (length (decimal v)) 0 ≡ false = ne_eqb _ _ (λ (z : length (decimal v) ≡ 0). omega (arith, some_digit v)) in
@@ -77,12 +82,12 @@ module _ (end : ℕ) (small : end < 48) where
       let bound : ℕ = suc (v + w) in
       let read =
       sym (number_reads bound end small v s (omega arith)) ∙ (ap (number_at bound end) e ∙ number_reads bound end small w t (omega arith)) in
-      let same : v ≡ w = cc in
+      let same : v ≡ w = ap value_of read in
       let text : List ℕ = number_text end w in
       (same, sym (drop-append_seam text s) ∙ (ap (drop (length text)) (rw same at e) ∙ drop-append_seam text t))
 
   -- and with none where none is read
-  pub number_none : (v : ℕ) (s t : List ℕ) → ((bound : ℕ) → number_at bound end t ≡ Bad) → number_text end v ++ s ≢ t
+  pub number_none : (v : ℕ) (s t : List ℕ) → ((bound : ℕ) → number_at bound end t ≡ None) → number_text end v ++ s ≢ t
   number_none v s t none e =
       let read = sym (number_reads (suc v) end small v s (omega arith)) ∙ (ap (number_at (suc v) end) e ∙ none (suc v)) in
       let z : ◌≡◌ {A = ℕ} 0 1 = cc in
@@ -118,9 +123,9 @@ module _ (bound end : ℕ) where
       rw (d.some g, ← append_snoc (decimal v) end s) (took text s (k + 1) size)
 
   -- what a field tells of the text that it was read from
-  abbrev NumberTells : List ℕ → Field → Type 0
-  NumberTells s (Value v k) = Took s (number_text end v) k × (v < bound)
-  NumberTells s Bad = Unit
+  abbrev NumberTells : List ℕ → Option (Parsed ℕ) → Type 0
+  NumberTells s (Some field) = Took s (number_text end field.value) field.size × (field.value < bound)
+  NumberTells s None = Unit
 
   number_tells : (s p : List ℕ) (v k : ℕ) → Digits p v k → v < bound → NumberTells (p ++ s) (number_from bound end v k s)
   unfolding number_from
@@ -142,7 +147,7 @@ module _ (bound end : ℕ) where
       (number_tells s (p ++ (x ∷ [])) (v * 10 + (x - 48)) (k + 1)
       (rw q at (more_digits p v k (x - 48) d (omega arith) pos)) (leb-false _ _ m))))))
 
-  pub number_was : (s : List ℕ) (v k : ℕ) → 0 < bound → number_at bound end s ≡ Value v k
+  pub number_was : (s : List ℕ) (v k : ℕ) → 0 < bound → number_at bound end s ≡ Some (parsed v k)
       → Took s (number_text end v) k × (v < bound)
   number_was s v k h e =
       rw e at
@@ -177,14 +182,14 @@ record Worded (base : ℕ) (ws : List (List ℕ)) (s : List ℕ) (a k : ℕ) : T
   below : place < length ws
   took : Took s (filled (get_or ws place [])) k
 
-abbrev WordTells : ℕ → List (List ℕ) → List ℕ → Field → Type 0
-WordTells base ws s (Value a k) = Worded base ws s a k
-WordTells base ws s Bad = Unit
+abbrev WordTells : ℕ → List (List ℕ) → List ℕ → Option (Parsed ℕ) → Type 0
+WordTells base ws s (Some field) = Worded base ws s field.value field.size
+WordTells base ws s None = Unit
 
-later : (base : ℕ) (w : List ℕ) (ws : List (List ℕ)) (s : List ℕ) (f : Field) → WordTells (base + 1) ws s f
+later : (base : ℕ) (w : List ℕ) (ws : List (List ℕ)) (s : List ℕ) (f : Option (Parsed ℕ)) → WordTells (base + 1) ws s f
     → WordTells base (w ∷ ws) s f
-later base w ws s Bad r = tt
-later base w ws s (Value a k) r =
+later base w ws s None r = tt
+later base w ws s (Some field) r =
     record { place = suc r.place; named = omega (arith, r.named); below = omega (arith, r.below); took = r.took }
 
 word_tells : (base : ℕ) (ws : List (List ℕ)) (s : List ℕ) → WordTells base ws s (word_from base ws s)
@@ -199,7 +204,7 @@ word_tells base (w ∷ ws) s =
     (λ _. later base w ws s (word_from (base + 1) ws s) (word_tells (base + 1) ws s))
 
 -- a word that is read was written
-pub word_was : (s : List ℕ) (a k : ℕ) → word_at s ≡ Value a k → Took s (word_text a) k × (a < length words)
+pub word_was : (s : List ℕ) (a k : ℕ) → word_at s ≡ Some (parsed a k) → Took s (word_text a) k × (a < length words)
 unfolding word_text
 word_was s a k e =
     let r = rw e at (word_tells 0 words s) in
@@ -233,7 +238,7 @@ words_told i j h g =
 word_first : (base : ℕ) (ws : List (List ℕ)) (s : List ℕ) (a : ℕ) → a < length ws
     → ((i : ℕ) → i < a → starts_with (filled (get_or ws i [])) s ≡ false)
     → starts_with (filled (get_or ws a [])) s ≡ true
-    → word_from base ws s ≡ Value (base + a) (length (get_or ws a []) + 1)
+    → word_from base ws s ≡ Some (parsed (base + a) (length (get_or ws a []) + 1))
 unfolding word_from
 word_first base [] s a h before e = absurd (omega arith)
 word_first base (w ∷ ws) s zero h before e = rw e (rw add-zero)
@@ -242,7 +247,7 @@ word_first base (w ∷ ws) s (suc a) h before e =
     rw (before 0 (omega arith), ← q) (word_first (base + 1) ws s a (omega arith) (λ i g. before (suc i) (omega arith)) e)
 
 -- a word that is written is read
-pub word_reads : (a : ℕ) (s : List ℕ) → a < length words → word_at (word_text a ++ s) ≡ Value a (length (word_text a))
+pub word_reads : (a : ℕ) (s : List ℕ) → a < length words → word_at (word_text a ++ s) ≡ Some (parsed a (length (word_text a)))
 unfolding word_text
 word_reads a s h =
     let line : List ℕ = filled (get_or words a []) in

@@ -4,6 +4,7 @@ use mathlib.Core.Path.{◌≡◌, ap, ◌∙◌}
 use mathlib.Core.List.{List, [], ◌∷◌}
 use native.Mathlib.Omega.{arith}
 use lib.ListN.{length, length-append}
+use Rattle.std.specs.Prelude.{None}
 use Rattle.model.specs.declared.Parameters.{Parameters}
 use Rattle.model.specs.Texts.{Event, event_text, events_text, text_limit}
 use Rattle.model.specs.Readings.{trace, trace_of}
@@ -13,17 +14,17 @@ use Rattle.grammar.proofs.Lines.{event_eight}
 use Rattle.grammar.proofs.Shapes.{first_long, first-line}
 use Rattle.grammar.proofs.Exact.{first_formed, read_exactly}
 
-events_long : (line : ℕ) (events : List Event) → 0 < line → formless_from line events ≡ 0
+events_long : (line : ℕ) (events : List Event) → formless_from line events ≡ None
     → length events * 8 ≤ length (events_text events)
 unfolding events_text
-events_long line [] h f = omega arith
-events_long line (e ∷ es) h f =
-    let g = first_formed line e es h f in
+events_long line [] f = omega arith
+events_long line (e ∷ es) f =
+    let g = first_formed line e es f in
     omega (
       arith,
       length-append (event_text e) (events_text es),
       event_eight e g.0,
-      events_long (line + 1) es (omega arith) g.1,
+      events_long (line + 1) es g.1,
     )
 
 -- what the first lines of either shape leave for the steps, and the line of the first of them
@@ -42,4 +43,4 @@ module _ {text : List ℕ} {line : ℕ} {k : Parameters} {events : List Event} (
 pub events_fit : (text : List ℕ) (line : ℕ) (k : Parameters) (events : List Event) → trace_of text ≡ trace line k events → length events ≤ 8187
 events_fit text line k events e =
     let s = (read_exactly text line k events).0 e in
-    omega (arith, s.short, says_long s, events_long line events (says_line s).0 s.forms)
+    omega (arith, s.short, says_long s, events_long line events s.forms)

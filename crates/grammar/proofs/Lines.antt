@@ -2,7 +2,7 @@
 -- step. Assumes nothing.
 use Prim.Native.Nat.{ℕ, zero, suc, ◌+◌, ◌*◌, ◌≤◌, ◌<◌}
 use mathlib.Core.Path.{◌≡◌, refl, ap, ◌∙◌}
-use mathlib.Core.Logic.{◌≢◌, ◌↔◌}
+use mathlib.Core.Logic.{◌↔◌}
 use mathlib.Core.Bool.{true}
 use mathlib.Core.List.{List, [], ◌∷◌, ◌++◌, append_assoc}
 use native.Mathlib.Omega.{arith}
@@ -12,14 +12,13 @@ use lib.ListN.{length, get_or, drop, set, replicate, length-append, length-set}
 use lib.Seq.{drop-append_seam, drop-drop, get_or-set_same, get_or-set_other, sets}
 use borrow.Author.Tests.{leb-true}
 use lib.Dec.{leb}
-use Rattle.model.specs.declared.Field.{Field}
-use Rattle.model.specs.declared.Field.TheVariants.{Value, Bad}
-use Rattle.model.specs.declared.Row.{Row}
-use Rattle.model.specs.declared.Row.TheVariants.{Step, Unread}
-use Rattle.model.specs.declared.Line.{Line}
+use Rattle.std.specs.Prelude.{Option, Some, None, Result, Ok, Err}
+use Rattle.model.specs.declared.Refusal.TheVariants.{BadLine}
+use Rattle.model.specs.declared.Parsed.{Parsed}
+use Rattle.model.specs.declared.Fault.{Fault}
 use Rattle.model.specs.Texts.{comma, newline, time_bound, number_bound, decimal, number_text, words, word_text}
-use Rattle.model.specs.Texts.{Event, event, numbers_text, event_text, has_form}
-use Rattle.model.specs.Readings.{number_at, word_at, opened, event_at, line_of, line_fails, numbers_from, numbers_at}
+use Rattle.model.specs.Texts.{Event, numbers_text, event_text, has_form}
+use Rattle.model.specs.Readings.{parsed, fault, number_at, word_at, opened, event_at, numbers_from, numbers_at}
 use Rattle.model.proofs.Tests.{tests}
 use Rattle.grammar.specs.Digits.{digits_of, Few}
 use Rattle.grammar.proofs.Tables.{every_at}
@@ -64,10 +63,10 @@ event_eight e h =
 -- Fields one after the other
 
 -- what holds whichever way a field goes holds of what it is opened to
-pub by_opened : {A : Type 0} (P : A → Type 0) {refusal : A} {next : ℕ → ℕ → A} (f : Field)
-    → P refusal → ((v k : ℕ) → f ≡ Value v k → P (next v k)) → P (opened f refusal next)
-by_opened P Bad bad value = bad
-by_opened P (Value v k) bad value = value v k refl
+pub by_opened : {A : Type 0} (P : A → Type 0) {refusal : A} {next : ℕ → ℕ → A} (f : Option (Parsed ℕ))
+    → P refusal → ((v k : ℕ) → f ≡ Some (parsed v k) → P (next v k)) → P (opened f refusal next)
+by_opened P None bad value = bad
+by_opened P (Some field) bad value = value field.value field.size refl
 
 pub took_both : {s x y : List ℕ} {i j : ℕ} → Took s x i → Took (drop i s) y j → Took s (x ++ y) (i + j)
 took_both {s} {x} {y} {i} {j} f g =
@@ -96,25 +95,44 @@ numbers_many zero i l = refl
 numbers_many (suc many) i l = ap suc (numbers_many many (i + 1) l)
 
 -- l was read from s: `more` numbers and one before them stand in its first places
-pub record LineTook (s : List ℕ) (more : ℕ) (l : Line) : Type 0 where
-  pub took : Took s (numbers_text (get_or l.numbers 0 0) (numbers_in more 1 l.numbers)) l.size
-  pub digits : Few (numbers_in (suc more) 0 l.numbers)
+pub record LineTook (s : List ℕ) (more : ℕ) (l : Parsed (List ℕ)) : Type 0 where
+  pub took : Took s (numbers_text (get_or l.value 0 0) (numbers_in more 1 l.value)) l.size
+  pub digits : Few (numbers_in (suc more) 0 l.value)
 
 -- the same from place i on, after `at` bytes; the places before i are those of `got`
-record TookFrom (s : List ℕ) (more i at : ℕ) (got : List ℕ) (l : Line) : Type 0 where
+record TookFrom (s : List ℕ) (more i at : ℕ) (got : List ℕ) (l : Parsed (List ℕ)) : Type 0 where
   bytes : ℕ
   sized : l.size ≡ at + bytes
-  took : Took s (numbers_text (get_or l.numbers i 0) (numbers_in more (i + 1) l.numbers)) bytes
-  digits : Few (numbers_in (suc more) i l.numbers)
-  kept : (j : ℕ) → j < i → get_or l.numbers j 0 ≡ get_or got j 0
+  took : Took s (numbers_text (get_or l.value i 0) (numbers_in more (i + 1) l.value)) bytes
+  digits : Few (numbers_in (suc more) i l.value)
+  kept : (j : ℕ) → j < i → get_or l.value j 0 ≡ get_or got j 0
 
-abbrev TellsFrom : List ℕ → ℕ → ℕ → ℕ → List ℕ → Line → Type 0
-TellsFrom s more i at got l = l.code ≡ 0 → TookFrom s more i at got l
+-- what a line tells of the text that it was read from: it was written so, or it is refused
+abbrev TellsFrom : ℕ → List ℕ → ℕ → ℕ → ℕ → List ℕ → Result (Parsed (List ℕ)) Fault → Type 0
+TellsFrom line s more i at got (Ok l) = TookFrom s more i at got l
+TellsFrom line s more i at got (Err f) = f ≡ fault BadLine line
 
-from_was : (line more i at : ℕ) (got s : List ℕ) → i + more < length got → TellsFrom s more i at got (numbers_from line more i at got s)
+-- with a number before it
+one_more : (line more i at : ℕ) (got s : List ℕ) (v k : ℕ) → i < length got → Took s (number_text comma v) k → digits_of v ≤ 8
+    → (r : Result (Parsed (List ℕ)) Fault) → TellsFrom line (drop k s) more (i + 1) (at + k) (set got i v) r
+    → TellsFrom line s (suc more) i at got r
+unfolding numbers_text
+one_more line more i at got s v k h w few (Err f) r = r
+one_more line more i at got s v k h w few (Ok l) r =
+    let here : get_or l.value i 0 ≡ v = r.kept i (omega arith) ∙ get_or-set_same got i v 0 h in
+    record {
+      bytes = k + r.bytes;
+      sized = omega (arith, r.sized);
+      took = rw here (took_both w r.took);
+      digits = rw here (few, r.digits);
+      kept = λ j g. r.kept j (omega arith) ∙ get_or-set_other got i j v 0 (λ (q : j ≡ i). omega arith);
+    }
+
+from_was : (line more i at : ℕ) (got s : List ℕ) → i + more < length got
+    → TellsFrom line s more i at got (numbers_from line more i at got s)
 unfolding numbers_from numbers_text
 from_was line zero i at got s h =
-    by_opened (TellsFrom s zero i at got) (number_at number_bound newline s) (λ z. absurd (omega arith)) (λ v k e _.
+    by_opened (TellsFrom line s zero i at got) (number_at number_bound newline s) refl (λ v k e.
     let w = number_was number_bound newline s v k (omega arith) e in
     let here : get_or (set got i v) i 0 ≡ v = get_or-set_same got i v 0 (omega arith) in
     record {
@@ -125,42 +143,25 @@ from_was line zero i at got s h =
       kept = λ j g. get_or-set_other got i j v 0 (λ (q : j ≡ i). omega arith);
     })
 from_was line (suc more) i at got s h =
-    by_opened (TellsFrom s (suc more) i at got) (number_at number_bound comma s) (λ z. absurd (omega arith)) (λ v k e z.
+    by_opened (TellsFrom line s (suc more) i at got) (number_at number_bound comma s) refl (λ v k e.
     let w = number_was number_bound comma s v k (omega arith) e in
-    let r = from_was line more (i + 1) (at + k) (set got i v) (drop k s) (omega (arith, length-set got i v)) z in
-    let l : Line = numbers_from line more (i + 1) (at + k) (set got i v) (drop k s) in
-    let here : get_or l.numbers i 0 ≡ v = r.kept i (omega arith) ∙ get_or-set_same got i v 0 (omega arith) in
-    record {
-      bytes = k + r.bytes;
-      sized = omega (arith, r.sized);
-      took = rw here (took_both w.0 r.took);
-      digits = rw here ((few v).0 w.1, r.digits);
-      kept = λ j g. r.kept j (omega arith) ∙ get_or-set_other got i j v 0 (λ (q : j ≡ i). omega arith);
-    })
+    one_more line more i at got s v k (omega arith) w.0 ((few v).0 w.1) (numbers_from line more (i + 1) (at + k) (set got i v) (drop k s))
+    (from_was line more (i + 1) (at + k) (set got i v) (drop k s) (omega (arith, length-set got i v))))
 
--- a line that is read was written, where there is a place for each number
-pub numbers_was : (line more : ℕ) (s : List ℕ) (l : Line) → more < 4 → numbers_at line more s ≡ l → l.code ≡ 0 → LineTook s more l
-numbers_was line more s l h e z =
-    let r = rw e at (from_was line more 0 0 (replicate 4 0) s (omega arith)) z in
-    let sized : l.size ≡ r.bytes = omega (arith, r.sized) in
-    record { took = rw sized r.took; digits = r.digits }
+module _ (line more : ℕ) (s : List ℕ) (h : more < 4) where
+  -- a line that is read was written, where there is a place for each number
+  pub numbers_was : (l : Parsed (List ℕ)) → numbers_at line more s ≡ Ok l → LineTook s more l
+  numbers_was l e =
+      let r = rw e at (from_was line more 0 0 (replicate 4 0) s (omega arith)) in
+      let sized : l.size ≡ r.bytes = omega (arith, r.sized) in
+      record { took = rw sized r.took; digits = r.digits }
 
--- any other is refused
-abbrev FailsAt : ℕ → Line → Type 0
-FailsAt line l = l.code ≢ 0 → l ≡ line_fails line
-
-from_fails : (line more i at : ℕ) (got s : List ℕ) → FailsAt line (numbers_from line more i at got s)
-unfolding numbers_from
-from_fails line zero i at got s =
-    by_opened (FailsAt line) (number_at number_bound newline s) (λ _. refl) (λ v k e n. absurd (n refl))
-from_fails line (suc more) i at got s =
-    by_opened (FailsAt line) (number_at number_bound comma s) (λ _. refl) (λ v k _. from_fails line more (i + 1) (at + k) (set got i v) (drop k s))
-
-pub numbers_fail : (line more : ℕ) (s : List ℕ) (l : Line) → numbers_at line more s ≡ l → l.code ≢ 0 → l ≡ line_fails line
-numbers_fail line more s l e = rw e at (from_fails line more 0 0 (replicate 4 0) s)
+  -- any other is refused
+  pub numbers_fail : (f : Fault) → numbers_at line more s ≡ Err f → f ≡ fault BadLine line
+  numbers_fail f e = rw e at (from_was line more 0 0 (replicate 4 0) s (omega arith))
 
 from_reads : (line v : ℕ) (ws : List ℕ) (i at : ℕ) (got s : List ℕ) → Few (v ∷ ws)
-    → numbers_from line (length ws) i at got (numbers_text v ws ++ s) ≡ line_of line (sets got i (v ∷ ws)) (at + length (numbers_text v ws))
+    → numbers_from line (length ws) i at got (numbers_text v ws ++ s) ≡ Ok (parsed (sets got i (v ∷ ws)) (at + length (numbers_text v ws)))
 unfolding numbers_from numbers_text
 from_reads line v [] i at got s h = rw (number_reads number_bound newline (omega arith) v s ((few v).1 h.0))
 from_reads line v (w ∷ ws) i at got s h =
@@ -172,7 +173,7 @@ from_reads line v (w ∷ ws) i at got s h =
 
 -- a line that is written is read: its numbers in the first places, and zeros after them
 pub numbers_reads : (line v : ℕ) (ws s : List ℕ) → Few (v ∷ ws)
-    → numbers_at line (length ws) (numbers_text v ws ++ s) ≡ line_of line (sets (replicate 4 0) 0 (v ∷ ws)) (length (numbers_text v ws))
+    → numbers_at line (length ws) (numbers_text v ws ++ s) ≡ Ok (parsed (sets (replicate 4 0) 0 (v ∷ ws)) (length (numbers_text v ws)))
 numbers_reads line v ws s h = rw zero-add at (from_reads line v ws 0 0 (replicate 4 0) s h)
 
 -- A step
@@ -182,9 +183,9 @@ pub record EventTook (s : List ℕ) (e : Event) (k : ℕ) : Type 0 where
   pub formed : has_form e ≡ true
 
 -- what a row tells of the text that it was read from
-abbrev RowTells : List ℕ → Row → Type 0
-RowTells s (Step t p a k) = EventTook s (event t p a) k
-RowTells s (Unread code line) = Unit
+abbrev RowTells : List ℕ → Result (Parsed Event) Fault → Type 0
+RowTells s (Ok step) = EventTook s step.value step.size
+RowTells s (Err f) = Unit
 
 row_tells : (line : ℕ) (s : List ℕ) → RowTells s (event_at line s)
 unfolding event_at event_text
@@ -201,12 +202,12 @@ row_tells line s =
     })))
 
 -- a step that is read was written
-pub event_was : (line : ℕ) (s : List ℕ) (t p a k : ℕ) → event_at line s ≡ Step t p a k → EventTook s (event t p a) k
-event_was line s t p a k e = rw e at (row_tells line s)
+pub event_was : (line : ℕ) (s : List ℕ) (step : Parsed Event) → event_at line s ≡ Ok step → EventTook s step.value step.size
+event_was line s step e = rw e at (row_tells line s)
 
 -- a step that is written is read
 pub event_reads : (line : ℕ) (e : Event) (s : List ℕ) → has_form e ≡ true
-    → event_at line (event_text e ++ s) ≡ Step e.time e.process e.action (length (event_text e))
+    → event_at line (event_text e ++ s) ≡ Ok (parsed e (length (event_text e)))
 unfolding event_at event_text
 event_reads line e s h =
     let f = simp tests at h in

@@ -2,8 +2,6 @@
 -- those lines. Assumes nothing.
 use Prim.Native.Nat.{ℕ, zero, suc, ◌+◌, ◌-◌, ◌*◌, ◌≤◌, ◌<◌}
 use mathlib.Core.Path.{◌≡◌, refl, sym, ap, ◌∙◌}
-use mathlib.Core.Logic.{◌≢◌}
-use mathlib.Core.Bool.{not, ◌&&◌}
 use mathlib.Core.List.{List, [], ◌∷◌, ◌++◌, append_assoc}
 use native.Mathlib.Omega.{arith}
 use native.Mathlib.Nat.{add-zero, zero-add, suc-add, zero-sub, sub-zero, suc-sub-suc}
@@ -11,13 +9,15 @@ use native.Mathlib.Numerals.{add-one}
 use lib.Dec.{eqb}
 use lib.ListN.{length, get_or, take, drop, set, replicate, length-append, length-drop, length-replicate, get_or-replicate, take-append-drop}
 use lib.Seq.{drop-append_seam, sets, sets-eq, take_all, take-append_seam, length-take-le, get_or-drop, ext_get_or}
-use borrow.Author.Tests.{eq-eqb, ne_eqb, eqb-true, eqb-false}
-use Rattle.model.specs.declared.Line.{Line}
-use Rattle.model.specs.declared.Limits.{Limits}
+use borrow.Author.Tests.{eq-eqb, eqb-true, eqb-false}
+use Rattle.std.specs.Prelude.{Result, Ok, Err}
+use Rattle.model.specs.declared.Refusal.TheVariants.{BadLine}
+use Rattle.model.specs.declared.Parsed.{Parsed}
+use Rattle.model.specs.declared.Fault.{Fault}
 use Rattle.model.specs.States.{limits_in}
 use Rattle.model.specs.Texts.{number_bound, numbers_text, limits_text}
-use Rattle.model.specs.Readings.{line_of, line_fails, numbers_at, limit_line, limits_of, limits_fail, limits_from}
-use Rattle.model.proofs.Tests.{by_cond, tests}
+use Rattle.model.specs.Readings.{parsed, fault, onward, line_fails, numbers_at, ordered, limit_line, limits_from}
+use Rattle.model.proofs.Tests.{by_cond}
 use Rattle.grammar.specs.Digits.{digits_of, Few}
 use Rattle.grammar.specs.Faults.{NoLimit}
 use Rattle.grammar.proofs.Fields.{Took}
@@ -25,132 +25,142 @@ use Rattle.grammar.proofs.Lines.{took_both, took_then, numbers_long, few, number
 
 -- The line of process i
 
-pub record LimitTook (s : List ℕ) (i : ℕ) (l : Line) : Type 0 where
-  pub took : Took s (numbers_text i (get_or l.numbers 1 0 ∷ [])) l.size
-  pub digits : digits_of (get_or l.numbers 1 0) ≤ 8
+pub record LimitTook (s : List ℕ) (i : ℕ) (l : Parsed (List ℕ)) : Type 0 where
+  pub took : Took s (numbers_text i (get_or l.value 1 0 ∷ [])) l.size
+  pub digits : digits_of (get_or l.value 1 0) ≤ 8
 
 -- what it tells of the text that it was read from: it was written so, or no such line was
-pub record LimitTells (s : List ℕ) (i : ℕ) (l : Line) : Type 0 where
-  pub read : l.code ≡ 0 → LimitTook s i l
-  pub fails : l.code ≢ 0 → (l ≡ line_fails (i + 3)) × NoLimit i s
+abbrev pub LimitTells : List ℕ → ℕ → Result (Parsed (List ℕ)) Fault → Type 0
+LimitTells s i (Ok l) = LimitTook s i l
+LimitTells s i (Err f) = (f ≡ fault BadLine (i + 3)) × NoLimit i s
 
 -- what is read where such a line is written
 module _ (i x : ℕ) (s : List ℕ) (small : i < number_bound) (h : digits_of x ≤ 8) where
-  line_reads : numbers_at (i + 3) 1 (numbers_text i (x ∷ []) ++ s) ≡ line_of (i + 3) (i ∷ x ∷ 0 ∷ 0 ∷ []) (length (numbers_text i (x ∷ [])))
+  line_reads : numbers_at (i + 3) 1 (numbers_text i (x ∷ []) ++ s) ≡ Ok (parsed (i ∷ x ∷ 0 ∷ 0 ∷ []) (length (numbers_text i (x ∷ []))))
   line_reads = numbers_reads (i + 3) i (x ∷ []) s ((few i).0 small, (h, tt))
 
-  limit_reads : limit_line i (numbers_text i (x ∷ []) ++ s) ≡ line_of (i + 3) (i ∷ x ∷ 0 ∷ 0 ∷ []) (length (numbers_text i (x ∷ [])))
+  limit_reads : limit_line i (numbers_text i (x ∷ []) ++ s) ≡ Ok (parsed (i ∷ x ∷ 0 ∷ 0 ∷ []) (length (numbers_text i (x ∷ []))))
   limit_reads = rw (line_reads, eq-eqb i i refl)
 
 pub limit_tells : (i : ℕ) (s : List ℕ) → i < number_bound → LimitTells s i (limit_line i s)
-limit_tells i s small =
-    let l = numbers_at (i + 3) 1 s in
-    by_cond (LimitTells s i) (eqb l.code 0 && not (eqb (get_or l.numbers 0 0) i))
-    (λ t.
-    let other = simp tests at t in
-    record {
-      read = λ z. absurd (omega arith);
-      fails = λ _. (refl, λ x h more e. other.1 (ap (λ (m : Line). get_or m.numbers 0 0) (ap (numbers_at (i + 3) 1) e ∙ line_reads i x more small h)));
-    })
-    (λ t.
-    let same = simp tests at t in
-    record {
-      read = λ z.
-          let w = numbers_was (i + 3) 1 s l (omega arith) refl z in
-          record { took = rw (same z) at w.took; digits = w.digits.1.0 };
-      fails = λ n. (
-        numbers_fail (i + 3) 1 s l refl n,
-        λ x h more e. n (ap (λ (m : Line). m.code) (ap (numbers_at (i + 3) 1) e ∙ line_reads i x more small h)),
-      );
-    })
+limit_tells i s small = go (numbers_at (i + 3) 1 s) refl
+  where
+    go : (r : Result (Parsed (List ℕ)) Fault) → numbers_at (i + 3) 1 s ≡ r → LimitTells s i (onward r (ordered i))
+    go (Err f) e = (
+      numbers_fail (i + 3) 1 s (omega arith) f e,
+      λ x h more q. let z = sym e ∙ (ap (numbers_at (i + 3) 1) q ∙ line_reads i x more small h) in cc,
+    )
+    go (Ok l) e =
+        by_cond (LimitTells s i) (eqb (get_or l.value 0 0) i)
+        (λ t.
+        let w = numbers_was (i + 3) 1 s (omega arith) l e in
+        record { took = rw (eqb-true _ _ t) at w.took; digits = w.digits.1.0 })
+        (λ t. (
+          refl,
+          λ x h more q.
+              let z = sym e ∙ (ap (numbers_at (i + 3) 1) q ∙ line_reads i x more small h) in
+              let same : l ≡ parsed (i ∷ x ∷ 0 ∷ 0 ∷ []) (length (numbers_text i (x ∷ []))) = cc in
+              absurd (eqb-false _ _ t (ap (λ (m : Parsed (List ℕ)). get_or m.value 0 0) same)),
+        ))
+
+-- where no such line was written, it is refused
+limit_none : (i : ℕ) (s : List ℕ) → i < number_bound → NoLimit i s → limit_line i s ≡ line_fails (i + 3)
+limit_none i s small none = go (limit_line i s) (limit_tells i s small)
+  where
+    go : (r : Result (Parsed (List ℕ)) Fault) → LimitTells s i r → r ≡ line_fails (i + 3)
+    go (Ok l) w = absurd (none _ w.digits _ w.took.split)
+    go (Err f) w = ap Err w.0
 
 -- The lines from that of process i on, whose value goes to place j
 
 -- as many lines were read
-pub record LimitsTook (s : List ℕ) (many i j at : ℕ) (got : List ℕ) (l : Limits) : Type 0 where
+pub record LimitsTook (s : List ℕ) (many i j at : ℕ) (got : List ℕ) (l : Parsed (List ℕ)) : Type 0 where
   pub values : List ℕ
   pub counted : length values ≡ many
   pub digits : Few values
   pub bytes : ℕ
   pub sized : l.size ≡ at + bytes
   pub took : Took s (limits_text i values) bytes
-  pub is : l.a ≡ sets got j values
+  pub is : l.value ≡ sets got j values
 
 -- lines were read up to one that is none of these
-pub record LimitsStop (s : List ℕ) (many i : ℕ) (l : Limits) : Type 0 where
+pub record LimitsStop (s : List ℕ) (many i : ℕ) (f : Fault) : Type 0 where
   pub values : List ℕ
   pub fewer : length values < many
   pub digits : Few values
   pub rest : List ℕ
   pub split : s ≡ limits_text i values ++ rest
   pub none : NoLimit (i + length values) rest
-  pub told : l ≡ limits_fail 14 (i + length values + 3)
+  pub told : f ≡ fault BadLine (i + length values + 3)
 
 -- what they tell of the text that they were read from
-pub record LimitsTell (s : List ℕ) (many i j at : ℕ) (got : List ℕ) (l : Limits) : Type 0 where
-  pub read : l.code ≡ 0 → LimitsTook s many i j at got l
-  pub fails : l.code ≢ 0 → LimitsStop s many i l
+abbrev pub LimitsTell : List ℕ → ℕ → ℕ → ℕ → ℕ → List ℕ → Result (Parsed (List ℕ)) Fault → Type 0
+LimitsTell s many i j at got (Ok l) = LimitsTook s many i j at got l
+LimitsTell s many i j at got (Err f) = LimitsStop s many i f
 
 -- one value more
 placed : (got : List ℕ) (i j x : ℕ) (values : List ℕ) → i - 1 ≡ j → sets (set got (i - 1) x) (j + 1) values ≡ sets got j (x ∷ values)
 placed got i j x values p = rw (p, add-one j)
 
+-- with a line before them
+line_before : (many i j at : ℕ) (got s : List ℕ) (l : Parsed (List ℕ)) → i - 1 ≡ j → LimitTook s i l → (r : Result (Parsed (List ℕ)) Fault)
+    → LimitsTell (drop l.size s) many (i + 1) (j + 1) (at + l.size) (set got (i - 1) (get_or l.value 1 0)) r
+    → LimitsTell s (suc many) i j at got r
+unfolding limits_text
+line_before many i j at got s l p w (Ok m) r = record {
+  values = get_or l.value 1 0 ∷ r.values;
+  counted = ap suc r.counted;
+  digits = (w.digits, r.digits);
+  bytes = l.size + r.bytes;
+  sized = omega (arith, r.sized);
+  took = took_both w.took r.took;
+  is = r.is ∙ placed got i j (get_or l.value 1 0) r.values p;
+}
+line_before many i j at got s l p w (Err f) r =
+    let more : i + 1 + length r.values ≡ i + suc (length r.values) = omega arith in
+    record {
+      values = get_or l.value 1 0 ∷ r.values;
+      fewer = omega (arith, r.fewer);
+      digits = (w.digits, r.digits);
+      rest = r.rest;
+      split = took_then w.took (limits_text (i + 1) r.values) r.rest r.split;
+      none = rw more at r.none;
+      told = rw more at r.told;
+    }
+
 pub limits_tell : (many i j at : ℕ) (got s : List ℕ) → j + 1 ≡ i → i + many ≤ number_bound
     → LimitsTell s many i j at got (limits_from many i at got s)
 unfolding limits_from limits_text
 limits_tell zero i j at got s p h = record {
-  read = λ _. record {
-    values = [];
-    counted = refl;
-    digits = tt;
-    bytes = 0;
-    sized = omega arith;
-    took = record { split = refl; size = refl };
-    is = refl;
-  };
-  fails = λ n. absurd (n refl);
+  values = [];
+  counted = refl;
+  digits = tt;
+  bytes = 0;
+  sized = omega arith;
+  took = record { split = refl; size = refl };
+  is = refl;
 }
 limits_tell (suc many) i j at got s p h =
-    let l = limit_line i s in
-    let x : ℕ = get_or l.numbers 1 0 in
-    let t = limit_tells i s (omega arith) in
-    let next = limits_tell many (i + 1) (j + 1) (at + l.size) (set got (i - 1) x) (drop l.size s) (omega arith) (omega arith) in
-    by_cond (LimitsTell s (suc many) i j at got) (eqb l.code 0)
-    (λ z.
-    let w = t.read (eqb-true _ _ z) in
-    record {
-      read = λ e.
-          let r = next.read e in
-          record {
-            values = x ∷ r.values;
-            counted = ap suc r.counted;
-            digits = (w.digits, r.digits);
-            bytes = l.size + r.bytes;
-            sized = omega (arith, r.sized);
-            took = took_both w.took r.took;
-            is = r.is ∙ placed got i j x r.values (omega arith);
-          };
-      fails = λ n.
-          let r = next.fails n in
-          let more : i + 1 + length r.values ≡ i + suc (length r.values) = omega arith in
-          record {
-            values = x ∷ r.values;
-            fewer = omega (arith, r.fewer);
-            digits = (w.digits, r.digits);
-            rest = r.rest;
-            split = took_then w.took (limits_text (i + 1) r.values) r.rest r.split;
-            none = rw more at r.none;
-            told = rw more at r.told;
-          };
-    })
-    (λ z.
-    let o = t.fails (eqb-false _ _ z) in
-    let here : i + 0 ≡ i = omega arith in
-    rw o.0
-    (record {
-      read = λ e. absurd (omega arith);
-      fails = λ _. record { values = []; fewer = omega arith; digits = tt; rest = s; split = refl; none = rw here o.1; told = rw here refl };
-    }))
+    go (limit_line i s) (limit_tells i s (omega arith)) (λ l.
+    limits_tell many (i + 1) (j + 1) (at + l.size) (set got (i - 1) (get_or l.value 1 0)) (drop l.size s) (omega arith) (omega arith))
+  where
+    after : Parsed (List ℕ) → Result (Parsed (List ℕ)) Fault
+    after l = limits_from many (i + 1) (at + l.size) (set got (i - 1) (get_or l.value 1 0)) (drop l.size s)
+
+    go : (r : Result (Parsed (List ℕ)) Fault) → LimitTells s i r
+        → ((l : Parsed (List ℕ))
+        → LimitsTell (drop l.size s) many (i + 1) (j + 1) (at + l.size) (set got (i - 1) (get_or l.value 1 0)) (after l))
+        → LimitsTell s (suc many) i j at got (onward r (λ numbers size. after (parsed numbers size)))
+    go (Ok l) w later = line_before many i j at got s l (omega arith) w (after l) (later l)
+    go (Err f) w later =
+        let here : i + 0 ≡ i = omega arith in
+        record { values = []; fewer = omega arith; digits = tt; rest = s; split = refl; none = rw here w.1; told = rw here w.0 }
+
+-- a line is read, and then what follows is
+limits_next : (many i at : ℕ) (got s : List ℕ) (l : Parsed (List ℕ)) → limit_line i s ≡ Ok l
+    → limits_from (suc many) i at got s ≡ limits_from many (i + 1) (at + l.size) (set got (i - 1) (get_or l.value 1 0)) (drop l.size s)
+unfolding limits_from
+limits_next many i at got s l e = rw e
 
 -- lines that are written are read, and then what follows is
 limits_after : (values : List ℕ) (more i j at : ℕ) (got s : List ℕ) → j + 1 ≡ i → i + length values ≤ number_bound → Few values
@@ -164,19 +174,23 @@ limits_after (x ∷ values) more i j at got s p h d =
     let size : at + length line + length (limits_text (i + 1) values) ≡ at + length (line ++ limits_text (i + 1) values) =
     omega (arith, length-append line (limits_text (i + 1) values)) in
     let here : i - 1 ≡ j = omega arith in
+    let read = limit_reads i x (limits_text (i + 1) values ++ s) (omega arith) d.0 in
     rw (suc-add (length values) more, append_assoc line (limits_text (i + 1) values) s)
-    (rw (limit_reads i x (limits_text (i + 1) values ++ s) (omega arith) d.0, drop-append_seam, here, ← later, ← size, ← add-one j)
+    (limits_next (length values + more) i at got (line ++ (limits_text (i + 1) values ++ s)) _ read
+    ∙ rw (drop-append_seam, here, ← later, ← size, ← add-one j)
     (limits_after values more (i + 1) (j + 1) (at + length line) (set got j x) s (omega arith) (omega arith) d.1))
 
 -- a line that is none of these ends them
 pub limits_stop : (values : List ℕ) (many i j at : ℕ) (got rest : List ℕ) → j + 1 ≡ i → i + many ≤ number_bound → Few values → length values < many
-    → NoLimit (i + length values) rest → limits_from many i at got (limits_text i values ++ rest) ≡ limits_fail 14 (i + length values + 3)
+    → NoLimit (i + length values) rest → limits_from many i at got (limits_text i values ++ rest) ≡ line_fails (i + length values + 3)
 unfolding limits_from
 limits_stop values many i j at got rest p h d fewer none =
     let split : many ≡ length values + suc (many - length values - 1) = omega arith in
-    let o = limit_tells (i + length values) rest (omega arith) in
-    let n : (limit_line (i + length values) rest).code ≢ 0 = λ z. let w = o.read z in none _ w.digits _ w.took.split in
-    rw (split, limits_after values (suc (many - length values - 1)) i j at got rest p (omega arith) d, ne_eqb _ _ n, (o.fails n).0)
+    rw (
+      split,
+      limits_after values (suc (many - length values - 1)) i j at got rest p (omega arith) d,
+      limit_none (i + length values) rest (omega arith) none,
+    )
 
 -- How many bytes they take
 
@@ -211,7 +225,7 @@ module _ (values : List ℕ) (h : length values ≤ 96) where
 
   -- all the lines that are written are read, from that of process 1 on
   pub limits_read : (s : List ℕ) → Few values
-      → limits_from (length values) 1 0 (replicate 96 0) (limits_text 1 values ++ s) ≡ limits_of (limits_in values) (length (limits_text 1 values))
+      → limits_from (length values) 1 0 (replicate 96 0) (limits_text 1 values ++ s) ≡ Ok (parsed (limits_in values) (length (limits_text 1 values)))
   unfolding limits_from
   limits_read s d = rw (← limits_filled) (rw (add-zero, zero-add) at (limits_after values 0 1 0 0 (replicate 96 0) s refl (omega arith) d))
 

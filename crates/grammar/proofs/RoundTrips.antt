@@ -5,17 +5,18 @@ use mathlib.Core.List.{List, [], ◌∷◌, ◌++◌, map}
 use native.Mathlib.Omega.{arith}
 use lib.ListN.{length, get_or, take, drop, length-map}
 use lib.Seq.{take_at}
+use Rattle.std.specs.Prelude.{None}
+use Rattle.model.specs.declared.Reading.{Reading}
 use Rattle.model.specs.declared.Parameters.{Parameters}
 use Rattle.model.specs.Texts.{Event, value_names, head_text, first_line, events_text, trace_text, text_limit, former_names, former_parameters, former_head_text}
-use Rattle.model.specs.Readings.{Lists, over, times_of, processes_of, actions_of, stored, Read, read_gave, reading_of, read_of}
+use Rattle.model.specs.Readings.{Lists, over, times_of, processes_of, actions_of, stored, Read, reading_of}
 use Rattle.model.specs.Writings.{events_in, events_of, formless_from, written}
 use Rattle.grammar.specs.Exact.{Formed, FirstLines, Says}
 use Rattle.grammar.specs.RoundTrips.{first_of, events_read, rewritten, Starts, ReadThenWrite, WriteThenRead, SameEvents}
 use Rattle.grammar.specs.RoundTrips.{ReadFormer, Renewed, ReadAgain, FormerThenWrite}
 use Rattle.grammar.specs.Answers.{Readable}
 use Rattle.grammar.proofs.Exact.{forms_anywhere, formed_says}
-use Rattle.grammar.proofs.Fits.{says_line}
-use Rattle.grammar.proofs.Answers.{read_is, read_iff, write_is, write_iff, write_long, write_fitted, fitted_short}
+use Rattle.grammar.proofs.Answers.{read_is, read_as, write_is, write_iff, write_long, write_fitted, fitted_short}
 
 -- The lists
 
@@ -64,8 +65,8 @@ names_former (FirstLines.former n a b c) rest s = record { n = n; a = a; b = b; 
 
 -- what is said in either shape is written in the new one, if its text is not too long
 module _ {text : List ℕ} {line : ℕ} {k : Parameters} {events : List Event} (s : Says text line k events) where
-  forms_again : formless_from (first_line k) events ≡ 0
-  forms_again = forms_anywhere line (first_line k) events (says_line s).0 s.forms
+  forms_again : formless_from (first_line k) events ≡ None
+  forms_again = forms_anywhere line (first_line k) events s.forms
 
   formed_again : length (trace_text k events) ≤ text_limit → Formed k events
   formed_again h = record { stand = s.stand; forms = forms_again; short = h }
@@ -77,22 +78,24 @@ module _ {text : List ℕ} {line : ℕ} {k : Parameters} {events : List Event} (
   text_new p = s.text_is ∙ ap (λ (l : List ℕ). l ++ events_text events) (names_new s.shape (events_text events) (rw s.text_is at p))
 
 back : (text : List ℕ) (l : Lists) (out : List ℕ) {line : ℕ} {k : Parameters} {events : List Event} → Readable text l line k events
-    → Starts value_names text → length text ≤ length out → rewritten (read_of text l) out ≡ written text out
+    → Starts value_names text → length text ≤ length out → rewritten (reading_of k (length events)) (stored events l) out ≡ written text out
 back text l out {line} {k} {events} r p h =
     let e = text_new r.says p in
-    rw (read_is text l line k events r, events_back events l)
-    (write_is k events out (formed_again r.says (rw e at r.says.short)) (rw e at h) ∙ rw e)
+    rw (events_back events l) (write_is k events out (formed_again r.says (rw e at r.says.short)) (rw e at h) ∙ rw e)
 
 pub read_then_write : ReadThenWrite
-read_then_write text l out p e h = back text l out ((read_iff text l).0 e).3 p h
+read_then_write text l out q p e h = let r = read_as text l q e in rw (r.is, r.gave) (back text l out r.readable p h)
 
 -- of the former shape
 module _ (text : List ℕ) (l : Lists) {line : ℕ} {k : Parameters} {events : List Event} (s : Says text line k events) where
   -- what the reading gave back
-  abbrev given : Read
-  given = read_gave (reading_of 0 (length events) k) (stored events l)
+  abbrev given : Reading
+  given = reading_of k (length events)
 
-  read_former : IsFormer k s.head → (n : ℕ) × (a : ℕ) × (b : ℕ) × (c : ℕ) × ReadFormer text given n a b c
+  abbrev kept : Lists
+  kept = stored events l
+
+  read_former : IsFormer k s.head → (n : ℕ) × (a : ℕ) × (b : ℕ) × (c : ℕ) × ReadFormer text given kept n a b c
   read_former f = (
     f.n,
     f.a,
@@ -104,7 +107,7 @@ module _ (text : List ℕ) (l : Lists) {line : ℕ} {k : Parameters} {events : L
     },
   )
 
-  renewed : (out : List ℕ) → Renewed given out
+  renewed : (out : List ℕ) → Renewed given kept out
   renewed out = record {
     long = rw (events_back events l) (write_long k events out s.stand (forms_again s));
     no_room = rw (events_back events l)
@@ -112,17 +115,16 @@ module _ (text : List ℕ) (l : Lists) {line : ℕ} {k : Parameters} {events : L
     fits = rw (events_back events l) (λ h g. write_is k events out (formed_again s h) g);
   }
 
-  read_again : ReadAgain given
+  read_again : ReadAgain given kept
   read_again = rw (events_back events l) (λ h m g.
       let q = read_is (trace_text k events) m (first_line k) k events (record { says = formed_says (formed_again s h); fits = g }) in
-      (q, ap events_read q ∙ events_back events m))
+      (q, ap (λ (x : Read). events_read given x.kept) q ∙ events_back events m))
 
 pub former_then_write : FormerThenWrite
-former_then_write text l out p e =
-    let f = (read_iff text l).0 e in
-    let r = f.3 in
-    let s = r.says in
-    rw (read_is text l f.0 f.1 f.2 r) (read_former text l s (text_former s p), renewed text l s out, read_again text l s)
+former_then_write text l out q p e =
+    let r = read_as text l q e in
+    let s = r.readable.says in
+    rw (r.is, r.gave) (read_former text l s (text_former s p), renewed text l s out, read_again text l s)
 
 pub write_then_read : WriteThenRead
 write_then_read k l out m e h =
@@ -132,4 +134,7 @@ write_then_read k l out m e h =
     (read_is text m (first_line k) k (events_of l) (record { says = formed_says f.0; fits = h }))
 
 pub same_events : SameEvents
-same_events k l out m e h = ap events_read (write_then_read k l out m e h) ∙ events_back (events_of l) m
+same_events k l out m e h =
+    let r = write_then_read k l out m e h in
+    let q = reading_of k (length (events_of l)) in
+    (q, ap (λ (x : Read). x.reading) r, ap (λ (x : Read). events_read q x.kept) r ∙ events_back (events_of l) m)

@@ -1,11 +1,14 @@
 -- Sections 4, 6 and 7 of the specification, what readings, writings and reports answer: exactly when they succeed, exactly why a reading is
 -- refused, and what the answer and the lent lists and bytes then hold. Assumes nothing.
-use Rattle.std.specs.Prelude.{ℕ, ◌≤◌, ◌<◌, ◌≡◌, ◌≢◌, ◌↔◌, List, length, take, drop}
+use Rattle.std.specs.Prelude.{ℕ, ◌≤◌, ◌<◌, ◌≡◌, ◌↔◌, List, Ok, Err, length, take, drop}
 use Rattle.model.specs.declared.Parameters.{Parameters}
-use Rattle.model.specs.States.{no_parameters}
+use Rattle.model.specs.declared.Reading.{Reading}
+use Rattle.model.specs.declared.Refusal.{Refusal}
+use Rattle.model.specs.declared.Refusal.TheVariants.{BadCount, BadLimits, BadNames, BadLine, BadLength}
+use Rattle.model.specs.Refusals.{code_of}
 use Rattle.model.specs.Answers.{answer_of}
 use Rattle.model.specs.Texts.{Event, trace_text}
-use Rattle.model.specs.Readings.{Lists, room, stored, Read, read_of}
+use Rattle.model.specs.Readings.{Lists, room, stored, Read, reading_of, read_of}
 use Rattle.model.specs.Writings.{Written, write_of}
 use Rattle.model.specs.Reports.{report_text, report_of}
 use Rattle.grammar.specs.Exact.{Formed, Says}
@@ -18,10 +21,9 @@ pub record Readable (text : List ℕ) (l : Lists) (line : ℕ) (k : Parameters) 
   pub says : Says text line k events
   pub fits : length events ≤ room l
 
--- [4.70] [6.130] [6.136] what a reading then gives back: 0, 0 and how many steps there are, the parameters, and the steps in the lists
+-- [4.70] [6.130] [6.136] what a reading then gives back: the parameters, how many steps there are, and the steps in the lists
 pub record ReadAll (k : Parameters) (events : List Event) (l : Lists) (r : Read) : Type 0 where
-  pub answer : r.reading.answer ≡ answer_of 0 0 (length events)
-  pub parameters : r.reading.parameters ≡ k
+  pub reading : r.reading ≡ Ok (reading_of k (length events))
   pub kept : r.kept ≡ stored events l
 
 -- [4.70] [6.130] [6.133] [6.136]
@@ -32,33 +34,32 @@ ReadTells = (text : List ℕ) (l : Lists) (line : ℕ) (k : Parameters) (events 
 -- [6.133] [6.190] a reading is accepted exactly then
 abbrev pub ReadIff : Type 0
 ReadIff = (text : List ℕ) (l : Lists)
-    → ((read_of text l).reading.answer.code ≡ 0) ↔ ((line : ℕ) × (k : Parameters) × (events : List Event) × Readable text l line k events)
+    → ((q : Reading) × ((read_of text l).reading ≡ Ok q)) ↔ ((line : ℕ) × (k : Parameters) × (events : List Event) × Readable text l line k events)
 
 -- Readings that are refused
 
--- [6.110] a refusal with this code that is reported at one line tells its caller another: none for 11 and 12
-pub data TellsLine : ℕ → ℕ → ℕ → Type 0 where
-  of_count : TellsLine 11 2 0
-  of-limits : {line : ℕ} → TellsLine 12 line 0
-  of_names : {line : ℕ} → TellsLine 13 line line
-  of_line : {line : ℕ} → TellsLine 14 line line
-  of_text : TellsLine 15 0 0
+-- [6.110] a refusal that is reported at one line tells its caller another: none for 11 and 12
+pub data TellsLine : Refusal → ℕ → ℕ → Type 0 where
+  of_count : TellsLine BadCount 2 0
+  of-limits : {line : ℕ} → TellsLine BadLimits line 0
+  of_names : {line : ℕ} → TellsLine BadNames line line
+  of_line : {line : ℕ} → TellsLine BadLine line line
+  of_text : TellsLine BadLength 0 0
 
 -- [6.90] [6.195] why a text is not read into these lists: the code, and the line that the caller is told
 pub data Unreadable (text : List ℕ) (l : Lists) : ℕ → ℕ → Type 0 where
-  faulty : {code line told : ℕ} → Fault text code line → TellsLine code line told → Unreadable text l code told
+  faulty : {why : Refusal} {line told : ℕ} → Fault text why line → TellsLine why line told → Unreadable text l (code_of why) told
   -- [4.16] [6.133] after all others: the text is faultless
   no_room : (line : ℕ) (k : Parameters) (events : List Event) → Says text line k events → room l < length events → Unreadable text l 16 0
 
--- [6.110] [6.140] what a refused reading gives back: its answer, 0 for each parameter, and the lists as they were lent
+-- [6.110] [6.140] what a refused reading gives back: its answer, and the lists as they were lent
 pub record RefusedRead (l : Lists) (code time : ℕ) (r : Read) : Type 0 where
-  pub answer : r.reading.answer ≡ answer_of code 0 time
-  pub parameters : r.reading.parameters ≡ no_parameters
+  pub reading : r.reading ≡ Err (answer_of code 0 time)
   pub lists_stay : r.kept ≡ l
 
 -- [6.90] [6.110] [6.133] [6.140] [6.195] a reading is refused exactly so
 abbrev pub ReadRefusedExactly : Type 0
-ReadRefusedExactly = (text : List ℕ) (l : Lists) (code time : ℕ) → code ≢ 0 → RefusedRead l code time (read_of text l) ↔ Unreadable text l code time
+ReadRefusedExactly = (text : List ℕ) (l : Lists) (code time : ℕ) → RefusedRead l code time (read_of text l) ↔ Unreadable text l code time
 
 -- Writings and reports
 

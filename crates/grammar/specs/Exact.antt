@@ -1,6 +1,6 @@
 -- Section 6 of the specification, the grammar from a second side: which texts are read, said by what is written, in the shape that is written
 -- and in the former one. Assumes nothing.
-use Rattle.std.specs.Prelude.{ℕ, ◌+◌, ◌≤◌, ◌≡◌, ◌↔◌, true, List, ◌++◌, length}
+use Rattle.std.specs.Prelude.{ℕ, ◌+◌, ◌≤◌, ◌≡◌, ◌↔◌, true, List, ◌++◌, None, length}
 use Rattle.model.specs.declared.Parameters.{Parameters}
 use Rattle.model.specs.Acts.{last_act}
 use Rattle.model.specs.States.{parameters_stand}
@@ -12,8 +12,8 @@ use Rattle.model.specs.Writings.{formless_from}
 -- [6.190] a trace has a form
 pub record Formed (k : Parameters) (events : List Event) : Type 0 where
   pub stand : parameters_stand k ≡ true
-  -- [6.160] of each step: 0 tells that none lacks its form
-  pub forms : formless_from (first_line k) events ≡ 0
+  -- [6.160] of each step: there is none that lacks its form
+  pub forms : formless_from (first_line k) events ≡ None
   pub short : length (trace_text k events) ≤ text_limit
 
 -- [6.20] [6.45] [6.50] the first lines of a trace with these parameters, in either shape, and the line of its first step
@@ -28,7 +28,7 @@ pub record Says (text : List ℕ) (line : ℕ) (k : Parameters) (events : List E
   pub text_is : text ≡ head ++ events_text events
   pub stand : parameters_stand k ≡ true
   -- [6.160] as above
-  pub forms : formless_from line events ≡ 0
+  pub forms : formless_from line events ≡ None
   pub short : length text ≤ text_limit
 
 -- [6.190] [6.125] of a text that is read

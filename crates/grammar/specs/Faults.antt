@@ -1,7 +1,9 @@
 -- Section 6 of the specification, the refusals of a reading from a second side: why a text is refused, said by what is written.
 -- Assumes nothing.
-use Rattle.std.specs.Prelude.{ℕ, ◌+◌, ◌≤◌, ◌<◌, ◌≡◌, ◌≢◌, ◌↔◌, true, false, List, [], ◌∷◌, ◌++◌, length}
+use Rattle.std.specs.Prelude.{ℕ, ◌+◌, ◌≤◌, ◌<◌, ◌≡◌, ◌≢◌, ◌↔◌, true, false, List, [], ◌∷◌, ◌++◌, None, length}
 use Rattle.model.specs.declared.Parameters.{Parameters}
+use Rattle.model.specs.declared.Refusal.{Refusal}
+use Rattle.model.specs.declared.Refusal.TheVariants.{BadCount, BadLimits, BadNames, BadLine, BadLength}
 use Rattle.model.specs.States.{parameters_of, limits_in, count_stands, limits_stand, parameters_stand}
 use Rattle.model.specs.Texts.{Event, numbers_text, value_names, values_text, limit_names, limits_text, event_names, event_text, events_text, text_limit}
 use Rattle.model.specs.Texts.{former_names, former_parameters, former_values_text}
@@ -44,40 +46,41 @@ pub data LimitLines : Parameters → List ℕ → ℕ → Type 0 where
       → LimitLines (parameters_of n b c (limits_in a)) (value_names ++ (values_text n b c ++ (limit_names ++ limits_text 1 a))) (n + 3)
   former : (n a b c : ℕ) → Few (n ∷ a ∷ b ∷ c ∷ []) → LimitLines (former_parameters n a b c) (former_names ++ former_values_text n a b c) 2
 
--- [6.195] [6.90] [7.35] The number of a refusal and the line that it is reported at, each with what it says of the text; what would be
+-- [6.195] [6.90] [7.35] A refusal and the line that it is reported at, each with what it says of the text; what would be
 -- refused before it is ruled out.
-pub data Fault (text : List ℕ) : ℕ → ℕ → Type 0 where
+pub data Fault (text : List ℕ) : Refusal → ℕ → Type 0 where
   -- [4.15]
-  long : text_limit < length text → Fault text 15 0
+  long : text_limit < length text → Fault text BadLength 0
   -- [4.13] [6.20] [6.45] [6.15] [6.100] line 1, of neither shape
-  names : length text ≤ text_limit → Differs value_names text → Differs former_names text → Fault text 13 1
+  names : length text ≤ text_limit → Differs value_names text → Differs former_names text → Fault text BadNames 1
   -- [4.14] [6.30] [6.45] [6.15] [6.100] line 2
   values : (first rest : List ℕ) (more : ℕ) → Shape first more → length text ≤ text_limit → text ≡ first ++ rest
-      → NoValues more rest → Fault text 14 2
+      → NoValues more rest → Fault text BadLine 2
   -- [4.11]
   count : (first : List ℕ) (n : ℕ) (others rest : List ℕ) → Shape first (length others) → StartsWithValues text first n others rest
-      → count_stands n ≡ false → Fault text 11 2
+      → count_stands n ≡ false → Fault text BadCount 2
   -- [4.13] [6.32] [6.15] [6.100] line 3 of the new shape
   limit-names : (n b c : ℕ) (rest : List ℕ) → StartsWithValues text value_names n (b ∷ c ∷ []) rest → count_stands n ≡ true
-      → Differs limit_names rest → Fault text 13 3
+      → Differs limit_names rest → Fault text BadNames 3
   -- [4.14] [6.34] [6.15] [6.100] a line of a: those before it are of the processes before it, which have these values
   limit : (n b c : ℕ) (a rest : List ℕ) → StartsWithValues text value_names n (b ∷ c ∷ []) (limit_names ++ (limits_text 1 a ++ rest))
-      → count_stands n ≡ true → Few a → length a < n → NoLimit (1 + length a) rest → Fault text 14 (4 + length a)
+      → count_stands n ≡ true → Few a → length a < n → NoLimit (1 + length a) rest → Fault text BadLine (4 + length a)
   -- [4.12] [6.36]
   limits : (k : Parameters) (first rest : List ℕ) (line : ℕ) → LimitLines k first line → length text ≤ text_limit → text ≡ first ++ rest
-      → count_stands k.n ≡ true → limits_stand k ≡ false → Fault text 12 line
+      → count_stands k.n ≡ true → limits_stand k ≡ false → Fault text BadLimits line
   -- [4.13] [6.40] [6.15] [6.100] the line after those
   steps : (k : Parameters) (first rest : List ℕ) (line : ℕ) → LimitLines k first line → length text ≤ text_limit → text ≡ first ++ rest
-      → parameters_stand k ≡ true → Differs event_names rest → Fault text 13 (line + 1)
+      → parameters_stand k ≡ true → Differs event_names rest → Fault text BadNames (line + 1)
   -- [4.14] [6.50] [6.55] [6.15] the lines before it are those of steps that have a form
   step : (k : Parameters) (head : List ℕ) (line : ℕ) (events : List Event) (rest : List ℕ) → FirstLines k head line → length text ≤ text_limit
-      → text ≡ head ++ (events_text events ++ rest) → parameters_stand k ≡ true → formless_from line events ≡ 0 → 0 < length rest → NoStep rest
-      → Fault text 14 (line + length events)
+      → text ≡ head ++ (events_text events ++ rest) → parameters_stand k ≡ true → formless_from line events ≡ None → 0 < length rest → NoStep rest
+      → Fault text BadLine (line + length events)
 
--- [6.195] a text is refused with a number and a line exactly if it has that fault
+-- [6.195] a text is refused with a reason and a line exactly if it has that fault
 abbrev pub RefusedExactly : Type 0
-RefusedExactly = (text : List ℕ) (code line : ℕ) → (trace_of text ≡ refused code line) ↔ Fault text code line
+RefusedExactly = (text : List ℕ) (why : Refusal) (line : ℕ) → (trace_of text ≡ refused why line) ↔ Fault text why line
 
 -- [6.195] and it has one fault at most
 abbrev pub OneFault : Type 0
-OneFault = (text : List ℕ) (code line code' line' : ℕ) → Fault text code line → Fault text code' line' → (code ≡ code') × (line ≡ line')
+OneFault = (text : List ℕ) (why : Refusal) (line : ℕ) (why' : Refusal) (line' : ℕ) → Fault text why line → Fault text why' line'
+    → (why ≡ why') × (line ≡ line')

@@ -58,7 +58,7 @@ NewCase = report_text new_input ≡ new_output
 
 -- helper: the text that is written of what a text says
 abbrev pub written_again : Trace → List ℕ
-written_again (refused code line) = []
+written_again (refused why line) = []
 written_again (trace line k events) = trace_text k events
 
 -- [6.202] [7.65] the one trace is written as the other

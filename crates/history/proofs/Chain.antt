@@ -2,7 +2,7 @@
 -- holds of every list holds of every chain; and every list has a chain. Assumes nothing.
 use mathlib.Core.Path.{◌≡◌, refl, ◌∙◌}
 use mathlib.Core.List.{List, []}
-use Rattle.model.specs.declared.State.{State}
+use Rattle.model.specs.Types.{State}
 use Rattle.model.specs.declared.Recorded.{Recorded}
 use Rattle.model.specs.Answers.{fresh_of}
 use Rattle.model.specs.Facts.{Accepted}

@@ -9,8 +9,8 @@ use borrow.Fn.World.{World, Pr}
 use borrow.Fn.Claims.{AllOf}
 use borrow.Fn.Read.{Read, no_know, all_models, r_last}
 use Rattle.model.specs.declared.Parameters.{Parameters}
-use Rattle.model.specs.declared.State.{State}
-use Rattle.model.specs.declared.Outcome.{Outcome}
+use Rattle.model.specs.Types.{State}
+use Rattle.model.specs.Types.{Outcome}
 use Rattle.model.specs.declared.Statistics.{Statistics}
 use Rattle.model.specs.declared.Recorded.{Recorded}
 use Rattle.model.specs.Acts.{wait_act}

@@ -1,10 +1,10 @@
 -- Section 8 of the specification: calls as rows of numbers, as `run` is lent them, and all that it gives back. A call is a row of
 -- `calls` with a row of `counts` and one of `waited`, the summary that it is lent; its answer goes to a row of `answers`. Assumes nothing.
-use Rattle.std.specs.Prelude.{ℕ, ◌≡◌, not, List, [], ◌∷◌, map, eqb, length, get_or, set, take}
+use Rattle.std.specs.Prelude.{ℕ, ◌≡◌, Bool, true, false, not, List, [], ◌∷◌, map, eqb, length, get_or, set, take}
 use Rattle.std.specs.Borrow.{MutBor}
 use Rattle.model.specs.declared.Parameters.{Parameters}
-use Rattle.model.specs.declared.State.{State}
-use Rattle.model.specs.declared.Outcome.{Outcome}
+use Rattle.model.specs.Types.{State}
+use Rattle.model.specs.Types.{Outcome}
 use Rattle.model.specs.declared.Statistics.{Statistics}
 use Rattle.model.specs.declared.Recorded.{Recorded}
 use Rattle.model.specs.Readings.{over}
@@ -13,6 +13,8 @@ use Rattle.model.specs.Facts.{Accepted}
 use Rattle.model.specs.Summaries.{statistics_of}
 use Rattle.model.specs.Summaries.{counts_in, counts_numbers}
 use Rattle.model.specs.Calls.{Call, call_of, run_of, results_of}
+use Rattle.history.specs.declared.Kind.{Kind}
+use Rattle.history.specs.declared.Kind.TheVariants as kind
 use Rattle.lists.specs.Demand3.{Demand3}
 
 -- Rows of numbers
@@ -34,6 +36,11 @@ call_in_row row x = record {
   time = get_or row 3 0;
   lent = x;
 }
+
+-- [8.150] whether a call of this kind is a recorded step
+abbrev pub is_recorded : Kind → Bool
+is_recorded kind.Step = false
+is_recorded kind.Recorded = true
 
 -- What is lent to `run` and comes back
 

@@ -2,114 +2,89 @@
 // arrays, so that a caller can lend any list; the shortest slice sets their number.
 #![tactic(auto)]
 
-mod lend;
 pub mod rows;
 
-ghost use Rattle.std.specs.Prelude.{◌≡◌, ◌<◌, length};
+ghost use Rattle.std.specs.Prelude.{◌≡◌, ◌==◌, not};
 ghost use Rattle.model.specs.Answers.{fresh_of};
 ghost use Rattle.model.specs.Facts.{Accepted};
 ghost use Rattle.model.specs.Calls.{call_of};
 ghost use Rattle.tallies.specs.Tallies.{Tallied};
-ghost use Rattle.history.specs.Lists.{call_in_row, lent_rows, run_gave, ran_of, MeetsDemand3, turn_gave, turn_of};
-ghost use Rattle.history.specs.RecordedRuns.{log_in, recorded_run_gave, recorded_run_of, record_at};
+ghost use Rattle.history.specs.Lists.{call_in_row, lent_rows, run_gave, ran_of, is_recorded, MeetsDemand3};
+ghost use Rattle.history.specs.RecordedRuns.{log_in, recorded_run_gave, recorded_run_of};
 
-use crate::lend::lent_step;
 use crate::rows::{summary_in, tuple_of};
 use machine::{fresh, step};
-use model::{Outcome, Parameters, Recorded, State, Statistics};
-use statistics::new_statistics;
-use values::{answer_row, least};
+use model::{Arrivals, Outcome, Parameters, Recorded, State, Statistics};
+use statistics::{new_statistics, record_step};
 
-// [8.20] [8.30] One call: a step without a summary (kind 0), or a recorded step with the one that is lent.
-fn make_call(state: State, row: [u64; 4], lent: Statistics) -> Recorded
-    ensures { result ≡ call_of state (call_in_row row lent) }
-{
-    let kind = row[0];
-    if kind == 0 {
-        let outcome = step(state, row[1], row[2], row[3]);
-        return Recorded {
-            outcome: outcome,
-            statistics: lent,
-        };
-    }
-    lent_step(state, lent, row[1], row[2], row[3])
+// [8.20] [8.30] The kinds of a call: a step without a summary, or a recorded step with one that is lent.
+#[derive(Clone, Copy)]
+enum Kind {
+    Step,
+    Recorded,
 }
 
-// The call in row i.
-fn make_turn(
-    state: State,
-    calls: &[[u64; 4]],
-    counts: &mut [[u64; 5]],
-    waited: &mut [[u64; 96]],
-    answers: &mut [[u64; 3]],
-    i: usize,
-) -> State
-    requires { (i < length calls.now) × (i < length counts.old) × (i < length waited.old) × (i < length answers.old) }
-    ensures { turn_gave result (lent_rows counts.exit waited.exit answers.exit)
-        ≡ turn_of state calls.now (lent_rows counts.entry waited.entry answers.entry) i }
+// [8.150]
+impl From<u64> for Kind {
+    ghost from_gives = { λ number kind. is_recorded kind ≡ not (number == 0) };
+
+    fn from(number: u64) -> Kind {
+        match number {
+            0 => Kind::Step,
+            _ => Kind::Recorded,
+        }
+    }
+}
+
+// [8.20] [8.30] One call, with the summary that it is lent.
+fn make_call(state: State<Arrivals>, row: [u64; 4], mut lent: Statistics) -> Recorded
+    ensures { result ≡ call_of state (call_in_row row lent) }
 {
-    let made = make_call(state, calls[i], summary_in(counts[i], waited[i]));
-    let outcome = made.outcome;
-    let answer = outcome.answer;
-    let left = made.statistics;
-    let left_waited = left.waited;
-    let left_counts = tuple_of(left.counts);
-    counts[i] = left_counts;
-    waited[i] = left_waited;
-    let row = answer_row(answer);
-    answers[i] = row;
-    let next = outcome.state;
-    next
+    let [kind, action, process, time] = row;
+    let outcome = match Kind::from(kind) {
+        Kind::Step => step(state, action, process, time),
+        Kind::Recorded => record_step(state, &mut lent, action, process, time),
+    };
+    Recorded {
+        outcome,
+        statistics: lent,
+    }
 }
 
 // [8.40] [8.130] [8.135] [8.150] [8.152] [8.154] [8.156] [8.158] [21.110] A whole list of calls from a fresh table. The answer is that
 // of `fresh`, the state that of the last call. Each call's summary is lent in its row, brought up to date there, and its answer stored;
-// the contract is demand 3.
+// the contract is demand 3. The rows are stored by index, since of what a loop writes through a zip of `iter_mut` a contract tells only the length.
 pub fn run(
     parameters: Parameters,
     calls: &[[u64; 4]],
     counts: &mut [[u64; 5]],
     waited: &mut [[u64; 96]],
     answers: &mut [[u64; 3]],
-) -> Outcome
+) -> Outcome<Arrivals>
     ensures equals { run_gave result (lent_rows counts.exit waited.exit answers.exit)
         ≡ ran_of parameters calls.now (lent_rows counts.entry waited.entry answers.entry) }
     ensures demand3 { MeetsDemand3 parameters calls.now (lent_rows counts.entry waited.entry answers.entry)
         (lent_rows counts.exit waited.exit answers.exit) result.state }
 {
-    let start = fresh(parameters);
-    let answer = start.answer;
-    let mut state = start.state;
-    let count = least(
-        least(calls.len(), counts.len()),
-        least(waited.len(), answers.len()),
-    );
-    let mut i: usize = 0;
-    while i < count {
-        state = make_turn(state, calls, counts, waited, answers, i);
-        i += 1;
+    let Outcome { answer, mut state } = fresh(parameters);
+    let count = calls
+        .len()
+        .min(counts.len())
+        .min(waited.len())
+        .min(answers.len());
+    for i in 0..count {
+        let summary = summary_in(counts[i], waited[i]);
+        let Recorded {
+            outcome,
+            statistics: left,
+        } = make_call(state, calls[i], summary);
+        let left_waited = left.waited;
+        counts[i] = tuple_of(left.counts);
+        waited[i] = left_waited;
+        answers[i] = <[u64; 3]>::from(outcome.answer);
+        state = outcome.state;
     }
-    Outcome {
-        answer: answer,
-        state: state,
-    }
-}
-
-// The recorded step in row i, with the state and the summary that the one before it left.
-fn record_turn(last: Recorded, acts: &[[u64; 3]], answers: &mut [[u64; 3]], i: usize) -> Recorded
-    requires { (i < length acts.now) × (i < length answers.old) }
-    ensures { recorded_run_gave result answers.new ≡ record_at last acts.now answers.old i }
-{
-    let act = acts[i];
-    let before = last.outcome;
-    let state = before.state;
-    let summary = last.statistics;
-    let made = lent_step(state, summary, act[0], act[1], act[2]);
-    let outcome = made.outcome;
-    let answer = outcome.answer;
-    let row = answer_row(answer);
-    answers[i] = row;
-    made
+    Outcome { answer, state }
 }
 
 // [5.120] [5.125] [5.130] [8.160] [8.162] [8.164] [21.110] Recorded steps from a fresh table, all lent one summary that is new at first.
@@ -119,25 +94,18 @@ pub fn run_recorded(parameters: Parameters, acts: &[[u64; 3]], answers: &mut [[u
     ensures tallied { Accepted (fresh_of parameters) → Tallied (log_in acts.now answers.new) result }
 {
     let start = fresh(parameters);
-    let answer = start.answer;
-    let mut last = Recorded {
-        outcome: start,
-        statistics: new_statistics(),
-    };
-    let count = least(acts.len(), answers.len());
-    let mut i: usize = 0;
-    while i < count {
-        last = record_turn(last, acts, answers, i);
-        i += 1;
+    let mut outcome = start;
+    let mut statistics = new_statistics();
+    let count = acts.len().min(answers.len());
+    for i in 0..count {
+        let [action, process, time] = acts[i];
+        outcome = record_step(outcome.state, &mut statistics, action, process, time);
+        answers[i] = <[u64; 3]>::from(outcome.answer);
     }
-    let end = last.outcome;
-    let state = end.state;
-    let summary = last.statistics;
+    let answer = start.answer;
+    let state = outcome.state;
     Recorded {
-        outcome: Outcome {
-            answer: answer,
-            state: state,
-        },
-        statistics: summary,
+        outcome: Outcome { answer, state },
+        statistics,
     }
 }

@@ -7,6 +7,7 @@ ghost use Rattle.history.specs.Lists.{summary_of};
 use model::{Counts, Statistics};
 
 // [8.152]
+// kept: (d) From impls for a summary would need a type of this crate for its two rows, which `run` is lent apart: two functions are shorter
 pub fn summary_in(counts: [u64; 5], waited: [u64; 96]) -> Statistics
     ensures { result ≡ summary_of counts waited }
 {
@@ -18,7 +19,7 @@ pub fn summary_in(counts: [u64; 5], waited: [u64; 96]) -> Statistics
             exits: counts[3],
             longest: counts[4],
         },
-        waited: waited,
+        waited,
     }
 }
 

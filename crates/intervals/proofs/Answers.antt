@@ -10,6 +10,7 @@ use lib.ListN.{length, length-map}
 use borrow.Author.Tests.{lt-ltb, ltb-true, ltb-false}
 use Rattle.model.specs.declared.Parameters.{Parameters}
 use Rattle.model.specs.declared.Answer.{Answer}
+use Rattle.model.specs.Refusals.{code_of}
 use Rattle.model.specs.Answers.{answer_of, fresh_of}
 use Rattle.model.specs.Texts.{Event}
 use Rattle.model.specs.Readings.{Trace, refused, trace, trace_of}
@@ -51,7 +52,7 @@ module _ (text out : List ℕ) where
       (λ t _. (line, k, events, record { says = says; fits = ltb-false _ _ t }))
 
   accepted : (t : Trace) → TraceTells text t → Accepted (intervals_into out t)
-  accepted (refused code line) told = λ e. absurd (omega (arith, fault_some told))
+  accepted (refused r line) told = λ e. absurd (omega (arith, fault_some told))
   accepted (trace line k events) told = fitted_accepted line k events told
 
 pub intervals_iff : IntervalsIff
@@ -84,7 +85,7 @@ module _ (text out : List ℕ) (code line : ℕ) (some : code ≢ 0) where
 
 so : {text out : List ℕ} {code line : ℕ} → Unwritable text out code line → RefusedWrite out code line (write_intervals_of text out)
 unfolding write_intervals_of fitted
-so {text} (Unwritable.faulty {code} {line} f) = rw ((refused_exactly text code line).1 f) (record { answer = refl; bytes_stay = refl })
+so {text} (Unwritable.faulty {why} {line} f) = rw ((refused_exactly text why line).1 f) (record { answer = refl; bytes_stay = refl })
 so {text} (Unwritable.no_room l k events says h) =
     rw ((read_exactly text l k events).1 says, lt-ltb _ _ h) (record { answer = refl; bytes_stay = refl })
 
@@ -93,7 +94,7 @@ unfolding write_intervals_of
 intervals_refused_exactly text out code line some = (why text out code line some (trace_of text) (trace_tells text), so)
 
 enough : (text out : List ℕ) → length text ≤ length out → (t : Trace) → TraceTells text t → (intervals_into out t).answer.code ≢ 16
-enough text out wide (refused code line) told = λ (e : code ≡ 16). omega (arith, fault_some told)
+enough text out wide (refused r line) told = λ (e : code_of r ≡ 16). omega (arith, fault_some told)
 enough text out wide (trace line k events) told =
     rw (fitted_is (intervals_text (trace_intervals k events)) out (omega (arith, intervals_short text line k events told))) (omega arith)
 
@@ -111,4 +112,4 @@ same_answers text out line k events says =
 
 pub same_fault : SameFault
 unfolding report_text write_intervals_of
-same_fault text out code line h = let t = (refused_exactly text code line).1 h in (rw t, rw t)
+same_fault text out r line h = let t = (refused_exactly text r line).1 h in (rw t, rw t)

@@ -6,7 +6,7 @@ use mathlib.Core.Bool.{Bool, true, false}
 use mathlib.Core.List.{List, [], ◌∷◌, ◌++◌, append_assoc}
 use native.Mathlib.Omega.{arith}
 use lib.ListN.{length, length-append}
-use Rattle.model.specs.declared.State.{State}
+use Rattle.model.specs.Types.{State}
 use Rattle.model.specs.Texts.{comma, newline, number_text, word_text, Event, event_text, events_text}
 use Rattle.model.specs.Tallies.{Attempt, attempted, is_entry, is_exit}
 use Rattle.model.specs.Facts.{IsFresh}

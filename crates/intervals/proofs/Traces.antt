@@ -6,11 +6,12 @@ use mathlib.Core.List.{List}
 use native.Mathlib.Omega.{arith}
 use lib.ListN.{length}
 use Rattle.model.specs.declared.Parameters.{Parameters}
+use Rattle.model.specs.declared.Started.{Started}
 use Rattle.model.specs.Answers.{fresh_of}
 use Rattle.model.specs.Facts.{IsFresh}
 use Rattle.model.specs.Texts.{Event}
+use Rattle.model.specs.Readings.{Lists}
 use Rattle.model.specs.Writings.{events_of, fitted}
-use Rattle.model.specs.Executions.{Started}
 use Rattle.theory.proofs.Soundness.{stand_fresh}
 use Rattle.grammar.specs.Exact.{Says}
 use Rattle.grammar.specs.RoundTrips.{first_of}
@@ -33,21 +34,21 @@ module _ {text : List ℕ} {line : ℕ} {k : Parameters} {events : List Event} (
   trace_short : length (pass_text (fresh_of k).state events) ≤ length text
   trace_short = omega (arith, pass_short (fresh_of k).state events, says_long says)
 
--- What is found of a text that is started, with code 0
+-- What is found of a text that is started
 
-module _ {text : List ℕ} {x : Started} (r : Ready text x) where
-  abbrev events : List Event
-  events = events_of (first_of x.scan.size x.kept)
+module _ {text : List ℕ} {s : Started} {kept : Lists} (r : Ready text s kept) where
+  abbrev steps : List Event
+  steps = events_of (first_of s.found.steps kept)
 
-  abbrev says : Says text x.scan.line x.scan.parameters events
-  says = (read_exactly text x.scan.line x.scan.parameters events).0 r.is
+  abbrev says_steps : Says text s.found.line s.found.parameters steps
+  says_steps = (read_exactly text s.found.line s.found.parameters steps).0 r.is
 
-  pub ready_short : length (pass_text x.state events) ≤ length text
-  ready_short = rw r.state (trace_short says)
+  pub ready_short : length (pass_text s.state steps) ≤ length text
+  ready_short = rw r.state (trace_short says_steps)
 
-  pub ready_written : (out : List ℕ) → fitted (pass_text x.state events) out ≡ write_intervals_of text out
+  pub ready_written : (out : List ℕ) → fitted (pass_text s.state steps) out ≡ write_intervals_of text out
   unfolding write_intervals_of
-  ready_written out = rw (r.is, r.state, trace-text says)
+  ready_written out = rw (r.is, r.state, trace-text says_steps)
 
 -- Every trace
 

@@ -1,12 +1,13 @@
 -- Section 11 of the specification, what the call answers: exactly when it writes intervals, and what it writes; exactly why it is refused;
 -- that the report of the same text has the same answers and faults; and what holds of the intervals of every trace. Assumes nothing.
-use Rattle.std.specs.Prelude.{ℕ, ◌≤◌, ◌<◌, ◌≡◌, ◌≢◌, ◌↔◌, List, [], ◌∷◌, ◌++◌, map, length, drop}
-use Rattle.model.specs.declared.Field.TheVariants.{Value}
+use Rattle.std.specs.Prelude.{ℕ, ◌≤◌, ◌<◌, ◌≡◌, ◌≢◌, ◌↔◌, List, [], ◌∷◌, ◌++◌, map, Some, length, drop}
+use Rattle.model.specs.declared.Refusal.{Refusal}
 use Rattle.model.specs.declared.Parameters.{Parameters}
 use Rattle.model.specs.declared.Answer.{Answer}
+use Rattle.model.specs.Refusals.{code_of}
 use Rattle.model.specs.Answers.{answer_numbers, fresh_of}
 use Rattle.model.specs.Texts.{bytes, comma, newline, Event, numbers_text}
-use Rattle.model.specs.Readings.{number_at}
+use Rattle.model.specs.Readings.{parsed, number_at}
 use Rattle.model.specs.Writings.{unwritten, fitted}
 use Rattle.model.specs.Reports.{answer_names, rows_text, report_text}
 use Rattle.model.specs.Executions.{attempts_of}
@@ -22,7 +23,7 @@ use Rattle.intervals.specs.Runs.{RunIntervals}
 -- [11.47] [6.60] read as the numbers of a trace are, a text s starts with the number v and the byte `end`, and then comes the text t
 pub record ReadsNumber (end v : ℕ) (s t : List ℕ) : Type 0 where
   pub size : ℕ
-  pub reads : (bound : ℕ) → v < bound → number_at bound end s ≡ Value v size
+  pub reads : (bound : ℕ) → v < bound → number_at bound end s ≡ Some (parsed v size)
   pub then : drop size s ≡ t
 
 -- [11.47] [11.45] and so with what stands for the end of an interval
@@ -66,7 +67,7 @@ IntervalsIff = (text out : List ℕ)
 -- [11.55] [11.60] why nothing is written: the code, and the line that is told
 pub data Unwritable (text out : List ℕ) : ℕ → ℕ → Type 0 where
   -- [11.55] a fault of the text, with the line that the report prints for it
-  faulty : {code line : ℕ} → Fault text code line → Unwritable text out code line
+  faulty : {why : Refusal} {line : ℕ} → Fault text why line → Unwritable text out (code_of why) line
   -- [11.60] [4.16] after all others: the text is faultless
   no_room : (line : ℕ) (k : Parameters) (events : List Event) → Says text line k events
       → length out < length (intervals_text (trace_intervals k events)) → Unwritable text out 16 0
@@ -91,8 +92,9 @@ SameAnswers = (text out : List ℕ) (line : ℕ) (k : Parameters) (events : List
 
 -- [11.55] [7.30] of a fault, both have the code and the line
 abbrev pub SameFault : Type 0
-SameFault = (text out : List ℕ) (code line : ℕ) → Fault text code line
-    → (report_text text ≡ answer_names ++ numbers_text line (code ∷ 0 ∷ 0 ∷ [])) × (write_intervals_of text out ≡ unwritten code line out)
+SameFault = (text out : List ℕ) (why : Refusal) (line : ℕ) → Fault text why line
+    → (report_text text ≡ answer_names ++ numbers_text line (code_of why ∷ 0 ∷ 0 ∷ []))
+    × (write_intervals_of text out ≡ unwritten (code_of why) line out)
 
 -- Every trace
 

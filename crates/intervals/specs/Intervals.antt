@@ -2,6 +2,7 @@
 -- them, and `write_intervals_of`, all that the call gives back. Assumes nothing.
 use Rattle.std.specs.Prelude.{ℕ, cond, ◌&&◌, List, [], ◌∷◌, ◌++◌, eqb}
 use Rattle.model.specs.declared.Parameters.{Parameters}
+use Rattle.model.specs.Refusals.{code_of}
 use Rattle.model.specs.Answers.{fresh_of}
 use Rattle.model.specs.Tallies.{Attempt, is_entry, is_exit}
 use Rattle.model.specs.Texts.{bytes, comma, newline, number_text, Event}
@@ -68,7 +69,7 @@ intervals_text is = interval_names ++ interval_lines is
 
 -- [11.50] [11.55] [11.60] [4.110] the text of the intervals in an output that may be too short, or the refusal with its line
 abbrev pub intervals_into : List ℕ → Trace → Written
-intervals_into out (refused code line) = unwritten code line out
+intervals_into out (refused why line) = unwritten (code_of why) line out
 intervals_into out (trace line k events) = fitted (intervals_text (trace_intervals k events)) out
 
 -- [11.50] all that it gives back

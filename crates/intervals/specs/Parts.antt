@@ -1,6 +1,6 @@
 -- The text of intervals as it is put, step by step: a crit begins a line and an exit ends it. For the proofs only. Assumes nothing.
 use Rattle.std.specs.Prelude.{ℕ, Bool, true, false, cond, List, [], ◌∷◌, ◌++◌}
-use Rattle.model.specs.declared.State.{State}
+use Rattle.model.specs.Types.{State}
 use Rattle.model.specs.Tallies.{Attempt, is_entry, is_exit}
 use Rattle.model.specs.Texts.{bytes, comma, newline, number_text, Event}
 use Rattle.model.specs.Executions.{attempts_from}

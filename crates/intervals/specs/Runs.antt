@@ -1,7 +1,7 @@
 -- Section 11 of the specification, what holds of the intervals of every run, in plain facts: each is that of one accepted crit, it ends with
 -- the exit of its own process, and none begins before the one before it has ended. Assumes nothing.
 use Rattle.std.specs.Prelude.{ℕ, ◌≤◌, ◌≡◌, ◌↔◌, List, [], ◌∷◌, ◌++◌, length}
-use Rattle.model.specs.declared.State.{State}
+use Rattle.model.specs.Types.{State}
 use Rattle.model.specs.Acts.{crit_act, exit_act}
 use Rattle.model.specs.Texts.{Event}
 use Rattle.model.specs.Facts.{IsFresh, IsCritical}

@@ -1,12 +1,12 @@
 -- What an action makes of the numbers of a table, from what was found of them, is what the step makes of the state that they tell.
 -- Assumes nothing.
 use Rattle.std.proofs.Common.{◌≡◌, ℕ, ◌-◌, ◌≤◌, true, cond, not, eqb, ◌≢◌, List, length, sym, ap, ◌∙◌, arith, eq-eqb, ne_eqb}
-use Rattle.model.specs.declared.Location.{Location}
-use Rattle.model.specs.declared.Process.{Process}
-use Rattle.model.specs.declared.State.{State}
+use Rattle.model.specs.Types.{Location}
+use Rattle.model.specs.Types.{Process}
+use Rattle.model.specs.Types.{State}
 use Rattle.model.specs.declared.Transition.{Transition}
 use Rattle.model.specs.declared.Answer.{Answer}
-use Rattle.model.specs.declared.Outcome.{Outcome}
+use Rattle.model.specs.Types.{Outcome}
 use Rattle.model.specs.Acts.{wait_act, last_act}
 use Rattle.model.specs.States.{idle, stage_of, entry_of}
 use Rattle.model.specs.Actions.{transition_of, waited, moved}

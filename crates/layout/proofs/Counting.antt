@@ -1,21 +1,20 @@
 -- Counting an act in the numbers of a summary is counting it in the summary that they tell. Assumes nothing.
-use Rattle.std.proofs.Common.{◌≡◌, ℕ, ◌+◌, ◌-◌, ◌^◌, ◌<◌, ◌≤◌, List, [], ◌∷◌, ◌++◌, length, get_or, take, drop, set, sym, refl, ap, ◌∙◌}
-use Rattle.std.proofs.Common.{append-nil, mod-eq_of_lt, arith, length-append, length-drop, length-set, take-append-drop, length-take-le}
+use Rattle.std.proofs.Common.{◌≡◌, ℕ, ◌+◌, ◌-◌, ◌^◌, ◌<◌, ◌≤◌, List, [], ◌∷◌, length, get_or, take, drop, set, sym, refl, ap, ◌∙◌}
+use Rattle.std.proofs.Common.{mod-eq_of_lt, arith, length-drop, length-set, take-append-drop}
 use Rattle.std.proofs.Common.{get_or-drop, take_all}
 use Rattle.model.specs.declared.Counts.{Counts}
-use Rattle.model.specs.declared.Process.{Process}
+use Rattle.model.specs.Types.{Process}
 use Rattle.model.specs.declared.Statistics.{Statistics}
 use Rattle.model.specs.Summaries.{statistics_of, one_refused, counts_after, waited_on, clears, cleared_by, waited_by, refused_counted}
 use Rattle.statistics.specs.Countings.{Room, accepted_after}
 use Rattle.statistics.specs.Waitings.{longer_by}
 use Rattle.statistics.proofs.Laws.{refused-after, accepted-after}
-use Rattle.layout.specs.Encodings.{counts_length, refused_place, waited_place, summary_length, statistics_numbers, statistics_in}
+use Rattle.layout.specs.Encodings.{summary_counts, counts_length, refused_place, waited_place, summary_length, statistics_numbers, statistics_in}
 use Rattle.layout.specs.Places.{counts_put}
 use Rattle.layout.proofs.Numbers.{summary_numbers_told}
 use Rattle.layout.proofs.Storing.{counts_stored, waits_stored, wait_stored, refused_stored}
-use Rattle.model.proofs.Lists.{drop_end}
 use Rattle.model.proofs.Tests.{by_test}
-use Rattle.theory.proofs.Waits.{length_waited_on, waited_on_zero}
+use Rattle.theory.proofs.Waits.{waited_on_zero}
 use Rattle.rules.specs.Judging.{slot_of}
 use Rattle.rules.proofs.Slots.{slot_in}
 use Rattle.layout.specs.Countings.{wait_in, counts_counted, waited_put, cleared_in, accepted_in, refused_in}
@@ -80,20 +79,12 @@ waits_kept (_ ∷ _ ∷ _ ∷ []) k = refl
 waits_kept (_ ∷ _ ∷ _ ∷ _ ∷ []) k = refl
 waits_kept (_ ∷ _ ∷ _ ∷ _ ∷ _ ∷ rest) k = refl
 
--- put back in their place, those that were gone over are the waits so far
-pub waits_put : (l : List ℕ) → length l ≡ summary_length → {new : List ℕ} (qs : List Process) (d : ℕ)
-    → new ≡ waited_on d qs (take (summary_length - counts_length) (drop counts_length l))
-    → take counts_length l ++ (new ++ drop (summary_length - counts_length) (drop counts_length l)) ≡ waited_put l qs d
-waits_put l long {new} qs d e =
-    let none = drop_end (drop counts_length l) (summary_length - counts_length) (omega (arith, length-drop counts_length l))
-    (omega (arith, length-drop counts_length l)) in
-    rw (none, append-nil new, e, waits_part l long)
+-- the counts that are stored, by what was read and counted
+pub counts_told : (l : List ℕ) → length l ≡ summary_length → (act p d : ℕ) {slot waited : ℕ} {k k' : Counts} {new : List ℕ}
+    → slot ≡ slot_of p → waited ≡ get_or l (waited_place slot) 0 → k ≡ summary_counts l → k' ≡ accepted_after k act (longer_by d waited)
+    → new ≡ counts_put l k' → new ≡ counts_counted l act p d
+counts_told l long act p d slot-is waited-is k-is counted put = put ∙ rw (counted, k-is, waited-is, slot-is)
 
 -- where no time is unused they stand
 pub waits_rest : (l : List ℕ) (qs : List Process) {d : ℕ} → d ≡ 0 → l ≡ waited_put l qs d
 waits_rest l qs e = sym (rw (e, waited_on_zero qs (drop counts_length l)) (take-append-drop counts_length l))
-
-pub put_length : (l : List ℕ) (qs : List Process) (d : ℕ) → length l ≡ summary_length → length (waited_put l qs d) ≡ summary_length
-put_length l qs d long =
-    length-append (take counts_length l) (waited_on d qs (drop counts_length l))
-    ∙ omega (arith, length_waited_on d qs (drop counts_length l), length-take-le counts_length l (omega arith), length-drop counts_length l)

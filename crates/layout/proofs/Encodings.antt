@@ -2,7 +2,7 @@
 -- lent list. Assumes nothing.
 use Rattle.std.proofs.Common.{◌≡◌, ℕ, ◌≤◌, true, leb, List, ◌++◌, length, take, drop, ap, ◌∙◌, arith, length-append, length-take-le, take_at, leb-true}
 use Rattle.model.specs.declared.Parameters.{Parameters}
-use Rattle.model.specs.declared.State.{State}
+use Rattle.model.specs.Types.{State}
 use Rattle.model.specs.declared.Statistics.{Statistics}
 use Rattle.model.specs.States.{sound_of}
 use Rattle.model.specs.Answers.{step_of}

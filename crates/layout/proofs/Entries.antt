@@ -4,9 +4,9 @@ use Rattle.std.proofs.Common.{◌≡◌, ℕ, zero, suc, ◌+◌, ◌*◌, ◌<�
 use Rattle.std.proofs.Common.{sym, refl, ap, ◌∙◌, arith, length-drop, get_or-drop, ne_eqb}
 use mathlib.Core.Bool.{and-false, and_assoc}
 use borrow.Author.Tests.{lt-leb}
-use Rattle.model.specs.declared.Location.{Location}
-use Rattle.model.specs.declared.Process.{Process}
-use Rattle.model.specs.declared.State.{State}
+use Rattle.model.specs.Types.{Location}
+use Rattle.model.specs.Types.{Process}
+use Rattle.model.specs.Types.{State}
 use Rattle.model.specs.Stages.{remainder, testing, setting, checking, entering, critical, resetting}
 use Rattle.model.specs.States.{entry, stage_of, entry_sound, entries_sound, location_at}
 use Rattle.layout.specs.Encodings.{header_length, stride, table_length, stage_place, since_place, processes_in, state_in, tells_entry, are_entries}

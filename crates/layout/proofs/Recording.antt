@@ -1,9 +1,12 @@
 -- What the recorded step gives back on lent lists, of which the first numbers are the table and the summary. Assumes nothing.
 use Rattle.std.proofs.Common.{◌≡◌, ℕ, ◌+◌, ◌-◌, ◌^◌, ◌<◌, ◌≤◌, true, false, ◌≢◌, List, [], ◌++◌, length, get_or, take, drop, sym, refl, ap}
 use Rattle.std.proofs.Common.{◌∙◌, append-nil, arith, length-take-le, le-ltb, lt-ltb, eq-eqb, ne_eqb}
-use Rattle.model.specs.declared.State.{State}
+use Rattle.std.specs.Prelude.{Option, Some, None}
+use Rattle.model.specs.declared.Refusal.{Refusal}
+use Rattle.model.specs.Refusals.{code_of}
+use Rattle.model.specs.Types.{State}
 use Rattle.model.specs.declared.Answer.{Answer}
-use Rattle.model.specs.declared.Outcome.{Outcome}
+use Rattle.model.specs.Types.{Outcome}
 use Rattle.model.specs.declared.Recorded.{Recorded}
 use Rattle.model.specs.declared.Statistics.{Statistics}
 use Rattle.model.specs.Answers.{answer_of, answers, step_of}
@@ -115,16 +118,15 @@ module _ (table summary : List ℕ) (act p m : ℕ) where
       unfolding statistics_in state_in
       fault_is = refl
 
-      module _ {fault : ℕ} (is : fault ≡ fault_in counts_first (clock_in (take table_length table))) where
-        pub record_refused : fault ≢ 0 → {r : Answer} → r ≡ answer_of fault 0 0
-            → record_gave r table summary ≡ lent_record table summary act p m
-        record_refused n f =
-            let same : fault ≡ fault_of s.clock x = is ∙ fault_is in
-            gives {r = beside x (answers fault 0 0 s)}
-            ((λ i. beside x (answers (same i) 0 0 s)) ∙ sym (recorded_fault s x act p m (λ z. n (same ∙ z)) ∙ rw (table_is_sound table sound)))
-            f (sym (numbers_come_back table (sound_is_table table sound))) (sym (summary_numbers_come_back summary fits))
+      module _ {fault : Option Refusal} (is : fault ≡ fault_in counts_first (clock_in (take table_length table))) where
+        pub record_refused : (refusal : Refusal) → fault ≡ Some refusal
+            → record_gave (answer_of (code_of refusal) 0 0) table summary ≡ lent_record table summary act p m
+        record_refused refusal e =
+            gives {r = beside x (answers (code_of refusal) 0 0 s)}
+            (sym (recorded_fault s x act p m refusal (sym fault_is ∙ sym is ∙ e) ∙ rw (table_is_sound table sound)))
+            refl (sym (numbers_come_back table (sound_is_table table sound))) (sym (summary_numbers_come_back summary fits))
 
-        module _ (none : fault ≡ 0) where
+        module _ (none : fault ≡ None) where
           has_room : HasRoom s.clock x
           has_room = no_fault_room s.clock x (sym fault_is ∙ sym is ∙ none)
 

@@ -1,16 +1,15 @@
 -- Writing the numbers of a table: those before the entries, and then entry by entry; after i of them, those of the entries that are left
 -- complete what is written. Assumes nothing.
 use Rattle.std.proofs.Common.{◌≡◌, ℕ, ◌+◌, ◌*◌, ◌<◌, ◌≤◌, List, [], ◌∷◌, ◌++◌, length, get_or, take, drop, set, sym, ap, ◌∙◌, append-nil}
-use Rattle.std.proofs.Common.{arith, length-append, length-drop, length-set, length-take-le, take_all, drop-drop, take_at, le-ltb, lt-ltb}
+use Rattle.std.proofs.Common.{arith, length-append, length-drop, length-set, length-take-le, take_all, take_at, le-ltb}
 use lib.Seq.{sets-eq}
-use Rattle.model.specs.declared.Process.{Process}
+use Rattle.model.specs.Types.{Process}
 use Rattle.model.specs.declared.Parameters.{Parameters}
-use Rattle.model.specs.declared.State.{State}
+use Rattle.model.specs.Types.{State}
 use Rattle.model.specs.States.{stage_of, since_of}
-use Rattle.model.specs.Readings.{over}
 use Rattle.layout.specs.Encodings.{count_place, b_place, c_place, clock_place, word_place, limits_place, header_length, stride, table_length, header_put}
 use Rattle.layout.specs.Encodings.{process_numbers, header_numbers, state_numbers}
-use Rattle.model.proofs.Lists.{drop_at, drop_end, copied_whole}
+use Rattle.model.proofs.Lists.{drop_at, drop_end}
 use Rattle.layout.specs.Places.{placed_at}
 use Rattle.layout.proofs.Lists.{fill_pair}
 use Rattle.layout.proofs.Numbers.{header_long}
@@ -24,41 +23,24 @@ pub record EntriesWritten (s : State) (l : List ℕ) (i : ℕ) : Type 0 where
 
 -- What stands before the entries, as it is stored
 
-module _ (l : List ℕ) (k : Parameters) (clock word : ℕ) where
-  -- the five numbers before the values of a
-  abbrev five : List ℕ
-  five = set (set (set (set (set l count_place k.n) b_place k.b) c_place k.c) clock_place clock) word_place word
-
-  -- where the values of a go
-  abbrev part : List ℕ
-  part = take 96 (drop limits_place five)
-
-  module _ (size : length k.a ≡ 96) (fits : header_length ≤ length l) where
-    five_is : five ≡ k.n ∷ k.b ∷ k.c ∷ clock ∷ word ∷ drop limits_place l
-    five_is = sets-eq (k.n ∷ k.b ∷ k.c ∷ clock ∷ word ∷ []) l 0 (omega arith)
-
-    part_long : length part ≡ length k.a
-    part_long =
-        ap (λ (r : List ℕ). length (take 96 (drop limits_place r))) five_is
-        ∙ length-take-le 96 (drop limits_place l) (omega (arith, length-drop limits_place l)) ∙ sym size
-
-    pub header_stored : {new : List ℕ} → new ≡ over (take (length part) k.a) part
-        → take limits_place five ++ (new ++ drop 96 (drop limits_place five)) ≡ header_put l k clock word
-    header_stored {new} e =
-        let own : new ≡ k.a = e ∙ copied_whole k.a part part_long in
-        let behind : drop 96 (drop limits_place l) ≡ drop (length (header_numbers k clock word)) l =
-        drop-drop 96 limits_place l ∙ ap (λ (j : ℕ). drop j l) (sym (header_long k size clock word)) in
-        (λ i. take limits_place (five_is i) ++ (own i ++ drop 96 (drop limits_place (five_is i))))
-        ∙ ap (λ (r : List ℕ). header_numbers k clock word ++ r) behind
-        ∙ sym (rw (le-ltb (length l) header_length fits))
-
-  pub header_left : length l < header_length → l ≡ header_put l k clock word
-  header_left short = sym (rw (lt-ltb (length l) header_length short))
-
--- what stands before the entries is put, in a table and in a deadline table alike
 module _ (l : List ℕ) (k : Parameters) (size : length k.a ≡ 96) (clock word : ℕ) (fits : header_length ≤ length l) where
   put_is : header_put l k clock word ≡ header_numbers k clock word ++ drop header_length l
   put_is = rw (le-ltb (length l) header_length fits) (ap (λ (j : ℕ). header_numbers k clock word ++ drop j l) (header_long k size clock word))
+
+  -- five numbers before the values of a, over those that stand there
+  abbrev five : List ℕ → List ℕ
+  five h = set (set (set (set (set h count_place k.n) b_place k.b) c_place k.c) clock_place clock) word_place word
+
+  pub header_stored : {h new : List ℕ} → h ≡ take header_length l → new ≡ k.a
+      → (take limits_place (five h) ++ (new ++ drop 96 (drop limits_place (five h)))) ++ drop header_length l ≡ header_put l k clock word
+  header_stored {h} {new} first own =
+      let long : length h ≡ header_length = ap length first ∙ length-take-le header_length l fits in
+      let five_is : five h ≡ k.n ∷ k.b ∷ k.c ∷ clock ∷ word ∷ drop limits_place h =
+      sets-eq (k.n ∷ k.b ∷ k.c ∷ clock ∷ word ∷ []) h 0 (omega arith) in
+      let none : drop 96 (drop limits_place h) ≡ [] =
+      drop_end (drop limits_place h) 96 (omega (arith, length-drop limits_place h)) (omega (arith, length-drop limits_place h)) in
+      (λ i. (take limits_place (five_is i) ++ (own i ++ drop 96 (drop limits_place (five_is i)))) ++ drop header_length l)
+      ∙ rw (none, append-nil k.a) (sym put_is)
 
   pub header-put : take header_length (header_put l k clock word) ≡ header_numbers k clock word
   header-put = ap (take header_length) put_is ∙ take_at (header_numbers k clock word) (drop header_length l) header_length (header_long k size clock word)

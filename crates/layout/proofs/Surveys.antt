@@ -1,23 +1,22 @@
 -- The pass over the numbers of a table finds what the pass over the entries of the state finds that they tell, or a fault where they tell
 -- no sound one. Assumes nothing.
 use Rattle.std.proofs.Common.{◌≡◌, ℕ, zero, suc, ◌+◌, ◌-◌, ◌*◌, ◌<◌, ◌≤◌, Bool, true, false, cond, not, ◌&&◌, eqb, ◌≢◌, List, length}
-use Rattle.std.proofs.Common.{get_or, take, drop, sym, refl, ap, ◌∙◌, subst, arith, length-drop, length-take-le, get_or-drop, eq-eqb}
+use Rattle.std.proofs.Common.{get_or, take, drop, sym, refl, ap, ◌∙◌, subst, arith, length-drop, length-take-le, get_or-drop, get_or-take, eq-eqb}
 use Rattle.std.proofs.Common.{ne_eqb, eqb-true}
 use mathlib.Core.Bool.{and-false}
 use borrow.Author.Tests.{eqb-false, not-true, not-false}
-use Rattle.model.specs.declared.Location.{Location}
+use Rattle.model.specs.Types.{Location}
 use Rattle.model.specs.declared.Location.TheVariants.{Remainder}
 use Rattle.model.specs.declared.Parameters.{Parameters}
-use Rattle.model.specs.declared.Process.{Process}
-use Rattle.model.specs.declared.State.{State}
+use Rattle.model.specs.Types.{Process}
+use Rattle.model.specs.Types.{State}
 use Rattle.model.specs.States.{idle, limit_at, entries_sound, sound_of, location_at}
-use Rattle.layout.specs.Encodings.{header_length, stride, table_length, stage_place, count_in, limits_told, table_parameters, clock_in, word_in}
+use Rattle.layout.specs.Encodings.{limits_place, stride, table_length, stage_place, count_in, limits_told, table_parameters, clock_in, word_in}
 use Rattle.layout.specs.Encodings.{processes_in, state_in, are_entries}
-use Rattle.layout.specs.Places.{numbers_at, entries_in, tells_location, entry_in, location_in, entries_from, first_entries}
+use Rattle.layout.specs.Places.{entries_in, tells_location, entry_in, location_in, entries_from, first_entries}
 use Rattle.values.specs.Bits.{are_zero}
 use Rattle.layout.proofs.Entries.{left_sound, entry-in, entries_size, next_told, left-sound, above_are_zero, entries_next, entries_end, first_next}
 use Rattle.layout.proofs.Entries.{zero_at, zeros_tell}
-use Rattle.layout.proofs.Numbers.{limits_size}
 use Rattle.model.proofs.Lists.{part_is}
 use Rattle.model.proofs.Tests.{by_test, by_cond, tests, and_true_iff, clash}
 use Rattle.rules.specs.declared.survey.Scene.{Scene}
@@ -174,22 +173,37 @@ module _ (l : List ℕ) (long : length l ≡ table_length) (acting : ℕ) where
       (by_cond (Found l acting) (not (are_zero (entries_from l n))) (λ z. unsound_found (above_fault l long n refl few (not-true _ z)))
       (λ z. all_found (not-false _ z) few a))
 
--- Of the loop: the next entry of a list, and its end
+-- Of the loop over the first entries of a table: the next one, and the end
 
-module _ (a : List ℕ) (x : Scene) where
-  -- it is that of process k, whose a has the place j
-  pub noted_next : (k j : ℕ) → k ≡ j + 1 → (ns : List ℕ) (i : ℕ) (f g : Survey) → i + 1 < length ns
-      → g ≡ numbers_noted x k (numbers_at ns i).stage (numbers_at ns i).since (get_or a j 0) f
-      → entries_noted a x k (entries_in (drop i ns)) f
-      ≡ cond (eqb g.faulty 0) (entries_noted a x (k + 1) (entries_in (drop (i + stride) ns)) g) unsound
+module _ (l : List ℕ) (long : length l ≡ table_length) (count : ℕ) (few : count ≤ 96) (x : Scene) where
+  -- the numbers of the first entries
+  abbrev ns : List ℕ
+  ns = first_entries count (entries_from l 0)
+
+  ns_long : length ns ≡ stride * count
+  ns_long = length-take-le (stride * count) (entries_from l 0) (omega (arith, length-drop (stage_place 0) l))
+
+  -- those from the entry i on, of which g is found of the first after f
+  pub entry_noted : (i : ℕ) → i < count → (f g : Survey)
+      → g ≡ numbers_noted x (i + 1) (entry_in l i).stage (entry_in l i).since (get_or l (limits_place + i) 0) f
+      → entries_noted (limits_told l) x (i + 1) (entries_in (drop (stride * i) ns)) f
+      ≡ cond (eqb g.faulty 0) (entries_noted (limits_told l) x (i + 1 + 1) (entries_in (drop (stride * (i + 1)) ns)) g) unsound
   unfolding entries_noted limit_at
-  noted_next k j own ns i f g h e =
-      let at : k - 1 ≡ j = omega arith in
-      rw (e, entries_next ns i h, at)
+  entry_noted i more f g e =
+      let at : i + 1 - 1 ≡ i = omega arith in
+      let next : stride * i + stride ≡ stride * (i + 1) = omega arith in
+      let limit : get_or (limits_told l) i 0 ≡ get_or l (limits_place + i) 0 =
+      get_or-take 96 (drop limits_place l) i 0 (omega arith) ∙ get_or-drop limits_place l i 0 in
+      let stage : get_or ns (stride * i) 0 ≡ (entry_in l i).stage =
+      get_or-take (stride * count) (entries_from l 0) (stride * i) 0 (omega arith) ∙ get_or-drop (stage_place 0) l (stride * i) 0 in
+      let since : get_or ns (stride * i + 1) 0 ≡ (entry_in l i).since =
+      get_or-take (stride * count) (entries_from l 0) (stride * i + 1) 0 (omega arith) ∙ get_or-drop (stage_place 0) l (stride * i + 1) 0
+      ∙ ap (λ (j : ℕ). get_or l j 0) (omega arith) in
+      rw (e, entries_next ns (stride * i) (omega (arith, ns_long)), at, next, limit, stage, since)
 
-  pub noted_end : (k : ℕ) (ns : List ℕ) (i : ℕ) (f : Survey) → length ns ≡ i → entries_noted a x k (entries_in (drop i ns)) f ≡ f
+  pub all_noted : (i : ℕ) → count ≡ i → (f : Survey) → entries_noted (limits_told l) x (i + 1) (entries_in (drop (stride * i) ns)) f ≡ f
   unfolding entries_noted
-  noted_end k ns i f e = rw (entries_end ns i e)
+  all_noted i e f = rw (entries_end ns (stride * i) (omega (arith, ns_long)))
 
 -- All of it
 
@@ -209,23 +223,8 @@ survey_found l long acting =
 
 -- Of the function: what it gives back, from what the functions that it calls ensure
 
--- the two parts that are lent of it, up to n, are as long as it is asked
-pub parts_long : (l : List ℕ) → length l ≡ table_length → count_in l ≤ 96 → (n end : ℕ) → n ≡ count_in l → end ≡ stage_place (count_in l)
-    → (length (take (end - header_length) (drop header_length l)) ≡ stride * n) × (n ≤ length (limits_told l))
-parts_long l long few n end n-is end_is = (
-  length-take-le (end - header_length) (drop header_length l) (omega (arith, length-drop header_length l)) ∙ omega arith,
-  omega (arith, limits_size l (omega arith)),
-)
-
 module _ (l : List ℕ) (acting : ℕ) where
-  -- the part that is lent is the entries up to n
-  pub pass_is : {x : Scene} {end : ℕ} {f : Survey} → x ≡ scene_in l acting → end ≡ stage_place (count_in l)
-      → f ≡ entries_noted (limits_told l) x 1 (entries_in (take (end - header_length) (drop header_length l))) nothing → f ≡ pass_in l acting
-  pass_is {end = end} x-is end_is f-is =
-      let e : end - header_length ≡ stride * count_in l = omega arith in
-      rw (x-is, e) at f-is
-
-  -- and the other part those above
+  -- the part that is lent is the entries above n
   pub above_is : {end : ℕ} {t : Bool} → length l ≡ table_length → end ≡ stage_place (count_in l)
       → t ≡ are_zero (take (table_length - end) (drop end l)) → t ≡ are_zero (entries_from l (count_in l))
   above_is {end = end} long end_is t-is =

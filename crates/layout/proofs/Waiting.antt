@@ -1,17 +1,16 @@
 -- The stages of entries that lie as numbers, and what a sound table tells of them: what going over the waits so far asks for.
 -- Assumes nothing.
-use Rattle.std.proofs.Common.{◌≡◌, ℕ, zero, suc, ◌-◌, ◌*◌, ◌<◌, ◌≤◌, true, leb, List, [], ◌∷◌, length, get_or, take, drop, sym, refl, ap}
-use Rattle.std.proofs.Common.{◌∙◌, arith, length-drop, take_all}
-use Rattle.model.specs.declared.Process.{Process}
+use Rattle.std.proofs.Common.{◌≡◌, ℕ, zero, suc, ◌*◌, ◌≤◌, true, leb, List, [], ◌∷◌, length, take, drop, sym, refl, ap}
+use Rattle.std.proofs.Common.{◌∙◌, arith, get_or-drop, take_all}
+use Rattle.model.specs.Types.{Process}
 use Rattle.model.specs.Stages.{remainder}
-use Rattle.model.specs.States.{idle}
 use Rattle.theory.specs.Soundness.{Sound}
 use Rattle.theory.proofs.Soundness.{sound_iff_plain}
 use Rattle.statistics.specs.Waitings.{stage_at}
-use Rattle.statistics.proofs.Waits.{stage_few}
 use Rattle.statistics.proofs.Counted.{past_rests}
 use Rattle.layout.specs.Encodings.{header_length, stride, table_length, count_in, process_numbers, processes_in, state_in, are_entries}
 use Rattle.layout.specs.Encodings.{is_table, is_sound_table}
+use Rattle.layout.specs.Places.{entry_in}
 use Rattle.layout.specs.Countings.{stage_in}
 use Rattle.layout.proofs.Numbers.{entries-told}
 use Rattle.layout.proofs.Encodings.{sound_is_table, table_is_sound}
@@ -27,11 +26,8 @@ stage_numbers (q ∷ qs) (suc i) =
     rw e (stage_numbers qs i)
 
 module _ (l : List ℕ) (told : are_entries l ≡ true) (i : ℕ) where
-  pub stage-in : stage_in l i ≡ stage_at (processes_in l) i
+  stage-in : stage_in l i ≡ stage_at (processes_in l) i
   stage-in = ap (λ (k : List ℕ). stage_in k i) (sym (entries-told l told)) ∙ stage_numbers (processes_in l) i
-
-  pub stage_in_few : stage_in l i < 8
-  stage_in_few = omega (arith, stage-in, stage_few (get_or (processes_in l) i idle).location)
 
 -- A sound table that is no longer than its numbers
 
@@ -46,25 +42,14 @@ module _ (table : List ℕ) (long : length table ≡ table_length) (sound : is_s
   sound_state : Sound (state_in table)
   sound_state = (sound_iff_plain (state_in table)).0 (rw whole at (table_is_sound table sound))
 
-  -- the part that is lent of it is its entries
-  entries_part : take (table_length - header_length) (drop header_length table) ≡ drop header_length table
-  entries_part = take_all (table_length - header_length) (drop header_length table) (omega (arith, length-drop header_length table))
-
-  pub part_long : length (take (table_length - header_length) (drop header_length table)) ≡ stride * 96
-  part_long = rw entries_part (length-drop header_length table ∙ omega arith)
-
-  pub part_told : are_entries (take (table_length - header_length) (drop header_length table)) ≡ true
-  part_told = rw entries_part told
-
-  pub part_processes : processes_in (take (table_length - header_length) (drop header_length table)) ≡ (state_in table).processes
-  unfolding state_in
-  part_processes = ap processes_in entries_part
-
   pub few_processes : count_in table ≤ 96
   unfolding state_in
   few_processes = sound_state.parameters.count.most
 
-  pub past_part : (i : ℕ) → count_in table ≤ i
-      → stage_at (processes_in (take (table_length - header_length) (drop header_length table))) i ≡ remainder
+  pub past_count : (i : ℕ) → count_in table ≤ i → stage_at (state_in table).processes i ≡ remainder
   unfolding state_in
-  past_part i h = rw part_processes (past_rests (state_in table) sound_state i h)
+  past_count i h = past_rests (state_in table) sound_state i h
+
+  pub stage_read : (i : ℕ) → (entry_in table i).stage ≡ stage_at (state_in table).processes i
+  unfolding state_in
+  stage_read i = sym (get_or-drop header_length table (stride * i) 0) ∙ stage-in (drop header_length table) told i

@@ -1,8 +1,10 @@
 -- What is read of a lent summary, and what counting makes of it, on the numbers themselves. For the proofs only. `proofs/` relates
 -- these definitions to the recorded step of the model. Assumes nothing.
-use Rattle.std.specs.Prelude.{ℕ, ◌*◌, cond, List, ◌++◌, take, drop, slice_index, slice_set}
-use Rattle.model.specs.declared.Process.{Process}
-use Rattle.model.specs.declared.Answer.{Answer}
+use Rattle.std.specs.Prelude.{ℕ, ◌*◌, cond, List, ◌++◌, take, drop, slice_index, slice_set, Option, Result, Ok, Err}
+use Rattle.model.specs.Types.{Process}
+use Rattle.model.specs.declared.Refusal.{Refusal}
+use Rattle.model.specs.Answers.{answer_of}
+use Rattle.model.specs.Refusals.{code_of}
 use Rattle.model.specs.Summaries.{waited_sound, waited_on, clears}
 use Rattle.rules.specs.Judging.{slot_of}
 use Rattle.statistics.specs.Countings.{fault_by, refused_after, accepted_after}
@@ -11,8 +13,8 @@ use Rattle.layout.specs.declared.Entered.{Entered}
 use Rattle.layout.specs.Encodings.{stride, summary_counts, counts_length, refused_place, waited_place}
 use Rattle.layout.specs.Places.{counts_put}
 
--- 2 or 3, or 0 where an act can be counted
-abbrev pub fault_in : List ℕ → ℕ → ℕ
+-- the refusal 2 or 3, or none where an act can be counted
+abbrev pub fault_in : List ℕ → ℕ → Option Refusal
 fault_in l clock = fault_by (summary_counts l) (waited_sound clock (drop counts_length l))
 
 -- the stage of the entry at a place, in the numbers of the entries
@@ -43,6 +45,7 @@ accepted_in l qs act p d = cleared_in (waited_put (counts_counted l act p d) qs 
 unfoldable pub refused_in : List ℕ → List ℕ
 refused_in l = slice_set l refused_place (refused_after (summary_counts l)).refused
 
--- a refusal ends no wait
-abbrev pub refused_with : Answer → Entered
-refused_with r = record { answer = r; wait = 0 }
+-- what a recorded step hands on, by what it gave or was refused with: a refusal ends no wait
+abbrev pub entered_with : Result Entered Refusal → Entered
+entered_with (Ok entered) = entered
+entered_with (Err refusal) = record { answer = answer_of (code_of refusal) 0 0; wait = 0 }

@@ -4,7 +4,7 @@
 use Rattle.std.specs.Prelude.{ℕ, cond, not, List, length, ◌==◌, nat_lt}
 use Rattle.model.specs.declared.Parameters.{Parameters}
 use Rattle.model.specs.declared.Answer.{Answer}
-use Rattle.model.specs.declared.Outcome.{Outcome}
+use Rattle.model.specs.Types.{Outcome}
 use Rattle.model.specs.declared.Recorded.{Recorded}
 use Rattle.model.specs.Answers.{answer_of, fresh_of, step_of}
 use Rattle.model.specs.Readings.{over}

@@ -1,7 +1,7 @@
 -- The numbers of an entry, and what the functions that write places make of a list. For the proofs only. `proofs/` relates these
 -- definitions to the encodings. Assumes nothing.
 use Rattle.std.specs.Prelude.{ℕ, ◌+◌, ◌*◌, Bool, List, [], ◌∷◌, take, drop, set, slice_index, slice_set}
-use Rattle.model.specs.declared.Location.{Location}
+use Rattle.model.specs.Types.{Location}
 use Rattle.model.specs.declared.Counts.{Counts}
 use Rattle.model.specs.States.{stage_of, since_of, location_at}
 use Rattle.layout.specs.Encodings.{clock_place, word_place, stride, stage_place, since_place, tells_entry}

@@ -11,15 +11,14 @@ ghost use Rattle.std.specs.Prelude.{◌≡◌};
 ghost use Rattle.layout.specs.Encodings.{is_sound_table};
 ghost use Rattle.layout.specs.Interface.{lent_gave, lent_fresh, lent_step, record_gave, lent_record, summary_gave, lent_summary, entry_gave, lent_entry};
 ghost use Rattle.layout.specs.Layouts.{layout_number};
-ghost use Rattle.layout.specs.Countings.{refused_with};
+ghost use Rattle.layout.specs.Countings.{entered_with};
 
 use crate::counts::{count_accepted, count_refused, fault_of};
 use crate::steps::{act, survey_table};
 use crate::summaries::{SUMMARY, clear};
 use crate::tables::{CLOCK, TABLE, put_table};
-use model::{Answer, Parameters};
+use model::{Answer, Parameters, Refusal};
 use statistics::waiting::unused_time;
-use values::answer_with;
 
 // [9.15]
 const LAYOUT: u64 = 3;
@@ -40,10 +39,10 @@ pub fn fresh(parameters: Parameters, table: &mut [u64]) -> Answer
     if answer.code != 0 {
         return answer;
     }
-    if table.len() < TABLE {
-        return answer_with(16, 0, 0);
-    }
-    put_table(&mut table[..TABLE], outcome.state);
+    let Some(table) = table.first_chunk_mut::<TABLE>() else {
+        return Answer::from(Refusal::ShortOutput);
+    };
+    put_table(table, &outcome.state);
     answer
 }
 
@@ -51,10 +50,10 @@ pub fn fresh(parameters: Parameters, table: &mut [u64]) -> Answer
 pub fn is_sound(table: &[u64]) -> bool
     ensures { result ≡ is_sound_table table.now }
 {
-    if table.len() < TABLE {
+    let Some(table) = table.first_chunk::<TABLE>() else {
         return false;
-    }
-    let found = survey_table(&table[..TABLE], 0);
+    };
+    let found = survey_table(table, 0);
     found.faulty == 0
 }
 
@@ -62,22 +61,22 @@ pub fn is_sound(table: &[u64]) -> bool
 pub fn step(table: &mut [u64], action: u64, process: u64, time: u64) -> Answer
     ensures { lent_gave result table.new ≡ lent_step table.old action process time }
 {
-    if table.len() < TABLE {
-        return answer_with(1, 0, 0);
-    }
-    let found = survey_table(&table[..TABLE], process);
-    act(&mut table[..TABLE], found, action, process, time)
+    let Some(table) = table.first_chunk_mut::<TABLE>() else {
+        return Answer::from(Refusal::NoTable);
+    };
+    let found = survey_table(table, process);
+    act(table, found, action, process, time)
 }
 
 // [9.70] [21.110] A new summary, in the lent numbers.
 pub fn new_summary(summary: &mut [u64]) -> Answer
     ensures { summary_gave result summary.new ≡ lent_summary summary.old }
 {
-    if summary.len() < SUMMARY {
-        return answer_with(16, 0, 0);
-    }
-    clear(&mut summary[..SUMMARY]);
-    answer_with(0, 0, 0)
+    let Some(summary) = summary.first_chunk_mut::<SUMMARY>() else {
+        return Answer::from(Refusal::ShortOutput);
+    };
+    clear(summary);
+    Answer::accepted(0, 0)
 }
 
 // [9.80] [21.110] One act, in the lent table, counted in the lent summary.
@@ -102,17 +101,44 @@ pub struct Entered {
     pub wait: u64,
 }
 
-// A refusal ends no wait.
-fn refused(answer: Answer) -> Entered
-    ensures { result ≡ refused_with answer }
+// [5.90] [9.80] [10.200] The recorded step, refused with 1, 2 or 3 where table and summary do not stand: they are judged before either is
+// written.
+fn enter(
+    table: &mut [u64],
+    summary: &mut [u64],
+    action: u64,
+    process: u64,
+    time: u64,
+) -> Result<Entered, Refusal>
+    ensures { let entered = entered_with result in
+        entry_gave (record_gave entered.answer table.new summary.new) entered.wait
+        ≡ lent_entry table.old summary.old action process time }
 {
-    Entered {
-        answer: answer,
-        wait: 0,
+    let Some(table) = table.first_chunk_mut::<TABLE>() else {
+        return Err(Refusal::NoTable);
+    };
+    let found = survey_table(table, process);
+    if found.faulty != 0 {
+        return Err(Refusal::NoTable);
     }
+    let Some(summary) = summary.first_chunk_mut::<SUMMARY>() else {
+        return Err(Refusal::NoSummary);
+    };
+    let clock = table[CLOCK];
+    if let Some(refusal) = fault_of(summary, clock) {
+        return Err(refusal);
+    }
+    let answer = act(table, found, action, process, time);
+    if answer.code != 0 {
+        count_refused(summary);
+        return Ok(Entered { answer, wait: 0 });
+    }
+    let unused = unused_time(found.critical, action, clock, time);
+    let wait = count_accepted(summary, table, action, process, unused);
+    Ok(Entered { answer, wait })
 }
 
-// [5.90] [9.80] [10.200] [21.110] As `record`, with the wait. Table and summary are judged before either is written.
+// [5.90] [9.80] [10.200] [21.110] As `record`, with the wait. A refusal ends none.
 pub fn record_entry(
     table: &mut [u64],
     summary: &mut [u64],
@@ -123,36 +149,11 @@ pub fn record_entry(
     ensures { entry_gave (record_gave result.answer table.new summary.new) result.wait
         ≡ lent_entry table.old summary.old action process time }
 {
-    if table.len() < TABLE {
-        return refused(answer_with(1, 0, 0));
-    }
-    let found = survey_table(&table[..TABLE], process);
-    if found.faulty != 0 {
-        return refused(answer_with(1, 0, 0));
-    }
-    if summary.len() < SUMMARY {
-        return refused(answer_with(2, 0, 0));
-    }
-    let clock = table[CLOCK];
-    let fault = fault_of(&summary[..SUMMARY], clock);
-    if fault != 0 {
-        return refused(answer_with(fault, 0, 0));
-    }
-    let answer = act(&mut table[..TABLE], found, action, process, time);
-    if answer.code != 0 {
-        count_refused(&mut summary[..SUMMARY]);
-        return refused(answer);
-    }
-    let unused = unused_time(found.critical, action, clock, time);
-    let wait = count_accepted(
-        &mut summary[..SUMMARY],
-        &table[..TABLE],
-        action,
-        process,
-        unused,
-    );
-    Entered {
-        answer: answer,
-        wait: wait,
+    match enter(table, summary, action, process, time) {
+        Ok(entered) => entered,
+        Err(refusal) => Entered {
+            answer: Answer::from(refusal),
+            wait: 0,
+        },
     }
 }

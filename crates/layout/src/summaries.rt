@@ -1,7 +1,7 @@
 // A summary in lent numbers: accepted, refused, entries, exits, the longest wait, and then the 96 waits so far.
-ghost use Rattle.std.specs.Prelude.{◌≡◌, ◌<◌, length, slice_index, slice_set};
+ghost use Rattle.std.specs.Prelude.{◌≡◌, ◌<◌, slice_index, slice_set};
 ghost use Rattle.model.specs.Summaries.{new_statistics};
-ghost use Rattle.layout.specs.Encodings.{summary_counts, refused_place, waited_place, summary_length, statistics_numbers};
+ghost use Rattle.layout.specs.Encodings.{summary_counts, refused_place, waited_place, statistics_numbers};
 ghost use Rattle.layout.specs.Places.{counts_put};
 
 use model::Counts;
@@ -26,8 +26,7 @@ pub(crate) const SUMMARY: usize = COUNTS + 96;
 // Reading
 
 // [9.30]
-pub(crate) fn counts_in(summary: &[u64]) -> Counts
-    requires { length summary.now ≡ summary_length }
+pub(crate) fn counts_in(summary: &[u64; SUMMARY]) -> Counts
     ensures { result ≡ summary_counts summary.now }
 {
     Counts {
@@ -40,9 +39,8 @@ pub(crate) fn counts_in(summary: &[u64]) -> Counts
 }
 
 // [9.30] What the process of an entry has waited so far.
-pub(crate) fn waited_in(summary: &[u64], i: usize) -> u64
-    requires summary_len { length summary.now ≡ summary_length }
-    requires i_bound { i < 96 }
+pub(crate) fn waited_in(summary: &[u64; SUMMARY], i: usize) -> u64
+    requires { i < 96 }
     ensures { result ≡ slice_index summary.now (waited_place i) }
 {
     summary[COUNTS + i]
@@ -51,8 +49,7 @@ pub(crate) fn waited_in(summary: &[u64], i: usize) -> u64
 // Writing
 
 // [9.30]
-pub(crate) fn put_counts(summary: &mut [u64], counts: Counts)
-    requires { length summary.old ≡ summary_length }
+pub(crate) fn put_counts(summary: &mut [u64; SUMMARY], counts: Counts)
     ensures { summary.new ≡ counts_put summary.old counts }
 {
     summary[ACCEPTED] = counts.accepted;
@@ -63,30 +60,23 @@ pub(crate) fn put_counts(summary: &mut [u64], counts: Counts)
 }
 
 // [9.30] The count of refused acts alone.
-pub(crate) fn put_refused(summary: &mut [u64], refused: u64)
-    requires { length summary.old ≡ summary_length }
+pub(crate) fn put_refused(summary: &mut [u64; SUMMARY], refused: u64)
     ensures { summary.new ≡ slice_set summary.old refused_place refused }
 {
     summary[REFUSED] = refused;
 }
 
 // [9.30] What the process of an entry has waited so far.
-pub(crate) fn put_waited(summary: &mut [u64], i: usize, waited: u64)
-    requires summary_len { length summary.old ≡ summary_length }
-    requires i_bound { i < 96 }
+pub(crate) fn put_waited(summary: &mut [u64; SUMMARY], i: usize, waited: u64)
+    requires { i < 96 }
     ensures { summary.new ≡ slice_set summary.old (waited_place i) waited }
 {
     summary[COUNTS + i] = waited;
 }
 
 // [9.30] [5.20] A new summary.
-pub(crate) fn clear(summary: &mut [u64])
-    requires { length summary.old ≡ summary_length }
+pub(crate) fn clear(summary: &mut [u64; SUMMARY])
     ensures { summary.new ≡ statistics_numbers new_statistics }
 {
-    let mut i: usize = 0;
-    while i < SUMMARY {
-        summary[i] = 0;
-        i += 1;
-    }
+    *summary = [0; SUMMARY];
 }

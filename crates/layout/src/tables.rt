@@ -1,11 +1,10 @@
 // A table in lent numbers: n, b, c, clock, word, the values of a, and then of each entry its stage and its arrival.
-ghost use Rattle.std.specs.Prelude.{◌≡◌, ◌+◌, ◌<◌, ◌≤◌, length};
-ghost use Rattle.layout.specs.Encodings.{stride, table_length, stage_place, state_numbers, header_put};
-ghost use Rattle.layout.specs.Places.{numbers_at, location_in, placed_at};
+ghost use Rattle.std.specs.Prelude.{◌≡◌, ◌<◌, ◌≤◌};
+ghost use Rattle.layout.specs.Encodings.{stage_place, state_numbers, header_put};
+ghost use Rattle.layout.specs.Places.{entry_in, location_in, placed_at};
 
-use model::{Location, Parameters, State};
+use model::{Arrivals, Location, Parameters, State};
 use rules::stages::{location_at, since_of, stage_of};
-use values::copy;
 
 // [9.10] where n, b and c stand
 pub const N: usize = 0;
@@ -42,38 +41,35 @@ pub(crate) fn place_of(i: usize) -> usize
     HEADER + STRIDE * i
 }
 
-// [9.10] Of the entry whose numbers start at a place.
-pub(crate) fn stage_at(numbers: &[u64], at: usize) -> u64
-    requires { at + stride ≤ length numbers.now }
-    ensures { result ≡ (numbers_at numbers.now at).stage }
+// [9.10] Of an entry.
+pub(crate) fn stage_in(table: &[u64; TABLE], i: usize) -> u64
+    requires { i < 96 }
+    ensures { result ≡ (entry_in table.now i).stage }
 {
-    numbers[at]
+    table[place_of(i)]
 }
 
 // [9.10]
-pub(crate) fn since_at(numbers: &[u64], at: usize) -> u64
-    requires { at + stride ≤ length numbers.now }
-    ensures { result ≡ (numbers_at numbers.now at).since }
+pub(crate) fn since_in(table: &[u64; TABLE], i: usize) -> u64
+    requires { i < 96 }
+    ensures { result ≡ (entry_in table.now i).since }
 {
-    numbers[at + 1]
+    table[place_of(i) + 1]
 }
 
 // [9.10] [9.20] The location that an entry tells. A stage past leaving is taken for leaving: the survey refuses it.
-pub(crate) fn location_in(table: &[u64], i: usize) -> Location
-    requires table_len { length table.now ≡ table_length }
-    requires i_bound { i < 96 }
+pub(crate) fn location_in(table: &[u64; TABLE], i: usize) -> Location<u64>
+    requires { i < 96 }
     ensures { result ≡ location_in table.now i }
 {
-    let at = place_of(i);
-    location_at(stage_at(table, at), since_at(table, at))
+    location_at(stage_in(table, i), since_in(table, i))
 }
 
 // Writing
 
 // [9.10] The entry of a process that has come to a location.
-pub(crate) fn put_entry(table: &mut [u64], i: usize, location: Location)
-    requires table_len { length table.old ≡ table_length }
-    requires i_bound { i < 96 }
+pub(crate) fn put_entry(table: &mut [u64; TABLE], i: usize, location: Location<u64>)
+    requires { i < 96 }
     ensures { table.new ≡ placed_at table.old i location }
 {
     let at = place_of(i);
@@ -85,28 +81,22 @@ pub(crate) fn put_entry(table: &mut [u64], i: usize, location: Location)
 pub fn put_header(table: &mut [u64], parameters: Parameters, clock: u64, word: u64)
     ensures { table.new ≡ header_put table.old parameters clock word }
 {
-    if HEADER <= table.len() {
-        table[N] = parameters.n;
-        table[B] = parameters.b;
-        table[C] = parameters.c;
-        table[CLOCK] = clock;
-        table[WORD] = word;
-        copy(&mut table[LIMITS..HEADER], &parameters.a);
+    if let Some(header) = table.first_chunk_mut::<HEADER>() {
+        header[N] = parameters.n;
+        header[B] = parameters.b;
+        header[C] = parameters.c;
+        header[CLOCK] = clock;
+        header[WORD] = word;
+        header[LIMITS..].copy_from_slice(&parameters.a);
     }
 }
 
 // [9.10] A whole table.
-pub(crate) fn put_table(table: &mut [u64], state: State)
-    requires { length table.old ≡ table_length }
-    ensures { table.new ≡ state_numbers state }
+pub(crate) fn put_table(table: &mut [u64; TABLE], state: &State<Arrivals>)
+    ensures { table.new ≡ state_numbers state.now }
 {
-    let parameters = state.parameters;
-    put_header(table, parameters, state.clock, state.word);
-    let mut i: usize = 0;
-    while i < 96 {
-        let entry = state.processes[i];
-        let location = entry.location;
-        put_entry(table, i, location);
-        i += 1;
+    put_header(table, state.parameters, state.clock, state.word);
+    for (i, entry) in state.processes.iter().enumerate() {
+        put_entry(table, i, entry.location);
     }
 }

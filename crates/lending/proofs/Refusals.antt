@@ -9,8 +9,8 @@ use lib.ListN.{length, get_or, set}
 use lib.Seq.{get_or-take}
 use borrow.Author.Tests.{eq-eqb, le-ltb}
 use Rattle.model.specs.declared.Parameters.{Parameters}
-use Rattle.model.specs.declared.State.{State}
-use Rattle.model.specs.declared.Outcome.{Outcome}
+use Rattle.model.specs.Types.{State}
+use Rattle.model.specs.Types.{Outcome}
 use Rattle.model.specs.Answers.{answer_of, fresh_of}
 use Rattle.model.specs.Readings.{over}
 use Rattle.model.specs.Summaries.{refused_counted}

@@ -1,6 +1,6 @@
 -- A call, and a list of them, leaves a table its 96 values of a and its 96 entries. Assumes nothing.
 use mathlib.Core.List.{List}
-use Rattle.model.specs.declared.State.{State}
+use Rattle.model.specs.Types.{State}
 use Rattle.model.specs.Calls.{Call, table_of, run_of}
 use Rattle.lists.proofs.Calls.{call_keeps, run_keeps}
 use Rattle.layout.specs.Numbers.{IsWhole}

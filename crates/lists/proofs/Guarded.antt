@@ -4,7 +4,7 @@ use Prim.Native.Nat.{ℕ}
 use mathlib.Core.Path.{subst}
 use mathlib.Core.List.{List}
 use Rattle.model.specs.declared.Parameters.{Parameters}
-use Rattle.model.specs.declared.State.{State}
+use Rattle.model.specs.Types.{State}
 use Rattle.model.specs.Answers.{step_of}
 use Rattle.model.specs.Facts.{Accepted, IsFresh}
 use Rattle.model.specs.Calls.{Call, table_of, run_of}

@@ -3,9 +3,9 @@ use Prim.Native.Nat.{ℕ, zero, suc, ◌+◌, ◌≤◌}
 use mathlib.Core.Path.{◌≡◌, refl, ap}
 use mathlib.Core.Logic.{⊎_elim, ◌≢◌}
 use native.Mathlib.Omega.{arith}
-use Rattle.model.specs.declared.Location.{Location}
-use Rattle.model.specs.declared.Process.{Process}
-use Rattle.model.specs.declared.State.{State}
+use Rattle.model.specs.Types.{Location}
+use Rattle.model.specs.Types.{Process}
+use Rattle.model.specs.Types.{State}
 use Rattle.model.specs.Acts.{crit_act}
 use Rattle.model.specs.States.{since_of}
 use Rattle.theory.specs.Soundness.{Sound}

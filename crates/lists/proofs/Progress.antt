@@ -4,8 +4,8 @@ use Prim.Native.Nat.{ℕ, ◌+◌, ◌≤◌}
 use mathlib.Core.Path.{refl, subst}
 use mathlib.Core.Logic.{inl, inr, ◌↔◌}
 use native.Mathlib.Omega.{arith}
-use Rattle.model.specs.declared.Location.{Location}
-use Rattle.model.specs.declared.State.{State}
+use Rattle.model.specs.Types.{Location}
+use Rattle.model.specs.Types.{State}
 use Rattle.model.specs.Acts.{wait_act, test_act, set_act, check_act, crit_act, reset_act, rem_act}
 use Rattle.model.specs.Answers.{step_of}
 use Rattle.model.specs.Facts.{Accepted, LeadsOn, Deadline, HasDeadline}

@@ -2,8 +2,8 @@
 -- sentence. Assumes nothing.
 use Rattle.std.specs.Prelude.{ℕ, ◌+◌, ◌*◌, ◌≤◌, ◌<◌, ◌≡◌, ◌⊎◌, ◌≢◌, ◌↔◌, true, List, [], ◌∷◌, ◌++◌}
 use Rattle.model.specs.declared.Parameters.{Parameters}
-use Rattle.model.specs.declared.State.{State}
-use Rattle.model.specs.declared.Outcome.{Outcome}
+use Rattle.model.specs.Types.{State}
+use Rattle.model.specs.Types.{Outcome}
 use Rattle.model.specs.declared.Recorded.{Recorded}
 use Rattle.model.specs.States.{largest_limit, last_time, sound_of}
 use Rattle.model.specs.Acts.{wait_act, crit_act, withdraw_act}

@@ -1,7 +1,7 @@
 -- Section 8 of the specification, the owed wait where processes differ in a: a slow process that comes alone, and why the largest a
 -- stands in the bound. antt computes the case. Assumes nothing.
 use Rattle.std.specs.Prelude.{◌+◌, ◌*◌, ◌≡◌, List, [], ◌∷◌, ◌++◌, map}
-use Rattle.model.specs.declared.State.{State}
+use Rattle.model.specs.Types.{State}
 use Rattle.model.specs.Acts.{try_act, test_act, set_act, check_act, crit_act}
 use Rattle.model.specs.Facts.{IsFresh}
 use Rattle.model.specs.Summaries.{code_of}

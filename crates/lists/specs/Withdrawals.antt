@@ -1,7 +1,7 @@
 -- Calls that withdraw: a try that is taken back, whatever kinds of calls the two are; and, of section 8 of the specification, what those who
 -- withdraw give up of the owed wait, [8.78], and that nobody gives up more, with examples, which antt computes. Assumes nothing.
 use Rattle.std.specs.Prelude.{ℕ, zero, suc, ◌+◌, ◌<◌, ◌≡◌, ◌⊎◌, false, List, [], ◌∷◌, ◌++◌, map, length}
-use Rattle.model.specs.declared.State.{State}
+use Rattle.model.specs.Types.{State}
 use Rattle.model.specs.States.{equal_limits, parameters_of, initial}
 use Rattle.model.specs.Acts.{wait_act, try_act, withdraw_act}
 use Rattle.model.specs.Facts.{Accepted, IsFresh, IsTrying}

@@ -1,12 +1,12 @@
 -- The shifts that serve two logs whose times are in time: an interval, between the largest and the smallest difference, of which the least is
 -- told. Assumes nothing.
-use Rattle.std.proofs.Common.{◌≡◌, ℕ, ◌+◌, ◌-◌, ◌≤◌, ◌↔◌, List, [], ◌∷◌, ℤ, ◌≤ℤ◌, sym, subst, arith, le-ltb, lt-ltb, le-leb}
+use Rattle.std.proofs.Common.{◌≡◌, ℕ, ◌+◌, ◌-◌, ◌≤◌, ◌↔◌, List, [], ◌∷◌, ℤ, ◌≤ℤ◌, sym, subst, arith, le-ltb, lt-ltb}
 use lib.IntN.{sub_ℕ}
 use Rattle.model.specs.States.{last_time}
 use Rattle.model.proofs.Tests.{if_lt}
 use Rattle.local_log.specs.declared.passes.Differences.{Differences}
 use Rattle.local_log.specs.Comparisons.{Entry, times_in, InTime, Within, SameActions, Near, AllNear, Serves, Least, Compared, no_shift, agree}
-use Rattle.local_log.specs.Passes.{difference, no_differences, noted, pass_from, pass_of, lowest, highest, bounded_of}
+use Rattle.local_log.specs.Passes.{difference, no_differences, noted, all_from, lowest, highest, bounded_of}
 use Rattle.local_log.proofs.Integers.{pos_is, neg_is, sub_le, from_neg}
 use Rattle.local_log.proofs.Orders.{near_across}
 
@@ -31,14 +31,13 @@ module _ (e w : ℕ) where
 
   -- all places
   all_near_iff : (p : Differences) (xs ys : List Entry) → InTime xs → InTime ys
-      → (Between p × AllNear e shift xs ys) ↔ Between (pass_from p (times_in xs) (times_in ys))
-  unfolding pass_from noted between
+      → (Between p × AllNear e shift xs ys) ↔ Between (all_from p (times_in xs) (times_in ys))
+  unfolding all_from noted between
   all_near_iff p [] ys s t = (λ b. b.0, λ b. (b, tt))
   all_near_iff p (x ∷ xs) [] s t = (λ b. b.0, λ b. (b, tt))
   all_near_iff p (x ∷ xs) (y ∷ ys) s t =
       let more = all_near_iff (noted p x.time y.time) xs ys s.1 t.1 in
-      let near = near_iff x y s.0 in
-      rw (le-leb _ _ s.0, le-leb _ _ t.0) (
+      let near = near_iff x y s.0 in (
         λ b. more.0 ((omega (arith, b.0, near.0 b.1.0), omega (arith, b.0, near.0 b.1.0)), b.1.1),
         λ b. let k = more.1 b in
             ((omega (arith, k.0), omega (arith, k.0)), (near.1 (omega (arith, k.0), omega (arith, k.0)), k.1)),
@@ -48,7 +47,7 @@ module _ (e w : ℕ) where
 
 module _ (d e : ℕ) (xs ys : List Entry) (bounds : Within d e xs ys) where
   abbrev kept : Differences
-  kept = pass_of (times_in xs) (times_in ys)
+  kept = all_from no_differences (times_in xs) (times_in ys)
 
   abbrev low : ℕ
   low = lowest kept.largest d e

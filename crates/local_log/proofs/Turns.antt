@@ -1,7 +1,7 @@
 -- The passes over lists of numbers: a turn of each, where it stops, and its end. Assumes nothing.
-use Rattle.std.proofs.Common.{◌≡◌, ℕ, ◌+◌, ◌%◌, ◌^◌, ◌<◌, ◌≤◌, min, false, cond, ◌&&◌, eqb, ltb, leb, List, [], ◌∷◌, length, get_or, drop}
-use Rattle.std.proofs.Common.{sym, refl, ◌∙◌, arith, length-drop, le-ltb, lt-ltb, eq-eqb, ne_eqb, le-leb}
-use mathlib.Core.Bool.{and_assoc, and-true}
+use Rattle.std.proofs.Common.{◌≡◌, ℕ, ◌+◌, ◌-◌, ◌%◌, ◌^◌, ◌<◌, ◌≤◌, false, cond, ◌&&◌, ◌⊎◌, Some, None, eqb, ltb, leb, List, [], ◌∷◌, length, get_or, drop}
+use Rattle.std.proofs.Common.{sym, inl, inr, refl, ◌∙◌, arith, le-ltb, lt-ltb, eq-eqb, ne_eqb, le-leb}
+use mathlib.Core.Bool.{and_assoc, and-true, and-false}
 use lib.Bits.{bit_or, bit_xor, xor_self, xor_add_and, and_le_l, and_le_r}
 use borrow.Author.Tests.{lt-leb}
 use Rattle.model.specs.States.{last_time}
@@ -22,18 +22,19 @@ xor_zero a b = if_eq a b
     (λ e. rw (e, xor_self b) (sym (eq-eqb b b refl)))
     (λ n. ne_eqb (bit_xor a b) 0 (λ z. n (omega (arith, xor_add_and a b, and_le_l a b, and_le_r a b, z))) ∙ sym (ne_eqb a b n))
 
-pub same_next : (xs ys : List ℕ) (bits i : ℕ) → i < length xs → i < length ys
-    → (eqb (bit_or bits (bit_xor (get_or xs i 0) (get_or ys i 0))) 0 && same_numbers (drop (i + 1) xs) (drop (i + 1) ys))
-    ≡ (eqb bits 0 && same_numbers (drop i xs) (drop i ys))
+pub same_next : (bits : ℕ) {claims actions xs ys : List ℕ} {x y : ℕ} → claims ≡ x ∷ xs → actions ≡ y ∷ ys
+    → (eqb (bit_or bits (bit_xor x y)) 0 && same_numbers xs ys) ≡ (eqb bits 0 && same_numbers claims actions)
 unfolding same_numbers
-same_next xs ys bits i h g =
-    rw (drop_at xs i 0 h, drop_at ys i 0 g, or_zero bits (bit_xor (get_or xs i 0) (get_or ys i 0)), xor_zero (get_or xs i 0) (get_or ys i 0))
-    (and_assoc (eqb bits 0) (eqb (get_or xs i 0) (get_or ys i 0)) (same_numbers (drop (i + 1) xs) (drop (i + 1) ys)))
+same_next bits {xs = xs} {ys = ys} {x = x} {y = y} e f =
+    rw (e, f, or_zero bits (bit_xor x y), xor_zero x y) (and_assoc (eqb bits 0) (eqb x y) (same_numbers xs ys))
 
-pub same_end : (xs ys : List ℕ) (bits i : ℕ) → length xs ≡ i → length ys ≡ i → (eqb bits 0 && same_numbers (drop i xs) (drop i ys)) ≡ eqb bits 0
+pub same_end : (bits : ℕ) (xs ys : List ℕ) → length xs ≡ length ys → (length xs ≡ 0) ⊎ (length ys ≡ 0) → (eqb bits 0 && same_numbers xs ys) ≡ eqb bits 0
 unfolding same_numbers
-same_end xs ys bits i h g =
-    rw (drop_end xs i (omega arith) (omega arith), drop_end ys i (omega arith) (omega arith)) (and-true (eqb bits 0))
+same_end bits [] [] e h = and-true (eqb bits 0)
+same_end bits [] (y ∷ ys) e h = absurd (omega arith)
+same_end bits (x ∷ xs) [] e h = absurd (omega arith)
+same_end bits (x ∷ xs) (y ∷ ys) e (inl h) = absurd (omega arith)
+same_end bits (x ∷ xs) (y ∷ ys) e (inr h) = absurd (omega arith)
 
 pub same_long : (xs ys : List ℕ) → (length xs ≡ length ys → ⊥) → same_numbers xs ys ≡ false
 unfolding same_numbers
@@ -45,14 +46,16 @@ same_long (x ∷ xs) (y ∷ ys) n =
 
 -- Times in time
 
--- `over` is the clock's end less a time, as it wraps
-pub fault_tells : (time over : ℕ) → time < 2 ^ 64 → over < 2 ^ 64 → (over + time) % 2 ^ 64 ≡ last_time
-    → ltb (bit_or time over) top_bit ≡ leb time last_time
-fault_tells time over t o e = top_of_both time over ∙ if_lt last_time time
+-- the clock's end less a time, as it wraps
+abbrev less : ℕ → ℕ
+less time = (last_time + (2 ^ 64 - time)) % 2 ^ 64
+
+pub fault_tells : (time : ℕ) → time < 2 ^ 64 → ltb (bit_or time (less time)) top_bit ≡ leb time last_time
+fault_tells time t = top_of_both time (less time) ∙ if_lt last_time time
     (λ h. rw (lt-leb time last_time h) (if_lt time top_bit
-    (λ k. rw (lt-ltb time top_bit k, le-ltb over top_bit (omega arith)) refl)
+    (λ k. rw (lt-ltb time top_bit k, le-ltb (less time) top_bit (omega arith)) refl)
     (λ k. rw (le-ltb time top_bit k) refl)))
-    (λ h. rw (le-leb time last_time h, lt-ltb time top_bit (omega arith), lt-ltb over top_bit (omega arith)) refl)
+    (λ h. rw (le-leb time last_time h, lt-ltb time top_bit (omega arith), lt-ltb (less time) top_bit (omega arith)) refl)
 
 pub in_time_next : (bits fault : ℕ) (ts : List ℕ) (i : ℕ) → i < length ts → ltb fault top_bit ≡ leb (get_or ts i 0) last_time
     → (ltb (bit_or bits fault) top_bit && in_time (drop (i + 1) ts)) ≡ (ltb bits top_bit && in_time (drop i ts))
@@ -64,40 +67,27 @@ pub in_time_end : (bits : ℕ) (ts : List ℕ) (i : ℕ) → length ts ≡ i →
 unfolding in_time
 in_time_end bits ts i e = rw (drop_end ts i (omega arith) (omega arith)) (and-true (ltb bits top_bit))
 
--- Differences, where the places before i have been passed
+-- Differences
 
-module _ (stamps times : List ℕ) (i : ℕ) where
-  -- what is left of the pass
-  abbrev pub pass_left : Differences → Differences
-  pass_left p = pass_from p (drop i stamps) (drop i times)
-
-  module _ (h : i < min (length stamps) (length times)) (p : Differences) where
-    abbrev stamp : ℕ
-    stamp = get_or stamps i 0
-
-    abbrev time : ℕ
-    time = get_or times i 0
-
-    turn : pass_left p
-        ≡ cond (leb stamp last_time && leb time last_time) (pass_from (noted p stamp time) (drop (i + 1) stamps) (drop (i + 1) times)) p
-    unfolding pass_from
-    turn = rw (drop_at stamps i 0 (omega arith), drop_at times i 0 (omega arith)) refl
-
-    pub pass_next : stamp ≤ last_time → time ≤ last_time → pass_left p ≡ pass_from (noted p stamp time) (drop (i + 1) stamps) (drop (i + 1) times)
-    pass_next s t = turn ∙ rw (le-leb stamp last_time s, le-leb time last_time t) refl
-
-    pub local_stops : last_time < stamp → pass_left p ≡ p
-    local_stops s = turn ∙ rw (lt-leb stamp last_time s) refl
-
-    pub other_stops : stamp ≤ last_time → last_time < time → pass_left p ≡ p
-    other_stops s t = turn ∙ rw (le-leb stamp last_time s, lt-leb time last_time t) refl
-
-  -- one of the lists has no place i
-  pub pass_ends : min (length stamps) (length times) ≤ i → (p : Differences) → pass_left p ≡ p
+-- one place more is looked at
+module _ (p : Differences) {stamps times ss ts : List ℕ} {s t : ℕ} (local : stamps ≡ s ∷ ss) (other : times ≡ t ∷ ts) where
+  turn : pass_from p stamps times ≡ cond (leb s last_time && leb t last_time) (pass_from (noted p s t) ss ts) None
   unfolding pass_from
-  pass_ends h p = no_more (drop i stamps) (drop i times) (simp length-drop (omega arith))
-    where
-      no_more : (xs ys : List ℕ) → min (length xs) (length ys) ≡ 0 → pass_from p xs ys ≡ p
-      no_more [] ys e = refl
-      no_more (x ∷ xs) [] e = refl
-      no_more (x ∷ xs) (y ∷ ys) e = absurd (omega arith)
+  turn = rw (local, other) refl
+
+  pub pass_next : s ≤ last_time → t ≤ last_time → pass_from p stamps times ≡ pass_from (noted p s t) ss ts
+  pass_next h g = turn ∙ rw (le-leb s last_time h, le-leb t last_time g) refl
+
+  pub local_stops : last_time < s → pass_from p stamps times ≡ None
+  local_stops h = turn ∙ rw (lt-leb s last_time h) refl
+
+  pub other_stops : last_time < t → pass_from p stamps times ≡ None
+  other_stops g = turn ∙ rw (lt-leb t last_time g, and-false (leb s last_time)) refl
+
+-- one of the lists is at its end
+pub pass_ends : (p : Differences) (xs ys : List ℕ) → (length xs ≡ 0) ⊎ (length ys ≡ 0) → pass_from p xs ys ≡ Some p
+unfolding pass_from
+pass_ends p [] ys e = refl
+pass_ends p (x ∷ xs) [] e = refl
+pass_ends p (x ∷ xs) (y ∷ ys) (inl e) = absurd (omega arith)
+pass_ends p (x ∷ xs) (y ∷ ys) (inr e) = absurd (omega arith)

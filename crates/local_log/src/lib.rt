@@ -9,10 +9,10 @@ ghost use Rattle.std.proofs.Math.IntN.{sub_ℕ};
 ghost use Rattle.model.specs.States.{last_time};
 ghost use Rattle.local_log.specs.Comparisons.{entries_of, most_shift, comparison, Compared};
 ghost use Rattle.local_log.specs.Formulas.{compared_of};
-ghost use Rattle.local_log.specs.Passes.{twice, bounded_of};
+ghost use Rattle.local_log.specs.Passes.{twice, told, bounded_of};
 
-use crate::passes::{LAST, find_differences, in_time, same_numbers};
-use values::{greater, least, lesser};
+use crate::passes::{Differences, LAST, find_differences, in_time, same_numbers};
+use model::Refusal;
 
 // [13.30] What d and e are at most.
 const MOST: u64 = 1000000;
@@ -26,14 +26,20 @@ pub struct Comparison {
     pub shift: i64,
 }
 
-// [13.60] A refusal, by its code.
-fn refused(code: u64) -> Comparison
-    ensures { result ≡ comparison code (pos 0) }
-{
-    Comparison {
-        code: code,
-        process: 0,
-        shift: 0,
+// [13.60] The shift that was found, or the refusal by its code.
+impl From<Result<i64, Refusal>> for Comparison {
+    ghost from_gives = { λ found answer. answer ≡ told found };
+
+    fn from(found: Result<i64, Refusal>) -> Comparison {
+        let (code, shift) = match found {
+            Ok(shift) => (0, shift),
+            Err(refusal) => (refusal.code(), 0),
+        };
+        Comparison {
+            code,
+            process: 0,
+            shift,
+        }
     }
 }
 
@@ -46,28 +52,54 @@ fn shift_of(number: u64) -> i64
     signed - 1000000000000
 }
 
-// [13.50] [13.60] The least shift that serves where the differences of all places lie between these two, or the refusal where none does.
-fn bounded(smallest: u64, largest: u64, d: u64, e: u64) -> Comparison
+// [13.50] [13.60] The least shift that serves where these are the differences of all places, or the refusal where none does.
+fn bounded(found: Differences, d: u64, e: u64) -> Result<i64, Refusal>
     requires d_le_most_shift { d ≤ most_shift }
     requires e_le_most_shift { e ≤ most_shift }
-    requires smallest_le_twice { smallest ≤ twice }
-    ensures { result ≡ bounded_of smallest largest d e }
+    requires smallest_le_twice { found.smallest ≤ twice }
+    ensures { told result ≡ bounded_of found.smallest found.largest d e }
 {
-    let low = greater(LAST - d + e, largest) - e;
-    let high = lesser(LAST + d, smallest + e);
+    let low = (LAST - d + e).max(found.largest) - e;
+    let high = (LAST + d).min(found.smallest + e);
     if high < low {
-        return refused(21);
+        return Err(Refusal::NoShift);
     }
     let shift = shift_of(low);
-    Comparison {
-        code: 0,
-        process: 0,
-        shift: shift,
+    Ok(shift)
+}
+
+// [13.20] [13.60] The least shift that serves, or why there is none. Where the actions are not the same, only the bounds of the times are left to
+// look at.
+fn shift_between(
+    stamps: &[u64],
+    claims: &[u64],
+    times: &[u64],
+    actions: &[u64],
+    d: u64,
+    e: u64,
+) -> Result<i64, Refusal>
+    ensures { Compared d e (entries_of stamps.now claims.now) (entries_of times.now actions.now) (told result) }
+{
+    if MOST < d || MOST < e {
+        return Err(Refusal::PastBounds);
+    }
+    let local_count = stamps.len().min(claims.len());
+    let count = times.len().min(actions.len());
+    let local = &stamps[..local_count];
+    let other = &times[..count];
+    if same_numbers(&claims[..local_count], &actions[..count]) {
+        let found = find_differences(local, other).ok_or(Refusal::PastBounds)?;
+        return bounded(found, d, e);
+    }
+    if in_time(local) && in_time(other) {
+        Err(Refusal::OtherActions)
+    } else {
+        Err(Refusal::PastBounds)
     }
 }
 
 // [13.20] [13.60] [13.90] [21.110] Holds a local log against another log. The first contract says what the answer means, the second how it is worked
-// out. Where the actions are not the same, only the bounds of the times are left to look at.
+// out.
 pub fn compare(
     stamps: &[u64],
     claims: &[u64],
@@ -81,28 +113,5 @@ pub fn compare(
     ensures equals { result ≡ compared_of d e (entries_of stamps.now claims.now)
         (entries_of times.now actions.now) }
 {
-    if MOST < d {
-        return refused(19);
-    }
-    if MOST < e {
-        return refused(19);
-    }
-    let local_count = least(stamps.len(), claims.len());
-    let count = least(times.len(), actions.len());
-    let local = &stamps[..local_count];
-    let other = &times[..count];
-    if same_numbers(&claims[..local_count], &actions[..count]) {
-        let found = find_differences(local, other);
-        if found.places < count {
-            return refused(19);
-        }
-        return bounded(found.smallest, found.largest, d, e);
-    }
-    if !in_time(local) {
-        return refused(19);
-    }
-    if !in_time(other) {
-        return refused(19);
-    }
-    refused(20)
+    Comparison::from(shift_between(stamps, claims, times, actions, d, e))
 }

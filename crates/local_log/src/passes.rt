@@ -6,9 +6,6 @@ ghost use Rattle.model.specs.States.{last_time};
 ghost use Rattle.local_log.specs.Formulas.{in_time, same_numbers};
 ghost use Rattle.local_log.specs.Passes.{pass_of};
 
-use std::num::wrapping_sub_u64;
-use values::{greater, least, lesser};
-
 // [2.40] The clock's end.
 pub(crate) const LAST: u64 = 1000000000000;
 
@@ -19,18 +16,16 @@ const TWICE: u64 = 2000000000000;
 const TOP: u64 = 9223372036854775808;
 
 // [13.40] Whether two lists of actions are equal. There is no break: so the compiler takes several at a time.
+// kept: (b) with `claims == actions` the notebook's row 306 is 1.13 of the reference, past its bar of 1.03; it is 0.84 with this loop
 pub(crate) fn same_numbers(claims: &[u64], actions: &[u64]) -> bool
     ensures { result ≡ same_numbers claims.now actions.now }
 {
-    let end = claims.len();
-    if end != actions.len() {
+    if claims.len() != actions.len() {
         return false;
     }
-    let mut bits: u64 = 0;
-    let mut i: usize = 0;
-    while i < end {
-        bits = bits | (claims[i] ^ actions[i]);
-        i += 1;
+    let mut bits = 0;
+    for (claim, action) in claims.iter().zip(actions) {
+        bits |= *claim ^ *action;
     }
     bits == 0
 }
@@ -39,58 +34,41 @@ pub(crate) fn same_numbers(claims: &[u64], actions: &[u64]) -> bool
 fn fault(time: u64) -> u64
     ensures { nat_lt result top_bit ≡ nat_le time last_time }
 {
-    time | wrapping_sub_u64(LAST, time)
+    time | LAST.wrapping_sub(time)
 }
 
 // [13.30] Whether no time is past the clock's end; without a break, as above.
 pub(crate) fn in_time(times: &[u64]) -> bool
     ensures { result ≡ in_time times.now }
 {
-    let end = times.len();
-    let mut bits: u64 = 0;
-    let mut i: usize = 0;
-    while i < end {
-        bits = bits | fault(times[i]);
-        i += 1;
+    let mut bits = 0;
+    for time in times {
+        bits |= fault(*time);
     }
     bits < TOP
 }
 
-// What the pass over the times of two logs finds, up to the first place at which one is past the clock's end: how many places that are, and the
-// smallest and the largest of their differences.
-#[derive(Drop)]
+// The smallest and the largest difference of the times of two logs, over all places.
+#[derive(Clone, Copy)]
 pub(crate) struct Differences {
-    pub(crate) places: usize,
     pub(crate) smallest: u64,
     pub(crate) largest: u64,
 }
 
-// [13.30] [13.50] A difference is the other time less the local one, with the clock's end added, so that none is below 0; the tolerance is reckoned
-// once, after the pass.
-pub(crate) fn find_differences(stamps: &[u64], times: &[u64]) -> Differences
+// [13.30] [13.50] Nothing where a time is past the clock's end. A difference is the other time less the local one, with the clock's end added, so
+// that none is below 0; the tolerance is reckoned once, after the pass.
+pub(crate) fn find_differences(stamps: &[u64], times: &[u64]) -> Option<Differences>
     ensures { result ≡ pass_of stamps.now times.now }
 {
-    let end = least(stamps.len(), times.len());
     let mut smallest: u64 = TWICE;
     let mut largest: u64 = 0;
-    let mut i: usize = 0;
-    while i < end {
-        let stamp = stamps[i];
-        if LAST < stamp {
-            break;
+    for (stamp, time) in stamps.iter().zip(times) {
+        if LAST < *stamp || LAST < *time {
+            return None;
         }
-        let time = times[i];
-        if LAST < time {
-            break;
-        }
-        let difference = time + LAST - stamp;
-        smallest = lesser(smallest, difference);
-        largest = greater(largest, difference);
-        i += 1;
+        let difference = *time + LAST - *stamp;
+        smallest = smallest.min(difference);
+        largest = largest.max(difference);
     }
-    Differences {
-        places: i,
-        smallest: smallest,
-        largest: largest,
-    }
+    Some(Differences { smallest, largest })
 }

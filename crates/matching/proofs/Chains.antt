@@ -2,14 +2,14 @@
 -- so what holds of every list holds of every chain; and every list has a chain. Assumes nothing.
 use mathlib.Core.Path.{◌≡◌, refl}
 use mathlib.Core.List.{List}
-use Rattle.model.specs.declared.State.{State}
+use Rattle.model.specs.Types.{State}
 use Rattle.model.specs.declared.Parameters.{Parameters}
-use Rattle.model.specs.declared.Outcome.{Outcome}
+use Rattle.model.specs.Types.{Outcome}
 use Rattle.model.specs.Texts.{Event}
 use Rattle.model.specs.Executions.{step_by, state_after}
 use Rattle.model.specs.Folds as folds
-use Rattle.deadlines.specs.declared.DeadlineState.{DeadlineState}
-use Rattle.deadlines.specs.declared.DeadlineOutcome.{DeadlineOutcome}
+use Rattle.deadlines.specs.Types.{DeadlineState}
+use Rattle.deadlines.specs.Types.{DeadlineOutcome}
 use Rattle.deadlines.specs.Deadlines.{fresh_with}
 use Rattle.model.proofs.Folds.{chain_results, chain_last, list_chain}
 use Rattle.theory.proofs.Soundness.{fresh_is_plain}

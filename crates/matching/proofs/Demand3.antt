@@ -7,8 +7,8 @@ use mathlib.Core.Bool.{false}
 use mathlib.Core.List.{List, [], ◌∷◌, ◌++◌, map, map-append}
 use native.Mathlib.Omega.{arith}
 use Rattle.model.specs.declared.Parameters.{Parameters}
-use Rattle.model.specs.declared.State.{State}
-use Rattle.model.specs.declared.Outcome.{Outcome}
+use Rattle.model.specs.Types.{State}
+use Rattle.model.specs.Types.{Outcome}
 use Rattle.model.specs.declared.Answer.{Answer}
 use Rattle.model.specs.Acts.{wait_act}
 use Rattle.model.specs.States.{last_time}
@@ -22,8 +22,8 @@ use Rattle.model.specs.Texts.{Event}
 use Rattle.theory.proofs.Soundness.{fresh_is, fresh_is_plain}
 use Rattle.lists.specs.Demand3.{InSpan, Span, NotWithdrawn, OwedWithin, owed_wait, NamesTheOnly, EachNames, WaitsUnlessDue, DueMayAct}
 use Rattle.lists.proofs.Demand3.{every_list, every_table_sound}
-use Rattle.deadlines.specs.declared.DeadlineState.{DeadlineState}
-use Rattle.deadlines.specs.declared.DeadlineOutcome.{DeadlineOutcome}
+use Rattle.deadlines.specs.Types.{DeadlineState}
+use Rattle.deadlines.specs.Types.{DeadlineOutcome}
 use Rattle.deadlines.specs.Deadlines.{step_with, fresh_with}
 use Rattle.deadlines.specs.Matching.{Matches}
 use Rattle.matching.specs.Facts.{AcceptedWith, HasTimes, IsCriticalWith}

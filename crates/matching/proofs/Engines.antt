@@ -4,12 +4,12 @@ use Prim.Native.Nat.{ℕ}
 use mathlib.Core.Path.{◌≡◌, refl, sym, ap, subst, ◌∙◌}
 use mathlib.Core.Bool.{true, false, not}
 use Rattle.model.specs.declared.Parameters.{Parameters}
-use Rattle.model.specs.declared.State.{State}
+use Rattle.model.specs.Types.{State}
 use Rattle.model.specs.declared.Answer.{Answer}
 use Rattle.model.specs.States.{count_stands, limits_stand, initial, sound_of}
 use Rattle.model.specs.Answers.{answers, step_of, fresh_of}
-use Rattle.deadlines.specs.declared.DeadlineState.{DeadlineState}
-use Rattle.deadlines.specs.declared.DeadlineOutcome.{DeadlineOutcome}
+use Rattle.deadlines.specs.Types.{DeadlineState}
+use Rattle.deadlines.specs.Types.{DeadlineOutcome}
 use Rattle.deadlines.specs.Deadlines.{initial_with, sound_with, answers_with, step_with, fresh_with}
 use Rattle.deadlines.specs.Matching.{Matches, dated_from, matched, arrived, to_deadlines, to_arrivals}
 use Rattle.model.proofs.Tests.{by_test, clash}

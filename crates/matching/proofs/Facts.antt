@@ -4,16 +4,16 @@ use Prim.Native.Nat.{ℕ, ◌≤◌}
 use mathlib.Core.Path.{◌≡◌, refl, sym, ap, ◌∙◌}
 use mathlib.Core.Logic.{inl, inr, ⊎_elim, ◌↔◌}
 use native.Mathlib.Omega.{arith}
-use Rattle.model.specs.declared.Location.{Location}
+use Rattle.model.specs.Types.{Location}
 use Rattle.model.specs.declared.Location.TheVariants.{Critical}
-use Rattle.model.specs.declared.State.{State}
+use Rattle.model.specs.Types.{State}
 use Rattle.model.specs.States.{entry_of}
 use Rattle.model.specs.Facts.{IsCritical, IsTrying, Tries, Arrival, Deadline, HasDeadline}
 use Rattle.theory.specs.Soundness.{Sound}
 use Rattle.theory.specs.Acceptance.{From, Effect, Acts, Allowed, Changed}
-use Rattle.deadlines.specs.declared.DeadlineLocation.{DeadlineLocation}
-use Rattle.deadlines.specs.declared.DeadlineLocation.TheVariants as with
-use Rattle.deadlines.specs.declared.DeadlineState.{DeadlineState}
+use Rattle.deadlines.specs.Types.{DeadlineLocation}
+use Rattle.model.specs.declared.Location.TheVariants as with
+use Rattle.deadlines.specs.Types.{DeadlineState}
 use Rattle.deadlines.specs.Deadlines.{entry_with, entry_in}
 use Rattle.deadlines.specs.Matching.{LocationsMatch, Matches}
 use Rattle.theory.proofs.Locations.{trying_iff_plain}

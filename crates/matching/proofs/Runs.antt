@@ -2,12 +2,12 @@
 -- Assumes nothing.
 use mathlib.Core.Path.{refl}
 use mathlib.Core.List.{[], ◌∷◌}
-use Rattle.model.specs.declared.State.{State}
+use Rattle.model.specs.Types.{State}
 use Rattle.model.specs.Answers.{fresh_of}
 use Rattle.model.specs.Executions.{step_by}
 use Rattle.model.specs.Folds.{end_by, results_by}
 use Rattle.model.specs.Texts.{Event}
-use Rattle.deadlines.specs.declared.DeadlineState.{DeadlineState}
+use Rattle.deadlines.specs.Types.{DeadlineState}
 use Rattle.deadlines.specs.Deadlines.{fresh_with}
 use Rattle.deadlines.specs.Matching.{Matches}
 use Rattle.matching.specs.Engines.{OutcomesMatch}

@@ -4,7 +4,7 @@ use Prim.Native.Nat.{ℕ}
 use mathlib.Core.Path.{refl, sym, subst}
 use lib.Dec.{eqb}
 use borrow.Author.Tests.{eqb-true}
-use Rattle.model.specs.declared.State.{State}
+use Rattle.model.specs.Types.{State}
 use Rattle.model.specs.Answers.{none_due, first_deadline}
 use Rattle.model.proofs.Tests.{by_test}
 use Rattle.theory.specs.Lateness.{FirstTold}
@@ -12,7 +12,7 @@ use Rattle.theory.proofs.Lateness.{first_is_first}
 use Rattle.rules.specs.declared.survey.Survey.{Survey}
 use Rattle.rules.specs.Search.{TellsFirst}
 use Rattle.rules.proofs.Search.{search_tells_first}
-use Rattle.deadlines.specs.declared.DeadlineState.{DeadlineState}
+use Rattle.deadlines.specs.Types.{DeadlineState}
 use Rattle.deadlines.specs.Matching.{Matches, arrived}
 use Rattle.deadlines.proofs.Matched.{sound_matched}
 use Rattle.deadlines.proofs.Search.{search_tells_arrived}

@@ -8,11 +8,11 @@ use Rattle.model.specs.Answers.{answer_of}
 use Rattle.model.specs.Texts.{event}
 use Rattle.model.specs.Executions.{state_from}
 use Rattle.theory.specs.OwnDeadlines.{both_try}
-use Rattle.deadlines.specs.declared.DeadlineLocation.{DeadlineLocation}
-use Rattle.deadlines.specs.declared.DeadlineLocation.TheVariants.{Testing, Checking}
-use Rattle.deadlines.specs.declared.DeadlineState.{DeadlineState}
-use Rattle.deadlines.specs.declared.DeadlineOutcome.{DeadlineOutcome}
-use Rattle.deadlines.specs.Deadlines.{entry_with, idle_with, initial_with, answers_with, fresh_with, step_with}
+use Rattle.deadlines.specs.Types.{DeadlineLocation}
+use Rattle.model.specs.declared.Location.TheVariants.{Testing, Checking}
+use Rattle.deadlines.specs.Types.{DeadlineState}
+use Rattle.deadlines.specs.Types.{DeadlineOutcome}
+use Rattle.deadlines.specs.Deadlines.{period, entry_with, idle_with, initial_with, answers_with, fresh_with, step_with}
 use Rattle.deadlines.specs.Matching.{to_deadlines}
 use Rattle.matching.specs.Lists.{steps_with, run_with}
 
@@ -26,12 +26,12 @@ WaitGives code l = step_with (only_first l) wait_act 0 0 ≡ answers_with code 0
 
 -- [20.260] [12.35] in the order of the clause
 pub record DeadlineCases : Type 0 where
-  pub of_arrival_0 : WaitGives 0 (Checking 8 12)
-  pub one_later : WaitGives 1 (Checking 8 13)
-  pub of_no_arrival : WaitGives 1 (Checking 3 7)
-  pub first_below_b : WaitGives 1 (Checking 3 12)
-  pub last_far_off : WaitGives 1 (Testing 0 18_446_744_073_709_551_615)
-  pub first_that_wraps : WaitGives 1 (Testing 18_446_744_073_709_551_615 4)
+  pub of_arrival_0 : WaitGives 0 (Checking (period 8 12))
+  pub one_later : WaitGives 1 (Checking (period 8 13))
+  pub of_no_arrival : WaitGives 1 (Checking (period 3 7))
+  pub first_below_b : WaitGives 1 (Checking (period 3 12))
+  pub last_far_off : WaitGives 1 (Testing (period 0 18_446_744_073_709_551_615))
+  pub first_that_wraps : WaitGives 1 (Testing (period 18_446_744_073_709_551_615 4))
 
 -- Two values of a that lie far apart
 
@@ -45,7 +45,7 @@ both_testing a₁ a₂ = record {
   parameters = own_parameters a₁ a₂;
   clock = 0;
   word = 0;
-  processes = entry_with (Testing 0 a₁) ∷ entry_with (Testing 0 a₂) ∷ replicate 94 idle_with;
+  processes = entry_with (Testing (period 0 a₁)) ∷ entry_with (Testing (period 0 a₂)) ∷ replicate 94 idle_with;
 }
 
 -- [2.90] [12.20] [20.270] the process `quick` has the a 5, and `slow` has 5,000

@@ -2,8 +2,8 @@
 -- checker reads it off the source, each on the state that the result before it holds. Assumes nothing.
 use Rattle.std.specs.Prelude.{ℕ, ◌+◌, ◌<◌, ◌↔◌, List}
 use Rattle.model.specs.declared.Parameters.{Parameters}
-use Rattle.model.specs.declared.State.{State}
-use Rattle.model.specs.declared.Outcome.{Outcome}
+use Rattle.model.specs.Types.{State}
+use Rattle.model.specs.Types.{Outcome}
 use Rattle.model.specs.Acts.{wait_act}
 use Rattle.model.specs.States.{last_time}
 use Rattle.model.specs.Facts.{LeadsOn}
@@ -11,8 +11,8 @@ use Rattle.model.specs.Folds as folds
 use Rattle.model.specs.Texts.{Event}
 use Rattle.model.specs.Executions.{state_after}
 use Rattle.theory.specs.Soundness.{ParametersStand}
-use Rattle.deadlines.specs.declared.DeadlineState.{DeadlineState}
-use Rattle.deadlines.specs.declared.DeadlineOutcome.{DeadlineOutcome}
+use Rattle.deadlines.specs.Types.{DeadlineState}
+use Rattle.deadlines.specs.Types.{DeadlineOutcome}
 use Rattle.deadlines.specs.Matching.{Matches}
 use Rattle.matching.specs.Facts.{AcceptedWith, HasTimes}
 use Rattle.matching.specs.Lists.{deadlines_after, EachMatches, Demand3With}

@@ -4,11 +4,11 @@ use Rattle.std.specs.Prelude.{ℕ, ◌+◌, ◌-◌, ◌≤◌, ◌≡◌, ◌�
 use Rattle.model.specs.Acts.{wait_act, try_act, test_act, set_act, check_act, crit_act, exit_act, reset_act, rem_act, withdraw_act}
 use Rattle.model.specs.States.{last_time}
 use Rattle.theory.specs.Acceptance.{Waits}
-use Rattle.deadlines.specs.declared.DeadlineLocation.{DeadlineLocation}
-use Rattle.deadlines.specs.declared.DeadlineLocation.TheVariants.{Remainder, Testing, Setting, Checking, Entering, Critical, Resetting, Leaving}
-use Rattle.deadlines.specs.declared.DeadlineState.{DeadlineState}
-use Rattle.deadlines.specs.declared.DeadlineOutcome.{DeadlineOutcome}
-use Rattle.deadlines.specs.Deadlines.{entry_in, sound_with, step_with}
+use Rattle.deadlines.specs.Types.{DeadlineLocation}
+use Rattle.model.specs.declared.Location.TheVariants.{Remainder, Testing, Setting, Checking, Entering, Critical, Resetting, Leaving}
+use Rattle.deadlines.specs.Types.{DeadlineState}
+use Rattle.deadlines.specs.Types.{DeadlineOutcome}
+use Rattle.deadlines.specs.Deadlines.{period, entry_in, sound_with, step_with}
 
 -- [4.0] a call is accepted
 abbrev pub AcceptedWith : DeadlineOutcome → Type 0
@@ -16,12 +16,12 @@ AcceptedWith o = o.answer.code ≡ 0
 
 -- [12.10] the two times of a location
 pub data Times : DeadlineLocation → ℕ → ℕ → Type 0 where
-  testing : {f l : ℕ} → Times (Testing f l) f l
-  setting : {f l : ℕ} → Times (Setting f l) f l
-  checking : {f l : ℕ} → Times (Checking f l) f l
-  entering : {f l : ℕ} → Times (Entering f l) f l
-  resetting : {f l : ℕ} → Times (Resetting f l) f l
-  leaving : {f l : ℕ} → Times (Leaving f l) f l
+  testing : {f l : ℕ} → Times (Testing (period f l)) f l
+  setting : {f l : ℕ} → Times (Setting (period f l)) f l
+  checking : {f l : ℕ} → Times (Checking (period f l)) f l
+  entering : {f l : ℕ} → Times (Entering (period f l)) f l
+  resetting : {f l : ℕ} → Times (Resetting (period f l)) f l
+  leaving : {f l : ℕ} → Times (Leaving (period f l)) f l
 
 -- [12.10] process i, from 1, has the first time f and the last time l
 pub record HasTimes (d : DeadlineState) (i f l : ℕ) : Type 0 where
@@ -35,10 +35,10 @@ pub record IsCriticalWith (d : DeadlineState) (i : ℕ) : Type 0 where
 
 -- [2.110] the locations of a process that is trying
 pub data TriesWith : DeadlineLocation → Type 0 where
-  testing : {f l : ℕ} → TriesWith (Testing f l)
-  setting : {f l : ℕ} → TriesWith (Setting f l)
-  checking : {f l : ℕ} → TriesWith (Checking f l)
-  entering : {f l : ℕ} → TriesWith (Entering f l)
+  testing : {f l : ℕ} → TriesWith (Testing (period f l))
+  setting : {f l : ℕ} → TriesWith (Setting (period f l))
+  checking : {f l : ℕ} → TriesWith (Checking (period f l))
+  entering : {f l : ℕ} → TriesWith (Entering (period f l))
 
 -- [2.110] process i, from 1, is trying
 pub record IsTryingWith (d : DeadlineState) (i : ℕ) : Type 0 where
@@ -48,14 +48,14 @@ pub record IsTryingWith (d : DeadlineState) (i : ℕ) : Type 0 where
 -- [3.1] [3.2] [3.3] [3.4] [3.5] [3.6] [3.7] [3.8] [3.9] [12.70] the actions of a process in a location, at a time m that is not before its first time
 pub data FromWith (m : ℕ) : ℕ → DeadlineLocation → Type 0 where
   try : FromWith m try_act Remainder
-  test : {f l : ℕ} → f ≤ m → FromWith m test_act (Testing f l)
-  set : {f l : ℕ} → f ≤ m → FromWith m set_act (Setting f l)
-  check : {f l : ℕ} → f ≤ m → FromWith m check_act (Checking f l)
-  crit : {f l : ℕ} → f ≤ m → FromWith m crit_act (Entering f l)
+  test : {f l : ℕ} → f ≤ m → FromWith m test_act (Testing (period f l))
+  set : {f l : ℕ} → f ≤ m → FromWith m set_act (Setting (period f l))
+  check : {f l : ℕ} → f ≤ m → FromWith m check_act (Checking (period f l))
+  crit : {f l : ℕ} → f ≤ m → FromWith m crit_act (Entering (period f l))
   exit : FromWith m exit_act Critical
-  reset : {f l : ℕ} → f ≤ m → FromWith m reset_act (Resetting f l)
-  rem : {f l : ℕ} → f ≤ m → FromWith m rem_act (Leaving f l)
-  withdraw : {f l : ℕ} → f ≤ m → FromWith m withdraw_act (Testing f l)
+  reset : {f l : ℕ} → f ≤ m → FromWith m reset_act (Resetting (period f l))
+  rem : {f l : ℕ} → f ≤ m → FromWith m rem_act (Leaving (period f l))
+  withdraw : {f l : ℕ} → f ≤ m → FromWith m withdraw_act (Testing (period f l))
 
 -- [12.70] a process from 1 to n in the action's place
 pub record ActsWith (d : DeadlineState) (act p m : ℕ) : Type 0 where
@@ -79,15 +79,15 @@ AcceptedIffAllowedWith = (d : DeadlineState) → sound_with d ≡ true → (act 
 
 -- [12.60] where an action of process p at the time m leads at the word w, and the word after it, with its own a and with b and c
 pub data EffectWith (a b c p m : ℕ) : ℕ → ℕ → DeadlineLocation → ℕ → Type 0 where
-  try : {w : ℕ} → EffectWith a b c p m try_act w (Testing m (m + a)) w
-  test_free : EffectWith a b c p m test_act 0 (Setting m (m + a)) 0
-  test_taken : {w : ℕ} → w ≢ 0 → EffectWith a b c p m test_act w (Testing m (m + a)) w
-  set : {w : ℕ} → EffectWith a b c p m set_act w (Checking (m + b) (m + c)) p
-  check_own : EffectWith a b c p m check_act p (Entering m (m + a)) p
-  check_other : {w : ℕ} → w ≢ p → EffectWith a b c p m check_act w (Testing m (m + a)) w
+  try : {w : ℕ} → EffectWith a b c p m try_act w (Testing (period m (m + a))) w
+  test_free : EffectWith a b c p m test_act 0 (Setting (period m (m + a))) 0
+  test_taken : {w : ℕ} → w ≢ 0 → EffectWith a b c p m test_act w (Testing (period m (m + a))) w
+  set : {w : ℕ} → EffectWith a b c p m set_act w (Checking (period (m + b) (m + c))) p
+  check_own : EffectWith a b c p m check_act p (Entering (period m (m + a))) p
+  check_other : {w : ℕ} → w ≢ p → EffectWith a b c p m check_act w (Testing (period m (m + a))) w
   crit : {w : ℕ} → EffectWith a b c p m crit_act w Critical w
-  exit : {w : ℕ} → EffectWith a b c p m exit_act w (Resetting m (m + a)) w
-  reset : {w : ℕ} → EffectWith a b c p m reset_act w (Leaving m (m + a)) 0
+  exit : {w : ℕ} → EffectWith a b c p m exit_act w (Resetting (period m (m + a))) w
+  reset : {w : ℕ} → EffectWith a b c p m reset_act w (Leaving (period m (m + a))) 0
   rem : {w : ℕ} → EffectWith a b c p m rem_act w Remainder w
   withdraw : {w : ℕ} → EffectWith a b c p m withdraw_act w Remainder w
 

@@ -2,8 +2,8 @@
 -- fresh state of deadlines demand 3 holds, in facts of its own states. Assumes nothing.
 use Rattle.std.specs.Prelude.{ℕ, ◌+◌, ◌≤◌, ◌<◌, ◌≡◌, ◌⊎◌, ◌≢◌, ◌↔◌, true, List, [], ◌∷◌, ◌++◌, map}
 use Rattle.model.specs.declared.Parameters.{Parameters}
-use Rattle.model.specs.declared.State.{State}
-use Rattle.model.specs.declared.Outcome.{Outcome}
+use Rattle.model.specs.Types.{State}
+use Rattle.model.specs.Types.{Outcome}
 use Rattle.model.specs.Acts.{wait_act, crit_act, withdraw_act}
 use Rattle.model.specs.States.{last_time}
 use Rattle.model.specs.Answers.{fresh_of}
@@ -12,8 +12,8 @@ use Rattle.model.specs.Facts.{LeadsOn}
 use Rattle.model.specs.Folds.{end_by, results_by}
 use Rattle.model.specs.Texts.{Event}
 use Rattle.lists.specs.Demand3.{owed_wait}
-use Rattle.deadlines.specs.declared.DeadlineState.{DeadlineState}
-use Rattle.deadlines.specs.declared.DeadlineOutcome.{DeadlineOutcome}
+use Rattle.deadlines.specs.Types.{DeadlineState}
+use Rattle.deadlines.specs.Types.{DeadlineOutcome}
 use Rattle.deadlines.specs.Deadlines.{sound_with, step_with, fresh_with}
 use Rattle.deadlines.specs.Matching.{Matches}
 use Rattle.matching.specs.Facts.{AcceptedWith, HasTimes, IsCriticalWith, IsTryingWith}

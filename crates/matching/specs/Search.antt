@@ -1,14 +1,14 @@
 -- What the two engines find when they look for the first deadline, [4.85], in plain facts: nobody just where nobody has a deadline, and else the
 -- lowest of the processes whose deadline is the smallest, which is the clock and the time left. Assumes nothing.
 use Rattle.std.specs.Prelude.{ℕ, ◌+◌, ◌≤◌, ◌≡◌, ◌≢◌, ◌↔◌, true}
-use Rattle.model.specs.declared.State.{State}
+use Rattle.model.specs.Types.{State}
 use Rattle.model.specs.States.{sound_of}
 use Rattle.model.specs.Facts.{HasDeadline}
 use Rattle.theory.specs.Lateness.{IsFirst}
 use Rattle.rules.specs.declared.survey.Survey.{Survey}
 use Rattle.rules.specs.Survey.{nothing}
 use Rattle.rules.specs.Search.{searched}
-use Rattle.deadlines.specs.declared.DeadlineState.{DeadlineState}
+use Rattle.deadlines.specs.Types.{DeadlineState}
 use Rattle.deadlines.specs.Deadlines.{sound_with}
 use Rattle.deadlines.specs.Search.{searched_with}
 use Rattle.matching.specs.Facts.{HasTimes}

@@ -75,24 +75,11 @@ module _ {A B : Type 0} (f : A → B) (rs : List A) (l : List B) (i : ℕ) (made
 
 -- Maps
 
--- a list is as long as any map of it: `search (needs, length_mapped)` finds the length of an array of structs
+-- a list is as long as any map of it: `search (rules, length_mapped)` finds the length of an array of structs
 pub length_mapped : (X Y : Type 0) (f : X → Y) (l : List X) (n : ℕ) → length (map f l) ≡ n → length l ≡ n
 length_mapped X Y f l n e = sym (length-map l f) ∙ e
 
 -- Copying
-
--- the first i of a list are stored over another
-module _ {A : Type 0} (from to : List A) (i : ℕ) where
-  pub copied_next : (d : A) → i < length from → i < length to → set (over (take i from) to) i (get_or from i d) ≡ over (take (i + 1) from) to
-  copied_next d h g =
-      over_snoc (take i from) to i (length-take-le i from (omega arith)) g (get_or from i d)
-      ∙ ap (λ (l : List A). over l to) (sym (take-suc from i d h) ∙ ap (λ (k : ℕ). take k from) (sym (add-one i)))
-
-  -- no more are left of one of the two
-  pub copied_all : i ≡ min (length to) (length from) → over (take i from) to ≡ over (take (length to) from) to
-  copied_all e = if_lt (length to) (length from)
-      (λ h. ap (λ (k : ℕ). over (take k from) to) {x = i} {y = length to} (omega arith))
-      (λ h. ap (λ (l : List A). over l to) (take_all i from (omega arith) ∙ sym (take_all (length to) from h)))
 
 -- as many as there were take the place of all
 pub copied_whole : {A : Type 0} (from to : List A) → length to ≡ length from → over (take (length to) from) to ≡ from

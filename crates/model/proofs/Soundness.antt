@@ -7,8 +7,8 @@ use native.Mathlib.Omega.{arith}
 use lib.Dec.{leb}
 use lib.ListN.{get_or}
 use borrow.Author.Tests.{leb-true, leb-false}
-use Rattle.model.specs.declared.Process.{Process}
-use Rattle.model.specs.declared.State.{State}
+use Rattle.model.specs.Types.{Process}
+use Rattle.model.specs.Types.{State}
 use Rattle.model.specs.States.{last_time, idle, since_of, entry_sound, entries_sound, limits_stand, sound_of}
 use Rattle.model.proofs.Tests.{by_test, and_true_iff, tests}
 use Rattle.model.proofs.Locations.{stage_location}

@@ -1,14 +1,15 @@
 -- Section 4 of the specification: the condition of each code in the order of the codes, and the two functions that give the first that
 -- holds, `step_of` for an action and `fresh_of` for a fresh state. Assumes nothing.
-use Rattle.std.specs.Prelude.{ℕ, ◌+◌, Bool, cond, not, ◌&&◌, ◌||◌, List, [], ◌∷◌, ltb, eqb}
-use Rattle.model.specs.declared.Process.{Process}
+use Rattle.std.specs.Prelude.{ℕ, ◌+◌, Bool, cond, not, ◌&&◌, ◌||◌, List, [], ◌∷◌, replicate, ltb, eqb}
+use Rattle.model.specs.Types.{Process}
 use Rattle.model.specs.declared.Parameters.{Parameters}
-use Rattle.model.specs.declared.State.{State}
+use Rattle.model.specs.Types.{State}
 use Rattle.model.specs.declared.Answer.{Answer}
-use Rattle.model.specs.declared.Outcome.{Outcome}
+use Rattle.model.specs.Types.{Outcome}
+use Rattle.model.specs.declared.Outcome as outcome
 use Rattle.model.specs.Stages.{critical}
 use Rattle.model.specs.Acts.{wait_act, check_act, last_act, leaves}
-use Rattle.model.specs.States.{no_parameters, count_stands, limits_stand, last_time, initial, stage_of}
+use Rattle.model.specs.States.{no_parameters, count_stands, limits_stand, last_time, initial_over, initial, idle, stage_of}
 use Rattle.model.specs.States.{bounded, deadline, release, sound_of, entry_of}
 use Rattle.model.specs.Actions.{effect}
 
@@ -152,6 +153,12 @@ blank = initial no_parameters
 abbrev pub fresh_by : {A : Type 0} → Parameters → (ℕ → A) → A → A
 fresh_by k refuses accepted = cond (not (count_stands k.n)) (refuses 11) (cond (not (limits_stand k)) (refuses 12) accepted)
 
+-- [4.90] [4.100] [4.70] [12.40] what such a call gives back in an engine whose fresh entries are these
+abbrev pub fresh_over : {E : Type 0} → E → Parameters → outcome.Outcome E
+fresh_over entries k =
+    fresh_by k (λ code. record { answer = answer_of code 0 0; state = initial_over entries no_parameters })
+    (record { answer = answer_of 0 0 0; state = initial_over entries k })
+
 -- [2.65] [4.90] [4.100] [4.70]
 unfoldable pub fresh_of : Parameters → Outcome
-fresh_of k = fresh_by k (λ code. answers code 0 0 blank) (answers 0 0 0 (initial k))
+fresh_of k = fresh_over (replicate 96 idle) k

@@ -1,10 +1,12 @@
 -- Sections 7 and 11 of the specification, a trace that is run: its steps from a fresh state on, the answer to each, and what was attempted.
 -- Assumes nothing.
-use Rattle.std.specs.Prelude.{ℕ, List, [], ◌∷◌, map, length, take}
-use Rattle.model.specs.declared.State.{State}
+use Rattle.std.specs.Prelude.{ℕ, List, [], ◌∷◌, Result, Ok, Err, map, length, take}
+use Rattle.model.specs.Types.{State}
 use Rattle.model.specs.declared.Answer.{Answer}
-use Rattle.model.specs.declared.Outcome.{Outcome}
-use Rattle.model.specs.declared.Scan.{Scan}
+use Rattle.model.specs.Types.{Outcome}
+use Rattle.model.specs.declared.Fault.{Fault}
+use Rattle.model.specs.declared.Found.{Found}
+use Rattle.model.specs.declared.Started.{Started}
 use Rattle.model.specs.Answers.{answer_numbers, step_of, fresh_of}
 use Rattle.model.specs.Folds.{end_by, results_by}
 use Rattle.model.specs.Texts.{Event}
@@ -43,23 +45,27 @@ attempts_from s events = attempts_of events (codes_from s events)
 
 -- Starting a text
 
--- helper: what was found of it, the state that its first step is taken in, and the lent lists
-pub record Started : Type 0 where
-  pub scan : Scan
-  pub state : State
+-- helper: what was found of it with the state that its first step is taken in, and the lent lists
+pub record Start : Type 0 where
+  pub started : Result Started Fault
   pub kept : Lists
 
 -- helper: of its parts
-abbrev pub start_gave : Scan → State → Lists → Started
-start_gave r s l = record { scan = r; state = s; kept = l }
+abbrev pub start_gave : Result Started Fault → Lists → Start
+start_gave r l = record { started = r; kept = l }
 
 -- [7.45] a fresh state of the trace's parameters
-abbrev pub first_state : Scan → State
-first_state r = (fresh_of r.parameters).state
+abbrev pub first_state : Found → State
+first_state f = (fresh_of f.parameters).state
+
+-- [7.46] where it was not refused
+abbrev pub started_from : Result Found Fault → Result Started Fault
+started_from (Ok f) = Ok (record { found = f; state = first_state f })
+started_from (Err f) = Err f
 
 -- [7.46] as a whole
-unfoldable pub started_of : List ℕ → Lists → Started
-started_of text l = start_gave (scanned_of text l).scan (first_state (scanned_of text l).scan) (scanned_of text l).kept
+unfoldable pub started_of : List ℕ → Lists → Start
+started_of text l = start_gave (started_from (scanned_of text l).scan) (scanned_of text l).kept
 
 -- Running steps
 

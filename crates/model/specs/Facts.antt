@@ -1,11 +1,11 @@
 -- The terms of the specification as plain facts about a state: what the theorems speak in. But for where a state comes from they use
 -- none of the tests that the step is defined by, so that the theorems check those from a second side. Assumes nothing.
 use Rattle.std.specs.Prelude.{ℕ, ◌+◌, ◌-◌, ◌≤◌, ◌≡◌, ◌≢◌, true, get_or}
-use Rattle.model.specs.declared.Location.{Location}
+use Rattle.model.specs.Types.{Location}
 use Rattle.model.specs.declared.Location.TheVariants.{Testing, Setting, Checking, Entering, Critical, Resetting, Leaving}
 use Rattle.model.specs.declared.Parameters.{Parameters}
-use Rattle.model.specs.declared.State.{State}
-use Rattle.model.specs.declared.Outcome.{Outcome}
+use Rattle.model.specs.Types.{State}
+use Rattle.model.specs.Types.{Outcome}
 use Rattle.model.specs.Acts.{withdraw_act}
 use Rattle.model.specs.States.{trying, entry_of}
 use Rattle.model.specs.Answers.{fresh_of}

@@ -1,3 +1,5 @@
+pub mod Types
+pub mod Refusals
 pub mod Stages
 pub mod Acts
 pub mod States

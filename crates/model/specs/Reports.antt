@@ -1,5 +1,6 @@
 -- Section 7 of the specification: what `replay` prints, and `report_of`, all that a report gives back. Assumes nothing.
 use Rattle.std.specs.Prelude.{ℕ, ◌+◌, List, [], ◌∷◌, ◌++◌, map}
+use Rattle.model.specs.Refusals.{code_of}
 use Rattle.model.specs.Answers.{answer_numbers, fresh_of}
 use Rattle.model.specs.Texts.{bytes, numbers_text}
 use Rattle.model.specs.Readings.{Trace, refused, trace, trace_of}
@@ -17,7 +18,7 @@ rows_text line (row ∷ rows) = numbers_text line row ++ rows_text (line + 1) ro
 
 -- [7.30] [7.35] [7.40] [7.45] what follows the first line
 abbrev pub report_lines : Trace → List ℕ
-report_lines (refused code line) = numbers_text line (code ∷ 0 ∷ 0 ∷ [])
+report_lines (refused why line) = numbers_text line (code_of why ∷ 0 ∷ 0 ∷ [])
 report_lines (trace line k events) = rows_text line (map answer_numbers (answers_from (fresh_of k).state events))
 
 -- [7.15] [7.20] the whole report

@@ -1,11 +1,13 @@
 -- Section 2 of the specification: which numbers stand, the locations and their times, the fresh state and the sound ones.
 -- Assumes nothing.
 use Rattle.std.specs.Prelude.{ℕ, ◌+◌, ◌-◌, max, Bool, true, false, cond, not, ◌&&◌, List, [], ◌∷◌, ◌++◌, length, get_or, take, replicate, leb, ltb, eqb}
-use Rattle.model.specs.declared.Location.{Location}
+use Rattle.model.specs.Types.{Location}
+use Rattle.model.specs.declared.Location as location
+use Rattle.model.specs.declared.State as state
 use Rattle.model.specs.declared.Location.TheVariants.{Remainder, Testing, Setting, Checking, Entering, Critical, Resetting, Leaving}
-use Rattle.model.specs.declared.Process.{Process}
+use Rattle.model.specs.Types.{Process}
 use Rattle.model.specs.declared.Parameters.{Parameters}
-use Rattle.model.specs.declared.State.{State}
+use Rattle.model.specs.Types.{State}
 use Rattle.model.specs.Stages.{remainder, testing, setting, checking, entering, critical, resetting, leaving}
 
 -- Parameters
@@ -78,14 +80,18 @@ entry l = record { location = l }
 abbrev pub idle : Process
 idle = entry Remainder
 
+-- [2.60] [12.40] a fresh state of either engine, with any entries and any parameters
+abbrev pub initial_over : {E : Type 0} → E → Parameters → state.State E
+initial_over entries k = record { parameters = k; clock = 0; word = 0; processes = entries }
+
 -- [2.60] a fresh state, with any parameters
 abbrev pub initial : Parameters → State
-initial k = record { parameters = k; clock = 0; word = 0; processes = replicate 96 idle }
+initial k = initial_over (replicate 96 idle) k
 
 -- Locations
 
 -- [2.70]
-abbrev pub stage_of : Location → ℕ
+abbrev pub stage_of : {T : Type 0} → location.Location T → ℕ
 stage_of Remainder = remainder
 stage_of (Testing t) = testing
 stage_of (Setting t) = setting
@@ -96,7 +102,7 @@ stage_of (Resetting t) = resetting
 stage_of (Leaving t) = leaving
 
 -- [2.80] whether a location is timed
-abbrev pub timed : Location → Bool
+abbrev pub timed : {T : Type 0} → location.Location T → Bool
 timed Remainder = false
 timed (Testing t) = true
 timed (Setting t) = true
@@ -106,16 +112,20 @@ timed Critical = false
 timed (Resetting t) = true
 timed (Leaving t) = true
 
+-- [2.80] [12.10] what a timed location carries of the time; `other` where it carries nothing
+abbrev pub time_of : {T : Type 0} → T → location.Location T → T
+time_of other Remainder = other
+time_of other (Testing t) = t
+time_of other (Setting t) = t
+time_of other (Checking t) = t
+time_of other (Entering t) = t
+time_of other Critical = other
+time_of other (Resetting t) = t
+time_of other (Leaving t) = t
+
 -- [2.80] the arrival; 0 where there is none
 abbrev pub since_of : Location → ℕ
-since_of Remainder = 0
-since_of (Testing t) = t
-since_of (Setting t) = t
-since_of (Checking t) = t
-since_of (Entering t) = t
-since_of Critical = 0
-since_of (Resetting t) = t
-since_of (Leaving t) = t
+since_of l = time_of 0 l
 
 -- Times: process i has the entry q
 
@@ -197,8 +207,8 @@ entry_of s p = get_or s.processes (p - 1) idle
 
 -- Locations as numbers
 
--- [2.70] [2.80] back from a stage and a since, for where only numbers can stand
-abbrev pub location_at : ℕ → ℕ → Location
+-- [2.70] [2.80] [12.10] back from a stage and a time, for where only numbers can stand
+abbrev pub location_at : {T : Type 0} → ℕ → T → location.Location T
 location_at stage t =
     cond (eqb stage remainder) Remainder
     (cond (eqb stage testing) (Testing t)

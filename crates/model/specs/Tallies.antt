@@ -2,7 +2,7 @@
 -- it. Assumes nothing.
 use Rattle.std.specs.Prelude.{ℕ, ◌+◌, ◌-◌, max, Bool, true, false, cond, ◌&&◌, ◌||◌, List, [], ◌∷◌, leb, eqb}
 use Rattle.model.specs.declared.Counts.{Counts}
-use Rattle.model.specs.declared.Process.{Process}
+use Rattle.model.specs.Types.{Process}
 use Rattle.model.specs.Acts.{try_act, crit_act, exit_act, withdraw_act}
 use Rattle.model.specs.Stages.{critical}
 use Rattle.model.specs.States.{stage_of}

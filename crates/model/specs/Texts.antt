@@ -4,6 +4,7 @@ use Rattle.std.specs.Prelude.{ℕ, zero, suc, ◌+◌, ◌/◌, ◌%◌, Bool, t
 use Prim.Native.Char.{code}
 use Prim.Native.String.{String, [] as nothing, ◌∷◌ as ◌then◌}
 use Rattle.model.specs.declared.Parameters.{Parameters}
+use Rattle.model.specs.declared.Event.{Event as Step}
 use Rattle.model.specs.States.{parameters_of, equal_limits}
 
 -- [6.10] the bytes of a quoted text, in ASCII
@@ -57,10 +58,8 @@ word_text action = get_or words action [] ++ (newline ∷ [])
 -- Lines
 
 -- [6.50] a step of a trace
-pub record Event : Type 0 where
-  pub time : ℕ
-  pub process : ℕ
-  pub action : ℕ
+abbrev pub Event : Type 0
+Event = Step
 
 -- helper: of its parts
 abbrev pub event : ℕ → ℕ → ℕ → Event

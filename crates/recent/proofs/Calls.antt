@@ -8,6 +8,7 @@ use native.Mathlib.Omega.{arith}
 use lib.Dec.{ltb}
 use lib.ListN.{length, set}
 use borrow.Author.Tests.{eq-eqb, ne_eqb, le-leb, lt-leb}
+use Rattle.std.specs.Prelude.{Option, Some, None}
 use Rattle.model.specs.declared.Answer.{Answer}
 use Rattle.model.specs.Answers.{answer_of, beyond}
 use Rattle.model.proofs.Tests.{by_test}
@@ -89,16 +90,18 @@ module _ {l : List ℕ} {t : ℕ} {r : Look} (k : Looked l t r) where
 
 -- A call on a sound board
 
+some-none : {r : Answer} → ◌≡◌ {A = Option Answer} (Some r) None → ⊥
+some-none e = cc
+
 -- the tests of a time that is not refused
 pub record Timely (last t : ℕ) : Type 0 where
   pub forward : ltb t last ≡ false
   pub within : beyond t ≡ false
 
-pub timely : (last t : ℕ) {r : Answer} → r ≡ untimely_of last t → r.code ≡ 0 → Timely last t
-timely last t {r} e z =
-    let u : (untimely_of last t).code ≡ 0 = rw e at z in
-    by_test (ltb t last) (λ f. absurd (omega (arith, simp f at u)))
-    (λ f. by_test (beyond t) (λ g. absurd (omega (arith, simp (f, g) at u))) (λ g. record { forward = f; within = g }))
+pub timely : (last t : ℕ) → untimely_of last t ≡ None → Timely last t
+timely last t e =
+    by_test (ltb t last) (λ f. absurd (some-none (simp f at e)))
+    (λ f. by_test (beyond t) (λ g. absurd (some-none (simp (f, g) at e))) (λ g. record { forward = f; within = g }))
 
 -- a list that tells no sound board
 on_unsound : (l new : List ℕ) (b : Board) (t : ℕ) (after : BoardOutcome) {r : Answer} → is_board l && board_sound b ≡ false → r ≡ answer_of 2 0 0
@@ -108,11 +111,13 @@ on_unsound l new b t after e f =
 
 -- a time that is refused
 on_untimely : (l new : List ℕ) (b : Board) (t : ℕ) (after : BoardOutcome) {r : Answer} → is_board l ≡ true → board_sound b ≡ true
-    → r ≡ untimely_of b.last t → r.code ≢ 0 → board_gave r l ≡ on_numbers l (unless_barred b t after).answer new
-on_untimely l new b t after {r} board sound f n =
-    let m : (untimely_of b.last t).code ≢ 0 = rw f at n in
-    rw f (by_test (ltb t b.last) (λ e. simp (board, sound, e))
-    (λ e. by_test (beyond t) (λ g. simp (board, sound, e, g)) (λ g. absurd (m (simp (e, g))))))
+    → Some r ≡ untimely_of b.last t → board_gave r l ≡ on_numbers l (unless_barred b t after).answer new
+on_untimely l new b t after {r} board sound f =
+    by_test (ltb t b.last) (λ e. rw (same (simp e at f)) (simp (board, sound, e)))
+    (λ e. by_test (beyond t) (λ g. rw (same (simp (e, g) at f)) (simp (board, sound, e, g))) (λ g. absurd (some-none (simp (e, g) at f))))
+  where
+    same : {u : Answer} → ◌≡◌ {A = Option Answer} (Some r) (Some u) → r ≡ u
+    same e = cc
 
 -- `add`
 
@@ -122,7 +127,7 @@ module _ (l : List ℕ) (t p wait : ℕ) {r : Answer} where
   add_unsound = on_unsound l (added l t p wait) (board_in l) t _
 
   module _ {look : Look} (k : Looked l t look) where
-    pub add_untimely : r ≡ untimely_of (board_in l).last t → r.code ≢ 0 → board_gave r l ≡ lent_add l t p wait
+    pub add_untimely : Some r ≡ untimely_of (board_in l).last t → board_gave r l ≡ lent_add l t p wait
     unfolding lent_add add_of
     add_untimely = on_untimely l (added l t p wait) (board_in l) t _ k.board k.sound
 
@@ -159,7 +164,7 @@ module _ (l : List ℕ) (t : ℕ) {r : Answer} where
   show_unsound = on_unsound l (shown l t) (board_in l) t _
 
   module _ {look : Look} (k : Looked l t look) where
-    pub show_untimely : r ≡ untimely_of (board_in l).last t → r.code ≢ 0 → board_gave r l ≡ lent_show l t
+    pub show_untimely : Some r ≡ untimely_of (board_in l).last t → board_gave r l ≡ lent_show l t
     unfolding lent_show show_of
     show_untimely = on_untimely l (shown l t) (board_in l) t _ k.board k.sound
 

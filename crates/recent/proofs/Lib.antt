@@ -18,5 +18,7 @@ pub mod Numbers
 pub mod ToldLists
 pub mod StaysSound
 pub mod Passing
+pub mod Rows
+pub mod Front
 pub mod Sights
 pub mod Refusals

@@ -1,9 +1,9 @@
 -- Laws of a pass over entries that has come to some of them, and of one pass after another. Assumes nothing.
 use Prim.Native.Nat.{ℕ, max, ◌≤◌, ◌<◌}
-use mathlib.Core.Path.{◌≡◌, refl, sym, ap, ◌∙◌}
-use mathlib.Core.Bool.{true, false}
+use mathlib.Core.Path.{◌≡◌, sym, ap, ◌∙◌}
+use mathlib.Core.Bool.{false}
 use mathlib.Core.List.{List, [], ◌∷◌, ◌++◌}
-use Rattle.model.proofs.Tests.{clash}
+use Rattle.std.specs.Prelude.{Option, Some, None}
 use Rattle.recent.specs.declared.rings.Pass.{Pass}
 use Rattle.recent.specs.Boards.{Entry, in_order}
 use Rattle.recent.specs.Looking.{latest, longest_over, Passed, Passes}
@@ -14,10 +14,6 @@ pub record Passing (all : List Entry) (time₀ longest₀ : ℕ) (left : List En
   pub order : in_order time₀ all ≡ in_order time left
   pub latest_is : latest time₀ all ≡ latest time left
   pub longest_is : longest_over longest₀ all ≡ longest_over longest left
-
--- at first all are left
-pub passing_start : {all : List Entry} {time longest : ℕ} → Passing all time longest all time longest
-passing_start = record { order = refl; latest_is = refl; longest_is = refl }
 
 module _ {all : List Entry} {time₀ longest₀ : ℕ} {left : List Entry} {time longest : ℕ} (so_far : Passing all time₀ longest₀ left time longest) where
   module _ {e : Entry} {es : List Entry} (first : left ≡ e ∷ es) where
@@ -46,26 +42,18 @@ passing_end {r = r} so_far none =
 
 -- One pass after another
 
-module _ {es : List Entry} (ds : List Entry) {pass mid : Pass} where
-  -- what falls in the first
-  pub passes_fell : Passes es pass mid → mid.falls ≡ true → Passes (es ++ ds) pass mid
-  passes_fell p f =
-      record {
-        falls = λ _. order_append pass.time es ds ∙ rw (p.falls f);
-        passed = λ e. clash f e;
-      }
+-- what falls in the first
+pub passes_fell : (t : ℕ) (es ds : List Entry) → in_order t es ≡ false → in_order t (es ++ ds) ≡ false
+passes_fell t es ds f = order_append t es ds ∙ rw f
 
-  order_both : Passed es pass mid → in_order pass.time (es ++ ds) ≡ in_order mid.time ds
-  order_both first = order_append pass.time es ds ∙ rw (first.order, first.latest_is)
+module _ {es : List Entry} (ds : List Entry) {pass mid : Pass} (first : Passed es pass mid) where
+  order_both : in_order pass.time (es ++ ds) ≡ in_order mid.time ds
+  order_both = order_append pass.time es ds ∙ rw (first.order, first.latest_is)
 
-  pub passes_both : {r : Pass} → Passes es pass mid → mid.falls ≡ false → Passes ds mid r → Passes (es ++ ds) pass r
-  passes_both p f q =
-      let first = p.passed f in
-      record {
-        falls = λ e. order_both first ∙ q.falls e;
-        passed = λ e. record {
-          order = order_both first ∙ (q.passed e).order;
-          latest_is = (q.passed e).latest_is ∙ rw first.latest_is (sym (latest_append pass.time es ds));
-          longest_is = (q.passed e).longest_is ∙ rw first.longest_is (sym (over_append pass.longest es ds));
-        };
-      }
+  pub passes_both : (r : Option Pass) → Passes ds mid r → Passes (es ++ ds) pass r
+  passes_both None q = order_both ∙ q
+  passes_both (Some r) q = record {
+    order = order_both ∙ q.order;
+    latest_is = q.latest_is ∙ rw first.latest_is (sym (latest_append pass.time es ds));
+    longest_is = q.longest_is ∙ rw first.longest_is (sym (over_append pass.longest es ds));
+  }

@@ -62,13 +62,6 @@ unfolding entries_from
 entries_length l k zero = refl
 entries_length l k (suc n) = ap suc (entries_length l (k + 1) n)
 
--- up to place t
-pub entries_to : (l : List ℕ) (k t : ℕ) → k < t → entries_from l k (t - k) ≡ entry_at l k ∷ entries_from l (k + 1) (t - (k + 1))
-entries_to l k t h = let more : t - k ≡ t - (k + 1) + 1 = omega arith in rw more (entries_next l k (t - (k + 1)))
-
-pub entries_end : (l : List ℕ) (k t : ℕ) → t ≤ k → entries_from l k (t - k) ≡ []
-entries_end l k t h = let none : t - k ≡ 0 = omega arith in rw none (entries_none l k)
-
 -- A ring
 
 -- up to the end of the places it is straight

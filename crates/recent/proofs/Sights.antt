@@ -15,7 +15,7 @@ use Rattle.recent.specs.declared.rings.Look.{Look}
 use Rattle.recent.specs.Boards.{Entry, board_of, width_stands, most_kept, in_order, none_after, board_sound, how_many, longest_at}
 use Rattle.recent.specs.Encodings.{width_index, last_index, first_index, count_index, entry_index, board_length, wrapped, entry_at, ring_from}
 use Rattle.recent.specs.Encodings.{board_in, is_board}
-use Rattle.recent.specs.Looking.{latest, Rested, Passed, Passes, Looked, Looks}
+use Rattle.recent.specs.Looking.{latest, Rested, Passed, Looked}
 use Rattle.recent.proofs.Places.{wrapped_inside, wrapped_below, ring_none, ring_length, ring_same}
 use Rattle.recent.proofs.Passes.{order_from, none-after, some_after, all_count, all_longest}
 use Rattle.recent.proofs.Resting.{ring_left}
@@ -69,23 +69,15 @@ module _ (l : List ℕ) (s : SoundNumbers l) where
   pub width-in : width_stands (width_in l) ≡ true
   width-in = (width_stands_iff (width_in l)).1 s.parts.width
 
--- a look that shows no sound board
-pub no_sight : (l : List ℕ) (t : ℕ) {r : Look} → r.sound ≡ false → (SoundNumbers l → ⊥) → Looks l t r
-no_sight l t e n =
-    record {
-      looked = λ f. clash f e;
-      unsound = λ _. by_test (is_board l && board_sound (board_in l))
-          (λ h. let both = (and_true_iff (is_board l) (board_sound (board_in l))).0 h in absurd (n (sound_numbers l both.0 both.1)))
-          (λ h. h);
-    }
-
--- a look that shows one
-pub sight : (l : List ℕ) (t : ℕ) {r : Look} → r.sound ≡ true → Looked l t r → Looks l t r
-sight l t e seen = record { looked = λ _. seen; unsound = λ f. clash e f }
+-- a list that tells no sound board
+pub no_sight : (l : List ℕ) → (SoundNumbers l → ⊥) → (is_board l && board_sound (board_in l)) ≡ false
+no_sight l n = by_test (is_board l && board_sound (board_in l))
+    (λ h. let both = (and_true_iff (is_board l) (board_sound (board_in l))).0 h in absurd (n (sound_numbers l both.0 both.1)))
+    (λ h. h)
 
 -- an empty board, whatever the time
 pub empty_seen : (l : List ℕ) (t : ℕ) → count_in l ≡ 0 → board_length ≤ length l → first_in l < most_kept → width_stands (width_in l) ≡ true
-    → Looked l t (record { sound = true; first = first_in l; count = 0; longest = 0 })
+    → Looked l t (record { first = first_in l; count = 0; longest = 0 })
 unfolding board_in in_order none_after how_many longest_at
 empty_seen l t none fits inside stands =
     let empty : ring_in l ≡ [] = rw none (ring_none l (first_in l) (omega arith)) in
@@ -112,7 +104,7 @@ empty_seen l t none fits inside stands =
 
 -- where the second starts: at the last time that is gone
 abbrev pub start_of : Rest → Pass
-start_of rest = record { falls = false; time = rest.time; longest = 0 }
+start_of rest = record { time = rest.time; longest = 0 }
 
 -- the entries that are left by the first
 abbrev pub left_of : List ℕ → Rest → List Entry
@@ -124,8 +116,8 @@ since_in l t = t + 1 - width_in l
 
 module _ (l : List ℕ) (t : ℕ) {rest : Rest} (gone : Rested l (first_in l) (count_in l) (since_in l t) rest) where
   -- a time that falls among the entries that are left
-  pub fall_seen : {pass : Pass} → Passes (left_of l rest) (start_of rest) pass → pass.falls ≡ true → SoundNumbers l → ⊥
-  fall_seen passes e s = clash s.parts.order (gone.resting.order ∙ passes.falls e)
+  pub fall_seen : in_order rest.time (left_of l rest) ≡ false → SoundNumbers l → ⊥
+  fall_seen falls s = clash s.parts.order (gone.resting.order ∙ falls)
 
   module _ {pass : Pass} (passed : Passed (left_of l rest) (start_of rest) pass) where
     latest_seen : latest 0 (ring_in l) ≡ pass.time
@@ -177,7 +169,7 @@ module _ (l : List ℕ) (t : ℕ) {rest : Rest} (gone : Rested l (first_in l) (c
 
       -- a sound board, whose figures are those of the passes
       pub seen : board_length ≤ length l → first_in l < most_kept → width_stands (width_in l) ≡ true → pass.time ≤ last_in l
-          → Looked l t (record { sound = true; first = rest.first; count = rest.count; longest = pass.longest })
+          → Looked l t (record { first = rest.first; count = rest.count; longest = pass.longest })
       unfolding board_in
       seen fits inside stands h =
           let s = sound_seen fits inside stands h in
@@ -225,7 +217,7 @@ module _ (l : List ℕ) (long : board_length ≤ length l) where
       let inside : first_in front < most_kept = rw (front_at first_index (omega arith)) s.inside in
       simp (le-leb _ _ fits, lt-ltb _ _ inside) (rw (front_board s.inside s.room) (numbers_sound l s))
 
-  front_seen : (t : ℕ) {r : Look} → Looked front t r → Looked l t r
+  pub front_seen : (t : ℕ) {r : Look} → Looked front t r → Looked l t r
   unfolding is_board
   front_seen t seen =
       let s = sound_numbers front seen.board seen.sound in
@@ -240,8 +232,5 @@ module _ (l : List ℕ) (long : board_length ≤ length l) where
         longest_is = rw same at seen.longest_is;
       }
 
-  pub front_looks : (t : ℕ) {r : Look} → Looks front t r → Looks l t r
-  front_looks t {r} looks =
-      by_test r.sound
-      (λ e. sight l t e (front_seen t (looks.looked e)))
-      (λ e. no_sight l t e (λ s. clash (front_sound s) (looks.unsound e)))
+  pub front_unsound : (is_board front && board_sound (board_in front)) ≡ false → (is_board l && board_sound (board_in l)) ≡ false
+  front_unsound e = no_sight l (λ s. clash (front_sound s) e)

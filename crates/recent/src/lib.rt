@@ -12,8 +12,7 @@ ghost use Rattle.recent.specs.Looking.{untimely_of};
 use crate::rings::{
     BOARD, LAST, PLACES, empty, look_in, put_entry, put_header, width_stands, wrapped_place,
 };
-use model::Answer;
-use values::{answer_with, greater};
+use model::{Answer, Refusal};
 
 // [2.40] the clock's end
 const END: u64 = 1000000000000;
@@ -22,59 +21,59 @@ const END: u64 = 1000000000000;
 pub fn set_up(width: u64, board: &mut [u64]) -> Answer
     ensures { board_gave result board.new ≡ lent_set_up width board.old }
 {
+    let Some(board) = board.first_chunk_mut::<BOARD>() else {
+        return if width_stands(width) {
+            Answer::from(Refusal::ShortOutput)
+        } else {
+            Answer::from(Refusal::BadWidth)
+        };
+    };
     if !width_stands(width) {
-        if BOARD <= board.len() {
-            empty(board, 0);
-        }
-        return answer_with(17, 0, 0);
-    }
-    if board.len() < BOARD {
-        return answer_with(16, 0, 0);
+        empty(board, 0);
+        return Answer::from(Refusal::BadWidth);
     }
     empty(board, width);
-    answer_with(0, 0, 0)
+    Answer::accepted(0, 0)
 }
 
-// [4.4] [4.5] The refusal of a time that a sound board is told, or 0.
-fn untimely(last: u64, time: u64) -> Answer
+// [4.4] [4.5] The refusal of a time that a sound board is told, if it is refused.
+fn untimely(last: u64, time: u64) -> Option<Answer>
     ensures { result ≡ untimely_of last time }
 {
     if time < last {
-        return answer_with(4, 0, last);
+        return Some(Answer::refused(Refusal::Backward, 0, last));
     }
     if END < time {
-        return answer_with(5, 0, 0);
+        return Some(Answer::from(Refusal::EndOfClock));
     }
-    answer_with(0, 0, 0)
+    None
 }
 
 // [4.7]
 fn is_process(process: u64) -> bool
     ensures { result ≡ is_process process }
 {
-    if process < 1 {
-        return false;
-    }
-    process <= 96
+    (1..=96).contains(&process)
 }
 
 // [10.70] [10.90] [10.140] [21.110] An entry more, at its time.
 pub fn add(board: &mut [u64], time: u64, process: u64, wait: u64) -> Answer
     ensures { board_gave result board.new ≡ lent_add board.old time process wait }
 {
-    let seen = look_in(board, time);
-    if !seen.sound {
-        return answer_with(2, 0, 0);
-    }
-    let refused = untimely(board[LAST], time);
-    if refused.code != 0 {
+    let Some(board) = board.first_chunk_mut::<BOARD>() else {
+        return Answer::from(Refusal::NoSummary);
+    };
+    let Some(seen) = look_in(board, time) else {
+        return Answer::from(Refusal::NoSummary);
+    };
+    if let Some(refused) = untimely(board[LAST], time) {
         return refused;
     }
     if !is_process(process) {
-        return answer_with(7, 0, 0);
+        return Answer::from(Refusal::NoProcess);
     }
     if seen.count == PLACES {
-        return answer_with(18, 0, 0);
+        return Answer::from(Refusal::BoardFull);
     }
     put_header(board, time, seen.first, seen.count + 1);
     put_entry(
@@ -84,21 +83,22 @@ pub fn add(board: &mut [u64], time: u64, process: u64, wait: u64) -> Answer
         process,
         wait,
     );
-    answer_with(0, (seen.count + 1) as u64, greater(seen.longest, wait))
+    Answer::accepted((seen.count + 1) as u64, seen.longest.max(wait))
 }
 
 // [10.80] [10.90] [10.140] [21.110] The figures at a clock.
 pub fn show(board: &mut [u64], clock: u64) -> Answer
     ensures { board_gave result board.new ≡ lent_show board.old clock }
 {
-    let seen = look_in(board, clock);
-    if !seen.sound {
-        return answer_with(2, 0, 0);
-    }
-    let refused = untimely(board[LAST], clock);
-    if refused.code != 0 {
+    let Some(board) = board.first_chunk_mut::<BOARD>() else {
+        return Answer::from(Refusal::NoSummary);
+    };
+    let Some(seen) = look_in(board, clock) else {
+        return Answer::from(Refusal::NoSummary);
+    };
+    if let Some(refused) = untimely(board[LAST], clock) {
         return refused;
     }
     put_header(board, clock, seen.first, seen.count);
-    answer_with(0, seen.count as u64, seen.longest)
+    Answer::accepted(seen.count as u64, seen.longest)
 }

@@ -7,16 +7,21 @@
 
 mod reports;
 
-use crate::reports::print_report;
-use streams::{kept, read_text};
+ghost use Rattle.model.specs.Reports.{report_text};
+
+use streams::{OUTPUT, Render};
+
+// The report of a text.
+struct Report;
+
+impl Render for Report {
+    ghost rendered = { report_text };
+
+    fn render<'a>(&self, text: &[u8], out: &'a mut [u8; OUTPUT]) -> &'a [u8] {
+        reports::render(text, out)
+    }
+}
 
 fn main(rt: HostRuntime) {
-    let mut text = kept();
-    let Ok(size) = read_text(&mut rt.stdin(), &mut text) else {
-        let _ = eprintln!(rt; "replay: the recording could not be read");
-        return;
-    };
-    if !print_report(&rt, &text[..size]) {
-        let _ = eprintln!(rt; "replay: the report could not be written");
-    }
+    streams::run(&rt, &mut rt.stdin(), "replay", "the report", &Report);
 }

@@ -1,27 +1,33 @@
 -- Laws of the lines of a report: one line more, and the lines of steps that are taken block by block. Assumes nothing.
-use Prim.Native.Nat.{ℕ, ◌+◌, ◌<◌}
+use Prim.Native.Nat.{ℕ, ◌+◌, ◌-◌, ◌<◌}
 use mathlib.Core.Path.{◌≡◌, sym, ap, ◌∙◌}
-use mathlib.Core.List.{List, [], ◌∷◌, ◌++◌, append_assoc}
+use mathlib.Core.List.{List, [], ◌∷◌, ◌++◌, map, append_assoc}
 use native.Mathlib.Omega.{arith}
 use native.Mathlib.Nat.{add-zero}
 use lib.ListN.{length, get_or, take, drop, take-append-drop}
 use lib.Seq.{drop-drop}
-use Rattle.model.specs.declared.State.{State}
+use Rattle.model.specs.declared.Answer.{Answer}
+use Rattle.model.specs.Types.{State}
+use Rattle.model.specs.Answers.{answer_numbers}
 use Rattle.model.specs.Texts.{Event, numbers_text}
+use Rattle.model.specs.Readings.{Lists}
+use Rattle.model.specs.Writings.{events_of}
 use Rattle.model.specs.Executions.{state_from}
 use Rattle.model.specs.Reports.{rows_text}
 use Rattle.model.proofs.Lists.{drop_at}
-use Rattle.execution.specs.Turns.{rows_from}
-use Rattle.execution.proofs.Blocks.{length_from, from_append, Taken}
+use Rattle.execution.specs.declared.running.Run.{Run}
+use Rattle.execution.specs.Blocks.{rows_from, Took}
+use Rattle.execution.proofs.Blocks.{length_from, from_append}
 use Rattle.report.specs.Runs.{run_text}
 
 -- Lines
 
--- the line of row i, where the first has the number `line`, and those after it
-pub rows_next : (line : ℕ) (rows : List (List ℕ)) (i : ℕ) (d : List ℕ) → i < length rows
-    → rows_text (line + i) (drop i rows) ≡ numbers_text (line + i) (get_or rows i d) ++ rows_text (line + (i + 1)) (drop (i + 1) rows)
+-- the line of answer i, where the first has the number `line`, and those after it
+pub rows_next : (line : ℕ) (answers : List Answer) (i : ℕ) (d : Answer) → i < length answers
+    → rows_text (line + i) (map answer_numbers (drop i answers))
+    ≡ numbers_text (line + i) (answer_numbers (get_or answers i d)) ++ rows_text (line + (i + 1)) (map answer_numbers (drop (i + 1) answers))
 unfolding rows_text
-rows_next line rows i d h = let q : line + i + 1 ≡ line + (i + 1) = omega arith in rw (drop_at rows i d h, q)
+rows_next line answers i d h = let q : line + i + 1 ≡ line + (i + 1) = omega arith in rw (drop_at answers i d h, q)
 
 rows_append : (line : ℕ) (xs ys : List (List ℕ)) → rows_text line (xs ++ ys) ≡ rows_text line xs ++ rows_text (line + length xs) ys
 unfolding rows_text
@@ -41,10 +47,14 @@ run_parts line s events k =
     ∙ rw (from_append s (take k events) (drop k events), ← length_from s (take k events))
     (rows_append line (rows_from s (take k events)) (rows_from (state_from s (take k events)) (drop k events)))
 
--- of these steps i have been taken, which led to s, and a block of k more led to t and left the rows m: its lines, and then those of the
--- steps that are left
-pub run_next : (line i k : ℕ) (s t : State) (m : List (List ℕ)) (events : List Event) → Taken s (take k (drop i events)) k t m
-    → run_text (line + i) s (drop i events) ≡ rows_text (line + i) (take k m) ++ run_text (line + (i + k)) t (drop (i + k) events)
-run_next line i k s t m events h =
-    let q : line + i + length (take k (drop i events)) ≡ line + (i + k) = omega (arith, h.size) in
-    rw (h.rows, h.led, ← drop-drop k i events, ← q) (run_parts (line + i) s (drop i events) k)
+-- the lines of a block that was taken, and then those of the steps that are left
+pub run_next : {r t : Run} {l : Lists} {k : ℕ} (line : ℕ) → Took r l k t
+    → run_text (line + r.taken) r.state (drop r.taken (events_of l))
+    ≡ rows_text (line + (t.taken - k)) (map answer_numbers (take k t.answers)) ++ run_text (line + t.taken) t.state (drop t.taken (events_of l))
+run_next {r} {t} {l} {k} line h =
+    let events : List Event = events_of l in
+    let i : ℕ = r.taken in
+    let at : t.taken - k ≡ i = omega (arith, h.counted) in
+    let q : line + i + length (take k (drop i events)) ≡ line + t.taken = omega (arith, h.block.size, h.counted) in
+    let rest : drop k (drop i events) ≡ drop t.taken events = drop-drop k i events ∙ ap (λ (n : ℕ). drop n events) (sym h.counted) in
+    rw (at, h.block.rows, h.block.led, ← rest, ← q) (run_parts (line + i) r.state (drop i events) k)

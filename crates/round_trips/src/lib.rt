@@ -5,11 +5,10 @@
 ghost use Rattle.std.specs.Prelude.{◌≡◌};
 ghost use Rattle.model.specs.Readings.{lent, lists, read_gave, read_of};
 ghost use Rattle.model.specs.Writings.{events_of, write_gave, write_of};
-ghost use Rattle.round_trips.specs.Trips.{rewrite_of, not_read, reread_of, ComesBack, ReadsAlike, StepsComeBack};
+ghost use Rattle.round_trips.specs.Trips.{rewrite_of, reread_of, ComesBack, ReadsAlike, StepsComeBack};
 
 use model::{Answer, Parameters, Reading};
 use trace::{read, write};
-use values::no_parameters;
 
 // [6.200] [6.202] [6.205] [21.110] Reads a recording into three lists, and writes what was read. A refused reading is the answer, and `out` stays.
 pub fn rewrite(
@@ -27,12 +26,13 @@ pub fn rewrite(
         out.old out.new }
     ensures alike { ReadsAlike text.now (lists times.old processes.old actions.old) (write_gave result out.new) }
 {
-    let reading = read(text, times, processes, actions);
-    let answer = reading.answer;
-    if answer.code != 0 {
-        return answer;
-    }
-    let count = answer.time as usize;
+    let reading = match read(text, times, processes, actions) {
+        Ok(reading) => reading,
+        Err(answer) => {
+            return answer;
+        }
+    };
+    let count = reading.steps;
     write(
         reading.parameters,
         &times[..count],
@@ -40,16 +40,6 @@ pub fn rewrite(
         &actions[..count],
         out,
     )
-}
-
-// What a refused writing leaves to read: nothing.
-fn not_read(answer: Answer) -> Reading
-    ensures { result ≡ not_read answer }
-{
-    Reading {
-        answer: answer,
-        parameters: no_parameters(),
-    }
 }
 
 // [6.210] [6.215] [21.110] Writes the steps in three lists into `out`, and reads what was written into three other lists. A refused writing is
@@ -63,7 +53,7 @@ pub fn reread(
     times2: &mut [u64],
     processes2: &mut [u64],
     actions2: &mut [u64],
-) -> Reading
+) -> Result<Reading, Answer>
     ensures out { out.new
         ≡ (write_of parameters (events_of (lent times.entry processes.entry actions.entry)) out.old).out }
     ensures read { read_gave result (lists times2.new processes2.new actions2.new)
@@ -75,7 +65,7 @@ pub fn reread(
 {
     let answer = write(parameters, times, processes, actions, out);
     if answer.code != 0 {
-        return not_read(answer);
+        return Err(answer);
     }
     let size = answer.time as usize;
     read(&out[..size], times2, processes2, actions2)

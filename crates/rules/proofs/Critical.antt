@@ -1,8 +1,8 @@
 -- The lowest critical process after an action, from the lowest of those besides the acting one, and the other way round. Assumes nothing.
 use Rattle.std.proofs.Common.{◌≡◌, ℕ, zero, suc, ◌+◌, ◌<◌, ◌≤◌, Bool, true, false, cond, eqb, ◌≢◌, List, [], ◌∷◌, length, get_or, drop, set}
 use Rattle.std.proofs.Common.{sym, refl, ap, ◌∙◌, arith, le-ltb, lt-ltb, eq-eqb, ne_eqb}
-use Rattle.model.specs.declared.Location.{Location}
-use Rattle.model.specs.declared.Process.{Process}
+use Rattle.model.specs.Types.{Location}
+use Rattle.model.specs.Types.{Process}
 use Rattle.model.specs.Stages.{critical}
 use Rattle.model.specs.States.{entry, idle, stage_of}
 use Rattle.model.specs.Answers.{critical_from, critical_by}

@@ -2,9 +2,9 @@
 -- at no time after the clock and whose deadline is not past. Assumes nothing.
 use Rattle.std.proofs.Common.{◌≡◌, ℕ, ◌+◌, ◌<◌, ◌≤◌, true, false, not, ◌&&◌, eqb, ltb, leb, arith, le-leb}
 use borrow.Author.Tests.{lt-leb}
-use Rattle.model.specs.declared.Location.{Location}
+use Rattle.model.specs.Types.{Location}
 use Rattle.model.specs.declared.Location.TheVariants.{Critical}
-use Rattle.model.specs.declared.State.{State}
+use Rattle.model.specs.Types.{State}
 use Rattle.model.specs.Stages.{remainder}
 use Rattle.model.specs.States.{entry, idle, stage_of, since_of, timed, limit_of, entry_sound, stay}
 use Rattle.model.proofs.Tests.{by_test}

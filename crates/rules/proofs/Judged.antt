@@ -3,11 +3,11 @@
 use Rattle.std.proofs.Common.{◌≡◌, ℕ, ◌+◌, ◌-◌, ◌^◌, ◌<◌, ◌≤◌, Bool, true, false, cond, not, ◌&&◌, ◌||◌, eqb, ltb, ◌≢◌, length, set, sym}
 use Rattle.std.proofs.Common.{refl, ap, ◌∙◌, mod-eq_of_lt, arith, ltb-false, le-ltb, lt-ltb, eq-eqb, ne_eqb, eqb-true}
 use borrow.Author.Tests.{not-false}
-use Rattle.model.specs.declared.Location.{Location}
-use Rattle.model.specs.declared.State.{State}
+use Rattle.model.specs.Types.{Location}
+use Rattle.model.specs.Types.{State}
 use Rattle.model.specs.declared.Transition.{Transition}
 use Rattle.model.specs.declared.Answer.{Answer}
-use Rattle.model.specs.declared.Outcome.{Outcome}
+use Rattle.model.specs.Types.{Outcome}
 use Rattle.model.specs.Stages.{checking}
 use Rattle.model.specs.Acts.{wait_act, check_act, last_act, leaves}
 use Rattle.model.specs.States.{entry, stage_of, since_of, release, sound_of, entry_of}

@@ -3,10 +3,10 @@
 use Rattle.std.proofs.Common.{◌≡◌, ℕ, ◌+◌, ◌-◌, ◌^◌, ◌<◌, ◌≤◌, true, false, cond, not, eqb, ltb, leb, ◌≢◌, refl, ◌∙◌, mod-eq_of_lt, arith}
 use Rattle.std.proofs.Common.{ltb-false, ltb-true, le-ltb, lt-ltb, ne_eqb, le-leb, leb-false, leb-true}
 use borrow.Author.Tests.{lt-leb, not-true, not-false}
-use Rattle.model.specs.declared.Location.{Location}
+use Rattle.model.specs.Types.{Location}
 use Rattle.model.specs.declared.Location.TheVariants.{Remainder, Testing, Setting, Checking, Entering, Critical, Resetting, Leaving}
-use Rattle.model.specs.declared.Process.{Process}
-use Rattle.model.specs.declared.State.{State}
+use Rattle.model.specs.Types.{Process}
+use Rattle.model.specs.Types.{State}
 use Rattle.model.specs.Stages.{remainder, checking, critical}
 use Rattle.model.specs.States.{last_time, bounded, entry, stage_of, since_of, timed, limit_of, deadline, entry_sound}
 use Rattle.model.specs.Answers.{Due, due, none_due, sooner}

@@ -1,8 +1,8 @@
 -- The one pass over the entries: after i of them, what is left of each of the model's searches gives what the whole gives. One note
 -- takes each search one entry on, and after 96 entries nothing is left of them. Assumes nothing.
 use Rattle.std.proofs.Common.{◌≡◌, ℕ, ◌+◌, ◌<◌, ◌≤◌, Bool, true, false, cond, ◌&&◌, eqb, ◌≢◌, [], ◌∷◌, length, get_or, drop, sym, refl, ◌∙◌, arith, eqb-true}
-use Rattle.model.specs.declared.Process.{Process}
-use Rattle.model.specs.declared.State.{State}
+use Rattle.model.specs.Types.{Process}
+use Rattle.model.specs.Types.{State}
 use Rattle.model.specs.States.{bounded, limit_of, deadline, entry_sound, entries_sound, sound_of}
 use Rattle.model.specs.Answers.{Due, due, none_due, sooner, first_from, first_by, first_deadline}
 use Rattle.rules.specs.declared.survey.Survey.{Survey}

@@ -2,9 +2,9 @@
 -- sound state's entries. Assumes nothing.
 use Rattle.std.proofs.Common.{◌≡◌, ℕ, ◌+◌, ◌≤◌, true, List, [], ◌∷◌, sym, refl, ◌∙◌, arith, eq-eqb, ne_eqb}
 use mathlib.Core.Bool.{false≢true}
-use Rattle.model.specs.declared.Location.{Location}
-use Rattle.model.specs.declared.Process.{Process}
-use Rattle.model.specs.declared.State.{State}
+use Rattle.model.specs.Types.{Location}
+use Rattle.model.specs.Types.{Process}
+use Rattle.model.specs.Types.{State}
 use Rattle.model.specs.States.{entry, limit_of, entry_sound, entries_sound}
 use Rattle.model.specs.Answers.{Due, first_from, first_by, first_deadline}
 use Rattle.rules.specs.declared.survey.Survey.{Survey}

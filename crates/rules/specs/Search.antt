@@ -1,8 +1,8 @@
 -- Section 4 of the specification, how the first deadline is looked for: of the smallest so far its time after the clock is kept, in 32 bits. In
 -- every sound state the search tells the deadline and the process of the definition. Assumes nothing.
 use Rattle.std.specs.Prelude.{◌≡◌, ℕ, ◌+◌, ◌^◌, ◌<◌, ◌≤◌, true, cond, ◌≢◌, List, [], ◌∷◌, ◌==◌}
-use Rattle.model.specs.declared.Process.{Process}
-use Rattle.model.specs.declared.State.{State}
+use Rattle.model.specs.Types.{Process}
+use Rattle.model.specs.Types.{State}
 use Rattle.model.specs.States.{limit_of, sound_of}
 use Rattle.model.specs.Answers.{Due, due, none_due, first_deadline}
 use Rattle.rules.specs.declared.survey.Survey.{Survey}

@@ -1,7 +1,7 @@
 -- What a look at each of the entries finds, one after the other. `proofs/` relates these definitions, which hand over no state, to those
 -- of the model, and `layout/proofs/Looks` those of an entry in numbers to those of its location. Assumes nothing.
 use Rattle.std.specs.Prelude.{ℕ, ◌+◌, ◌-◌, ◌%◌, ◌^◌, Bool, cond, not, ◌&&◌, ◌==◌, nat_le, nat_lt}
-use Rattle.model.specs.declared.Location.{Location}
+use Rattle.model.specs.Types.{Location}
 use Rattle.model.specs.declared.Parameters.{Parameters}
 use Rattle.rules.specs.declared.survey.Scene.{Scene}
 use Rattle.rules.specs.declared.survey.Survey.{Survey}

@@ -8,6 +8,7 @@ use crate::stages::{
 };
 use model::{Location, Transition};
 
+// kept: numbers, as C hands in any number for an act (`funnelfawn_step`), and [4.6] refuses one only past [4.1], [4.4] and [4.5]
 // [3.0]
 pub const WAIT: u64 = 0;
 
@@ -44,14 +45,10 @@ pub const LAST_ACT: u64 = WITHDRAW;
 // [3.40] the first number that is none
 pub const UNKNOWN: u64 = LAST_ACT + 1;
 
-fn row(from: u64, to: Location, word: u64) -> Transition
+fn row(from: u64, to: Location<u64>, word: u64) -> Transition
     ensures { result ≡ «row» from to word }
 {
-    Transition {
-        from: from,
-        to: to,
-        word: word,
-    }
+    Transition { from, to, word }
 }
 
 // For an act that has no row: a wait, which leaves no place, and an unknown one, which is refused.
@@ -62,7 +59,8 @@ fn no_row(word: u64) -> Transition
 }
 
 // [3.2] Where a test leads.
-fn tested(word: u64, time: u64) -> Location
+#[tactic(auto, using(std::proofs::lemmas::Bool::Decides::nat_tests))]
+fn tested(word: u64, time: u64) -> Location<u64>
     ensures { result ≡ after_test word time }
 {
     if word == 0 {
@@ -73,7 +71,8 @@ fn tested(word: u64, time: u64) -> Location
 }
 
 // [3.4] Where a check leads.
-fn checked(word: u64, process: u64, time: u64) -> Location
+#[tactic(auto, using(std::proofs::lemmas::Bool::Decides::nat_tests))]
+fn checked(word: u64, process: u64, time: u64) -> Location<u64>
     ensures { result ≡ after_check word process time }
 {
     if word == process {
@@ -84,6 +83,7 @@ fn checked(word: u64, process: u64, time: u64) -> Location
 }
 
 // [3.40] [21.40] The row of an action, beside the word: every step decides by it.
+#[tactic(auto, unfolding(crate::specs::Judging::row_of, model::specs::Actions::transition_of, model::specs::Acts::leaves))]
 pub fn transition_of(action: u64, process: u64, time: u64, word: u64) -> Transition
     ensures { result ≡ row_of action process time word }
 {

@@ -8,12 +8,12 @@ use crate::actions::{CHECK, LAST_ACT, WAIT};
 use crate::limits::LAST;
 use crate::stages::{CRITICAL, since_of, stage_of};
 use crate::survey::{Scene, Survey, due_so_far, time_left};
-use model::{Answer, Location, Transition};
+use model::{Answer, Location, Refusal, Transition};
 use std::num::wrapping_add_u64;
-use values::answer_with;
 
 // The lowest critical process once `process` has come to a location, from the lowest of the others.
-fn lowest(critical: u64, process: u64, to: Location) -> u64
+#[tactic(auto, using(std::proofs::lemmas::Bool::Decides::nat_tests), unfolding(crate::specs::Judging::lowest_of))]
+fn lowest(critical: u64, process: u64, to: Location<u64>) -> u64
     ensures { result ≡ lowest_of critical process to }
 {
     if stage_of(to) != CRITICAL {
@@ -22,10 +22,7 @@ fn lowest(critical: u64, process: u64, to: Location) -> u64
     if critical == 0 {
         return process;
     }
-    if critical < process {
-        return critical;
-    }
-    process
+    critical.min(process)
 }
 
 // [4.7]
@@ -33,35 +30,31 @@ fn is_misnamed(n: u64, action: u64, process: u64) -> bool
     ensures { result ≡ misnamed n action process }
 {
     if action == WAIT {
-        return process != 0;
+        process != 0
+    } else {
+        process == 0 || n < process
     }
-    if process == 0 {
-        return true;
-    }
-    n < process
 }
 
 // The place of a process's entry; the first where there is no such process, so that it may be read before the process is judged.
 pub fn slot_of(process: u64) -> usize
     ensures { result ≡ slot_of process }
 {
-    if process == 0 {
-        return 0;
+    match process {
+        1..=96 => (process - 1) as usize,
+        _ => 0,
     }
-    if 96 < process {
-        return 0;
-    }
-    (process - 1) as usize
 }
 
 // From when on a process in this location may check. The entry need not be sound: then the sum may wrap, and is of no account.
-pub fn check_from(location: Location, b: u64) -> u64
+pub fn check_from(location: Location<u64>, b: u64) -> u64
     ensures { result ≡ check_from location b }
 {
     wrapping_add_u64(since_of(location), b)
 }
 
 // [4.9] [4.10] An action of a process from 1 to n that nobody is late for: out of place, early or accepted.
+#[tactic(auto, using(std::proofs::lemmas::Bool::Decides::nat_tests), unfolding(crate::specs::Judging::turn_judged))]
 fn judge_turn(
     critical: u64,
     acting: u64,
@@ -74,19 +67,17 @@ fn judge_turn(
     ensures { result ≡ turn_judged critical acting place release transition action time }
 {
     if place != transition.from {
-        return answer_with(9, acting, 0);
+        return Answer::refused(Refusal::OutOfPlace, acting, 0);
     }
-    if action == CHECK {
-        if time < release {
-            return answer_with(10, acting, release);
-        }
+    if action == CHECK && time < release {
+        return Answer::refused(Refusal::Early, acting, release);
     }
-    let to = transition.to;
-    answer_with(0, lowest(critical, acting, to), time)
+    Answer::accepted(lowest(critical, acting, transition.to), time)
 }
 
 // [4.80] The conditions in the order of the table, for an action of the acting process, whose stage is `place` and which may check from
 // `release` on; past them the act is accepted.
+#[tactic(auto, using(std::proofs::lemmas::Bool::Decides::nat_tests), unfolding(crate::specs::Judging::judged))]
 pub fn judge(
     found: Survey,
     scene: Scene,
@@ -99,28 +90,27 @@ pub fn judge(
     ensures { result ≡ judged found scene place release transition action time }
 {
     if found.faulty != 0 {
-        return answer_with(1, 0, 0);
+        return Answer::from(Refusal::NoTable);
     }
     if time < scene.clock {
-        return answer_with(4, 0, scene.clock);
+        return Answer::refused(Refusal::Backward, 0, scene.clock);
     }
     if LAST < time {
-        return answer_with(5, 0, 0);
+        return Answer::from(Refusal::EndOfClock);
     }
     if LAST_ACT < action {
-        return answer_with(6, 0, 0);
+        return Answer::from(Refusal::NoAction);
     }
     if is_misnamed(scene.n, action, scene.acting) {
-        return answer_with(7, 0, 0);
+        return Answer::from(Refusal::NoProcess);
     }
     // where nobody has a deadline the time may be further from the clock than 32 bits tell
-    if found.process != 0 {
-        if time_left(found) < time - scene.clock {
-            return answer_with(8, found.process, due_so_far(found, scene.clock));
-        }
+    if found.process != 0 && time_left(found) < time - scene.clock {
+        let due = due_so_far(found, scene.clock);
+        return Answer::refused(Refusal::Late, found.process, due);
     }
     if action == WAIT {
-        return answer_with(0, found.critical, time);
+        return Answer::accepted(found.critical, time);
     }
     judge_turn(
         found.critical,

@@ -21,10 +21,10 @@ pub fn scene_of(n: u64, c: u64, clock: u64, acting: u64) -> Scene
     ensures { result ≡ scene_with n c clock acting }
 {
     Scene {
-        n: n,
-        c: c,
-        clock: clock,
-        acting: acting,
+        n,
+        c,
+        clock,
+        acting,
     }
 }
 
@@ -57,12 +57,7 @@ pub fn empty() -> Survey
 fn with_fault(found: Survey) -> Survey
     ensures { result ≡ faulted found }
 {
-    Survey {
-        faulty: 1,
-        left: found.left,
-        process: found.process,
-        critical: found.critical,
-    }
+    Survey { faulty: 1, ..found }
 }
 
 // What is found of a table that is not sound, whatever was seen of its entries.
@@ -77,18 +72,17 @@ pub fn fault() -> Survey
 pub fn note_critical(found: Survey, acting: u64, process: u64) -> Survey
     ensures { result ≡ critical_noted acting process found }
 {
-    let mut lowest = found.critical;
-    if lowest == 0 {
-        lowest = process;
-    }
+    let lowest = if found.critical == 0 {
+        process
+    } else {
+        found.critical
+    };
     if lowest == acting {
         return found;
     }
     Survey {
-        faulty: found.faulty,
-        left: found.left,
-        process: found.process,
         critical: lowest,
+        ..found
     }
 }
 
@@ -121,14 +115,14 @@ pub fn note_due(found: Survey, clock: u64, process: u64, due: u64) -> Survey
         return fault();
     }
     Survey {
-        faulty: found.faulty,
         left: (due - clock) as u32,
-        process: process,
-        critical: found.critical,
+        process,
+        ..found
     }
 }
 
 // A process that may stay for `limit`.
+#[tactic(auto, using(std::proofs::lemmas::Bool::Decides::nat_tests))]
 fn note_timed(found: Survey, clock: u64, process: u64, since: u64, limit: u64) -> Survey
     ensures { result ≡ timed_noted clock process since limit found }
 {
@@ -140,7 +134,14 @@ fn note_timed(found: Survey, clock: u64, process: u64, since: u64, limit: u64) -
 
 // What is found once the entry of a process is looked at too: its location, and the bound of its stay outside checking. The test on n
 // stands between that for the remainder and the match: side by side the two become a table of jumps, which costs each entry more.
-pub fn note(found: Survey, scene: Scene, process: u64, location: Location, limit: u64) -> Survey
+#[tactic(auto, using(std::proofs::lemmas::Bool::Decides::nat_tests), unfolding(crate::specs::Survey::noted))]
+pub fn note(
+    found: Survey,
+    scene: Scene,
+    process: u64,
+    location: Location<u64>,
+    limit: u64,
+) -> Survey
     ensures { result ≡ noted scene process location limit found }
 {
     if stage_of(location) == REMAINDER {
@@ -162,6 +163,7 @@ pub fn note(found: Survey, scene: Scene, process: u64, location: Location, limit
 }
 
 // A stage from checking on, and an arrival. A stage past leaving tells no entry, nor does an arrival of a critical process.
+#[tactic(auto, using(std::proofs::lemmas::Bool::Decides::nat_tests), unfolding(crate::specs::Survey::later_noted))]
 fn note_later(
     found: Survey,
     scene: Scene,
@@ -189,6 +191,7 @@ fn note_later(
 
 // As `note`, of an entry that is given as two numbers, of a process from 1 to n. Most are in the remainder, and most of the others are
 // testing: these are looked at first. Where a location is made of the numbers, a busy entry costs ten instructions more.
+#[tactic(auto, using(std::proofs::lemmas::Bool::Decides::nat_tests), unfolding(crate::specs::Survey::numbers_noted))]
 pub fn note_numbers(
     found: Survey,
     scene: Scene,

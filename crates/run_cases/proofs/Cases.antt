@@ -5,16 +5,17 @@ use mathlib.Core.Path.{◌≡◌, refl, sym, ◌∙◌}
 use mathlib.Core.Bool.{Bool, true, false, ◌&&◌, false≢true}
 use mathlib.Core.List.{List, [], ◌∷◌}
 use lib.Dec.{eqb}
-use Rattle.model.specs.declared.Location.{Location}
+use Rattle.model.specs.Types.{Location}
 use Rattle.model.specs.declared.Parameters.{Parameters}
-use Rattle.model.specs.declared.Process.{Process}
-use Rattle.model.specs.declared.State.{State}
+use Rattle.model.specs.Types.{Process}
+use Rattle.model.specs.Types.{State}
 use Rattle.model.specs.declared.Answer.{Answer}
-use Rattle.model.specs.declared.Outcome.{Outcome}
+use Rattle.model.specs.Types.{Outcome}
 use Rattle.model.specs.States.{entry, stage_of, since_of, location_at}
 use Rattle.model.proofs.Locations.{location_is}
 use borrow.Author.Tests.{eqb-true}
 use Rattle.model.proofs.Tests.{and_true_iff, tests}
+use Rattle.run_cases.specs.declared.calls.Row.{Row}
 use Rattle.run_cases.specs.Cases.{called_of, expected_of, Hold}
 
 -- The test
@@ -48,7 +49,7 @@ same_state x y =
 unfoldable pub same_outcome : Outcome → Outcome → Bool
 same_outcome x y = same_answer x.answer y.answer && same_state x.state y.state
 
-unfoldable pub passes : State → List (List ℕ) → Bool
+unfoldable pub passes : State → List Row → Bool
 passes s [] = true
 passes s (row ∷ rows) = same_outcome (called_of s row) (expected_of row) && passes (called_of s row).state rows
 
@@ -109,7 +110,7 @@ outcome_equal x y t =
 
 -- The law
 
-pub hold : (s : State) (rows : List (List ℕ)) → passes s rows ≡ true → Hold s rows
+pub hold : (s : State) (rows : List Row) → passes s rows ≡ true → Hold s rows
 unfolding Hold passes
 hold s [] t = tt
 hold s (row ∷ rows) t =

@@ -2,70 +2,65 @@
 // the answer, then the clock, the word, and place and arrival of windows 1 and 2 of the table given back.
 #![tactic(auto)]
 
+mod calls;
 mod rows;
 
-use crate::rows::{FRESH, Row, call, table};
-use model::{Outcome, Process};
+use crate::calls::Call;
+use crate::rows::{call, table};
+use model::{Arrivals, Location, Outcome};
 use rules::stages::{since_of, stage_of};
-use std::io;
+use std::fmt::{Display, Formatter};
+use std::{fmt, io};
 use values::no_parameters;
 
-fn print_next(rt: &impl Print, number: u64) -> io::Result<()> {
-    print!(rt; ",{number}")
-}
+// A location as its stage and its arrival.
+#[derive(Clone, Copy)]
+struct Numbers(Location<u64>);
 
-fn print_process(rt: &impl Print, process: Process) -> io::Result<()> {
-    let location = process.location;
-    print_next(rt, stage_of(location))?;
-    print_next(rt, since_of(location))
+impl Display for Numbers {
+    fn fmt<W: fmt::Write>(&self, f: &mut Formatter<W>) -> fmt::Result {
+        write!(f, "{},{}", stage_of(self.0), since_of(self.0))
+    }
 }
 
 // A fresh row is announced by the numbers that it asks for: n, b, c, the a of windows 1 to n, a window or 0, and its own a.
-fn print_fresh(rt: &impl Print, row: Row) -> io::Result<()> {
-    if row[0] != FRESH {
+fn print_asked(rt: &impl Print, call: Call) -> io::Result<()> {
+    let Call::Fresh(asked) = call else {
         return Ok(());
-    }
-    print!(rt; "fresh")?;
-    print_next(rt, row[1])?;
-    print_next(rt, row[2])?;
-    print_next(rt, row[3])?;
-    print_next(rt, row[4])?;
-    print_next(rt, row[5])?;
-    print_next(rt, row[6])?;
-    println!(rt)
+    };
+    let (window, own) = asked.own.unwrap_or((0, 0));
+    println!(rt;
+        "fresh,{},{},{},{},{window},{own}",
+        asked.n, asked.b, asked.c, asked.a
+    )
 }
 
-fn print_outcome(rt: &impl Print, number: u64, outcome: Outcome) -> io::Result<()> {
+fn print_outcome(rt: &impl Print, number: usize, outcome: Outcome<Arrivals>) -> io::Result<()> {
     let answer = outcome.answer;
     let state = outcome.state;
-    print!(rt; "{number}")?;
-    print_next(rt, answer.code)?;
-    print_next(rt, answer.process)?;
-    print_next(rt, answer.time)?;
-    print_next(rt, state.clock)?;
-    print_next(rt, state.word)?;
-    print_process(rt, state.processes[0])?;
-    print_process(rt, state.processes[1])?;
-    println!(rt)
-}
-
-fn print_names(rt: &impl Print) -> io::Result<()> {
-    println!(rt; "row,answer,window,moment,clock,word,place1,arrival1,place2,arrival2")
+    print!(rt;
+        "{number},{},{},{}",
+        answer.code, answer.process, answer.time
+    )?;
+    let [first, second, ..] = state.processes;
+    println!(rt;
+        ",{},{},{},{}",
+        state.clock,
+        state.word,
+        Numbers(first.location),
+        Numbers(second.location)
+    )
 }
 
 fn main(rt: HostRuntime) -> io::Result<()> {
-    print_names(&rt)?;
-    let rows = table();
+    println!(rt; "row,answer,window,moment,clock,word,place1,arrival1,place2,arrival2")?;
     // the state before the first row, which is a fresh one and has no use for it
-    let made = machine::fresh(no_parameters());
-    let mut state = made.state;
-    for i in 0..rows.len() {
-        let row = rows[i];
-        print_fresh(&rt, row)?;
-        let outcome = call(state, row);
-        print_outcome(&rt, (i as u64) + 1, outcome)?;
-        let next = outcome.state;
-        state = next;
+    let mut state = machine::fresh(no_parameters()).state;
+    for (i, row) in table().iter().enumerate() {
+        print_asked(&rt, row.call)?;
+        let outcome = call(state, *row);
+        print_outcome(&rt, i + 1, outcome)?;
+        state = outcome.state;
     }
     Ok(())
 }

@@ -1,248 +1,322 @@
-// The cases of section 20 of the specification: one table of numbers, proved to be what the definitions of `model` give, and
-// the call that a row of it makes. The program runs the same table.
+// The cases of section 20 of the specification: one table, proved to be what the definitions of `model` give, and the call that a row of
+// it makes. The program runs the same table.
 ghost use Rattle.std.specs.Prelude.{◌≡◌};
 ghost use Rattle.model.specs.Answers.{blank};
-ghost use Rattle.run_cases.specs.Cases.{limits_with, asked_of, called_of, Hold};
+ghost use Rattle.run_cases.specs.Cases.{limits_with, parameters_with, called_of, Hold};
 
-use model::{Outcome, Parameters, State};
+use crate::calls::Call::{Fresh, Step};
+use crate::calls::Told::{Accepted, Refused};
+use crate::calls::{Asked, Call, Row};
+use model::Location::{
+    Checking, Critical, Entering, Leaving, Remainder, Resetting, Setting, Testing,
+};
+use model::Refusal::{
+    Backward, BadCount, BadLimits, Early, EndOfClock, Late, NoAction, OutOfPlace,
+};
+use model::{Arrivals, Outcome, Parameters, State};
 use rules::actions::{CHECK, CRIT, EXIT, RESET, SET, TEST, TRY, UNKNOWN, WAIT, WITHDRAW};
 use rules::limits::LAST;
-use rules::stages::{
-    CHECKING, CRITICAL, ENTERING, LEAVING, REMAINDER, RESETTING, SETTING, TESTING,
-};
 use values::limits::equal_limits;
-
-// the kind of a row that asks for a fresh state
-pub(crate) const FRESH: u64 = 0;
-
-// that of a step
-const STEP: u64 = 1;
 
 // the most that c may be
 const MOST: u64 = 10000000;
 
-// A row is one call and what must come of it:
-//   FRESH or STEP, then what is handed over: parameters, or action, process, time and three times 0;
-//   the answer: code, process, time;
-//   the state given back: its parameters, clock, word, then stage and since of process 1 and of process 2.
-// Parameters are n, b, c, the a of processes 1 to n, and then a process, or 0, and the a that it has instead.
-// All that is not said is as in a fresh state.
-pub(crate) type Row = [u64; 22];
+// what most cases ask for
+const USUAL: Asked = Asked {
+    n: 2,
+    b: 8,
+    c: 12,
+    a: 5,
+    own: None,
+};
+
+// what a refused fresh state gives back
+const NOTHING: Asked = Asked {
+    n: 0,
+    b: 0,
+    c: 0,
+    a: 0,
+    own: None,
+};
+
+// a and b as close as they may be
+const CLOSE: Asked = Asked {
+    b: 6,
+    c: 6,
+    ..USUAL
+};
+
+// process 2 may take long, and process 1 not; and the other way round
+const SECOND_LONG: Asked = Asked {
+    b: 8000,
+    c: 12000,
+    own: Some((2, 5000)),
+    ..USUAL
+};
+
+const FIRST_LONG: Asked = Asked {
+    own: Some((1, 5000)),
+    ..SECOND_LONG
+};
+
+// the least a there may be, and an a as close to b as it may be
+const FAR_APART: Asked = Asked {
+    n: 2,
+    b: 1001,
+    c: 2000,
+    a: 1,
+    own: Some((2, 1000)),
+};
+
+// the values of a past 65,535
+const PAST_16_BITS: Asked = Asked {
+    n: 2,
+    b: 200000,
+    c: MOST,
+    a: 131077,
+    own: Some((2, 65546)),
+};
+
+// all as large as they may be
+const LONGEST: Asked = Asked {
+    n: 2,
+    b: MOST,
+    c: MOST,
+    a: MOST - 1,
+    own: None,
+};
+
+// process 2 has the higher a
+const SECOND_HIGHER: Asked = Asked {
+    own: Some((2, 7)),
+    ..USUAL
+};
+
+// A row: the call; the answer, the parameters, the clock, the word, and where processes 1 and 2 are.
+macro_rules! row {
+    ($call:expr => $answer:expr, $parameters:expr, $clock:expr, $word:expr, $first:expr, $second:expr) => {
+        Row {
+            call: $call,
+            answer: $answer,
+            parameters: $parameters,
+            clock: $clock,
+            word: $word,
+            first: $first,
+            second: $second,
+        }
+    };
+}
 
 // A fresh row starts a case, and a step goes on from the state of the row before it. The row of a refused step has the state
-// of the row before it again. The formatter is kept off, as it would give each number a line.
+// of the row before it again. The formatter is kept off, as it would give each call of the macro many lines.
 #[rattlefmt::skip]
-const CASES: [Row; 134] = [
+static CASES: [Row; 134] = [
     // [20.10] as many processes as there may be
-    [FRESH,       96,    8,       12, 5,  0,    0,  0, 0,    0, 96,    8,    12, 5,  0,    0,    0, 0, REMAINDER,    0, REMAINDER,    0],
+    row!(Fresh(Asked { n: 96, ..USUAL }) => Accepted(0, 0), Asked { n: 96, ..USUAL }, 0, 0, Remainder, Remainder),
     // [20.10] none, and one too many
-    [FRESH,        0,    8,       12, 5,  0,    0, 11, 0,    0,  0,    0,     0, 0,  0,    0,    0, 0, REMAINDER,    0, REMAINDER,    0],
-    [FRESH,       97,    8,       12, 5,  0,    0, 11, 0,    0,  0,    0,     0, 0,  0,    0,    0, 0, REMAINDER,    0, REMAINDER,    0],
+    row!(Fresh(Asked { n: 0, ..USUAL }) =>  Refused(BadCount, 0, 0), NOTHING, 0, 0, Remainder, Remainder),
+    row!(Fresh(Asked { n: 97, ..USUAL }) => Refused(BadCount, 0, 0), NOTHING, 0, 0, Remainder, Remainder),
     // [20.20] a and b as close as they may be
-    [FRESH,        2,    6,        6, 5,  0,    0,  0, 0,    0,  2,    6,     6, 5,  0,    0,    0, 0, REMAINDER,    0, REMAINDER,    0],
+    row!(Fresh(CLOSE) => Accepted(0, 0), CLOSE, 0, 0, Remainder, Remainder),
     // [20.20] a and b equal
-    [FRESH,        2,    5,        6, 5,  0,    0, 12, 0,    0,  0,    0,     0, 0,  0,    0,    0, 0, REMAINDER,    0, REMAINDER,    0],
+    row!(Fresh(Asked { b: 5, c: 6, ..USUAL }) => Refused(BadLimits, 0, 0), NOTHING, 0, 0, Remainder, Remainder),
     // [20.30] a check just before its release, and at it
-    [FRESH,        2,    8,       12, 5,  0,    0,  0, 0,    0,  2,    8,    12, 5,  0,    0,    0, 0, REMAINDER,    0, REMAINDER,    0],
-    [STEP,  TRY,         1,        0, 0,  0,    0,  0, 0,    0,  2,    8,    12, 5,  0,    0,    0, 0, TESTING,      0, REMAINDER,    0],
-    [STEP,  TEST,        1,        3, 0,  0,    0,  0, 0,    3,  2,    8,    12, 5,  0,    0,    3, 0, SETTING,      3, REMAINDER,    0],
-    [STEP,  SET,         1,        8, 0,  0,    0,  0, 0,    8,  2,    8,    12, 5,  0,    0,    8, 1, CHECKING,     8, REMAINDER,    0],
-    [STEP,  CHECK,       1,       15, 0,  0,    0, 10, 1,   16,  2,    8,    12, 5,  0,    0,    8, 1, CHECKING,     8, REMAINDER,    0],
-    [STEP,  CHECK,       1,       16, 0,  0,    0,  0, 0,   16,  2,    8,    12, 5,  0,    0,   16, 1, ENTERING,    16, REMAINDER,    0],
+    row!(Fresh(USUAL) =>       Accepted(0, 0),        USUAL,  0, 0, Remainder,    Remainder),
+    row!(Step(TRY, 1, 0) =>    Accepted(0, 0),        USUAL,  0, 0, Testing(0),   Remainder),
+    row!(Step(TEST, 1, 3) =>   Accepted(0, 3),        USUAL,  3, 0, Setting(3),   Remainder),
+    row!(Step(SET, 1, 8) =>    Accepted(0, 8),        USUAL,  8, 1, Checking(8),  Remainder),
+    row!(Step(CHECK, 1, 15) => Refused(Early, 1, 16), USUAL,  8, 1, Checking(8),  Remainder),
+    row!(Step(CHECK, 1, 16) => Accepted(0, 16),       USUAL, 16, 1, Entering(16), Remainder),
     // [20.40] a check just after its deadline, and at it
-    [FRESH,        2,    8,       12, 5,  0,    0,  0, 0,    0,  2,    8,    12, 5,  0,    0,    0, 0, REMAINDER,    0, REMAINDER,    0],
-    [STEP,  TRY,         1,        0, 0,  0,    0,  0, 0,    0,  2,    8,    12, 5,  0,    0,    0, 0, TESTING,      0, REMAINDER,    0],
-    [STEP,  TEST,        1,        3, 0,  0,    0,  0, 0,    3,  2,    8,    12, 5,  0,    0,    3, 0, SETTING,      3, REMAINDER,    0],
-    [STEP,  SET,         1,        8, 0,  0,    0,  0, 0,    8,  2,    8,    12, 5,  0,    0,    8, 1, CHECKING,     8, REMAINDER,    0],
-    [STEP,  CHECK,       1,       21, 0,  0,    0,  8, 1,   20,  2,    8,    12, 5,  0,    0,    8, 1, CHECKING,     8, REMAINDER,    0],
-    [STEP,  CHECK,       1,       20, 0,  0,    0,  0, 0,   20,  2,    8,    12, 5,  0,    0,   20, 1, ENTERING,    20, REMAINDER,    0],
+    row!(Fresh(USUAL) =>       Accepted(0, 0),       USUAL,  0, 0, Remainder,    Remainder),
+    row!(Step(TRY, 1, 0) =>    Accepted(0, 0),       USUAL,  0, 0, Testing(0),   Remainder),
+    row!(Step(TEST, 1, 3) =>   Accepted(0, 3),       USUAL,  3, 0, Setting(3),   Remainder),
+    row!(Step(SET, 1, 8) =>    Accepted(0, 8),       USUAL,  8, 1, Checking(8),  Remainder),
+    row!(Step(CHECK, 1, 21) => Refused(Late, 1, 20), USUAL,  8, 1, Checking(8),  Remainder),
+    row!(Step(CHECK, 1, 20) => Accepted(0, 20),      USUAL, 20, 1, Entering(20), Remainder),
     // [20.50] to the clock's end, and past it
-    [FRESH,        2,    6,        6, 5,  0,    0,  0, 0,    0,  2,    6,     6, 5,  0,    0,    0, 0, REMAINDER,    0, REMAINDER,    0],
-    [STEP,  WAIT,        0,     LAST, 0,  0,    0,  0, 0, LAST,  2,    6,     6, 5,  0,    0, LAST, 0, REMAINDER,    0, REMAINDER,    0],
-    [STEP,  WAIT,        0, LAST + 1, 0,  0,    0,  5, 0,    0,  2,    6,     6, 5,  0,    0, LAST, 0, REMAINDER,    0, REMAINDER,    0],
+    row!(Fresh(CLOSE) =>            Accepted(0, 0),            CLOSE,    0, 0, Remainder, Remainder),
+    row!(Step(WAIT, 0, LAST) =>     Accepted(0, LAST),         CLOSE, LAST, 0, Remainder, Remainder),
+    row!(Step(WAIT, 0, LAST + 1) => Refused(EndOfClock, 0, 0), CLOSE, LAST, 0, Remainder, Remainder),
     // [20.60] 4 and 9 both hold, and 4 and 6
-    [FRESH,        2,    8,       12, 5,  0,    0,  0, 0,    0,  2,    8,    12, 5,  0,    0,    0, 0, REMAINDER,    0, REMAINDER,    0],
-    [STEP,  WAIT,        0,        7, 0,  0,    0,  0, 0,    7,  2,    8,    12, 5,  0,    0,    7, 0, REMAINDER,    0, REMAINDER,    0],
-    [STEP,  WITHDRAW,    1,        6, 0,  0,    0,  4, 0,    7,  2,    8,    12, 5,  0,    0,    7, 0, REMAINDER,    0, REMAINDER,    0],
-    [STEP,  UNKNOWN,     1,        6, 0,  0,    0,  4, 0,    7,  2,    8,    12, 5,  0,    0,    7, 0, REMAINDER,    0, REMAINDER,    0],
+    row!(Fresh(USUAL) =>         Accepted(0, 0),          USUAL, 0, 0, Remainder, Remainder),
+    row!(Step(WAIT, 0, 7) =>     Accepted(0, 7),          USUAL, 7, 0, Remainder, Remainder),
+    row!(Step(WITHDRAW, 1, 6) => Refused(Backward, 0, 7), USUAL, 7, 0, Remainder, Remainder),
+    row!(Step(UNKNOWN, 1, 6) =>  Refused(Backward, 0, 7), USUAL, 7, 0, Remainder, Remainder),
     // [20.70] 8 and 9 both hold
-    [FRESH,        2,    8,       12, 5,  0,    0,  0, 0,    0,  2,    8,    12, 5,  0,    0,    0, 0, REMAINDER,    0, REMAINDER,    0],
-    [STEP,  TRY,         1,        0, 0,  0,    0,  0, 0,    0,  2,    8,    12, 5,  0,    0,    0, 0, TESTING,      0, REMAINDER,    0],
-    [STEP,  CRIT,        1,        6, 0,  0,    0,  8, 1,    5,  2,    8,    12, 5,  0,    0,    0, 0, TESTING,      0, REMAINDER,    0],
+    row!(Fresh(USUAL) =>     Accepted(0, 0),      USUAL, 0, 0, Remainder,  Remainder),
+    row!(Step(TRY, 1, 0) =>  Accepted(0, 0),      USUAL, 0, 0, Testing(0), Remainder),
+    row!(Step(CRIT, 1, 6) => Refused(Late, 1, 5), USUAL, 0, 0, Testing(0), Remainder),
     // [20.80] of a fresh state, and after a set
-    [FRESH,        2,    8,       12, 5,  0,    0,  0, 0,    0,  2,    8,    12, 5,  0,    0,    0, 0, REMAINDER,    0, REMAINDER,    0],
-    [STEP,  WAIT,        0,        0, 0,  0,    0,  0, 0,    0,  2,    8,    12, 5,  0,    0,    0, 0, REMAINDER,    0, REMAINDER,    0],
-    [STEP,  TRY,         1,        0, 0,  0,    0,  0, 0,    0,  2,    8,    12, 5,  0,    0,    0, 0, TESTING,      0, REMAINDER,    0],
-    [STEP,  TEST,        1,        3, 0,  0,    0,  0, 0,    3,  2,    8,    12, 5,  0,    0,    3, 0, SETTING,      3, REMAINDER,    0],
-    [STEP,  SET,         1,        8, 0,  0,    0,  0, 0,    8,  2,    8,    12, 5,  0,    0,    8, 1, CHECKING,     8, REMAINDER,    0],
-    [STEP,  WAIT,        0,        8, 0,  0,    0,  0, 0,    8,  2,    8,    12, 5,  0,    0,    8, 1, CHECKING,     8, REMAINDER,    0],
+    row!(Fresh(USUAL) =>     Accepted(0, 0), USUAL, 0, 0, Remainder,   Remainder),
+    row!(Step(WAIT, 0, 0) => Accepted(0, 0), USUAL, 0, 0, Remainder,   Remainder),
+    row!(Step(TRY, 1, 0) =>  Accepted(0, 0), USUAL, 0, 0, Testing(0),  Remainder),
+    row!(Step(TEST, 1, 3) => Accepted(0, 3), USUAL, 3, 0, Setting(3),  Remainder),
+    row!(Step(SET, 1, 8) =>  Accepted(0, 8), USUAL, 8, 1, Checking(8), Remainder),
+    row!(Step(WAIT, 0, 8) => Accepted(0, 8), USUAL, 8, 1, Checking(8), Remainder),
     // [20.90]
-    [FRESH,        2,    8,       12, 5,  0,    0,  0, 0,    0,  2,    8,    12, 5,  0,    0,    0, 0, REMAINDER,    0, REMAINDER,    0],
-    [STEP,  TRY,         1,        0, 0,  0,    0,  0, 0,    0,  2,    8,    12, 5,  0,    0,    0, 0, TESTING,      0, REMAINDER,    0],
-    [STEP,  TRY,         1,        1, 0,  0,    0,  9, 1,    0,  2,    8,    12, 5,  0,    0,    0, 0, TESTING,      0, REMAINDER,    0],
+    row!(Fresh(USUAL) =>    Accepted(0, 0),            USUAL, 0, 0, Remainder,  Remainder),
+    row!(Step(TRY, 1, 0) => Accepted(0, 0),            USUAL, 0, 0, Testing(0), Remainder),
+    row!(Step(TRY, 1, 1) => Refused(OutOfPlace, 1, 0), USUAL, 0, 0, Testing(0), Remainder),
     // [20.100] the process of 21 is the lowest
-    [FRESH,        2,    8,       12, 5,  0,    0,  0, 0,    0,  2,    8,    12, 5,  0,    0,    0, 0, REMAINDER,    0, REMAINDER,    0],
-    [STEP,  TRY,         1,       16, 0,  0,    0,  0, 0,   16,  2,    8,    12, 5,  0,    0,   16, 0, TESTING,     16, REMAINDER,    0],
-    [STEP,  TRY,         2,       18, 0,  0,    0,  0, 0,   18,  2,    8,    12, 5,  0,    0,   18, 0, TESTING,     16, TESTING,     18],
-    [STEP,  WAIT,        0,       24, 0,  0,    0,  8, 1,   21,  2,    8,    12, 5,  0,    0,   18, 0, TESTING,     16, TESTING,     18],
+    row!(Fresh(USUAL) =>      Accepted(0, 0),       USUAL,  0, 0, Remainder,   Remainder),
+    row!(Step(TRY, 1, 16) =>  Accepted(0, 16),      USUAL, 16, 0, Testing(16), Remainder),
+    row!(Step(TRY, 2, 18) =>  Accepted(0, 18),      USUAL, 18, 0, Testing(16), Testing(18)),
+    row!(Step(WAIT, 0, 24) => Refused(Late, 1, 21), USUAL, 18, 0, Testing(16), Testing(18)),
     // [20.100] the same with the processes exchanged: the process of 21 is not the lowest
-    [FRESH,        2,    8,       12, 5,  0,    0,  0, 0,    0,  2,    8,    12, 5,  0,    0,    0, 0, REMAINDER,    0, REMAINDER,    0],
-    [STEP,  TRY,         2,       16, 0,  0,    0,  0, 0,   16,  2,    8,    12, 5,  0,    0,   16, 0, REMAINDER,    0, TESTING,     16],
-    [STEP,  TRY,         1,       18, 0,  0,    0,  0, 0,   18,  2,    8,    12, 5,  0,    0,   18, 0, TESTING,     18, TESTING,     16],
-    [STEP,  WAIT,        0,       24, 0,  0,    0,  8, 2,   21,  2,    8,    12, 5,  0,    0,   18, 0, TESTING,     18, TESTING,     16],
+    row!(Fresh(USUAL) =>      Accepted(0, 0),       USUAL,  0, 0, Remainder,   Remainder),
+    row!(Step(TRY, 2, 16) =>  Accepted(0, 16),      USUAL, 16, 0, Remainder,   Testing(16)),
+    row!(Step(TRY, 1, 18) =>  Accepted(0, 18),      USUAL, 18, 0, Testing(18), Testing(16)),
+    row!(Step(WAIT, 0, 24) => Refused(Late, 2, 21), USUAL, 18, 0, Testing(18), Testing(16)),
     // [20.110] each step of the trace; the answers are those of the report
-    [FRESH,        2,    8,       12, 5,  0,    0,  0, 0,    0,  2,    8,    12, 5,  0,    0,    0, 0, REMAINDER,    0, REMAINDER,    0],
-    [STEP,  TRY,         1,        0, 0,  0,    0,  0, 0,    0,  2,    8,    12, 5,  0,    0,    0, 0, TESTING,      0, REMAINDER,    0],
-    [STEP,  TEST,        1,        3, 0,  0,    0,  0, 0,    3,  2,    8,    12, 5,  0,    0,    3, 0, SETTING,      3, REMAINDER,    0],
-    [STEP,  TRY,         2,        3, 0,  0,    0,  0, 0,    3,  2,    8,    12, 5,  0,    0,    3, 0, SETTING,      3, TESTING,      3],
-    [STEP,  TEST,        2,        4, 0,  0,    0,  0, 0,    4,  2,    8,    12, 5,  0,    0,    4, 0, SETTING,      3, SETTING,      4],
-    [STEP,  SET,         1,        8, 0,  0,    0,  0, 0,    8,  2,    8,    12, 5,  0,    0,    8, 1, CHECKING,     8, SETTING,      4],
-    [STEP,  SET,         2,        9, 0,  0,    0,  0, 0,    9,  2,    8,    12, 5,  0,    0,    9, 2, CHECKING,     8, CHECKING,     9],
-    [STEP,  CHECK,       1,       15, 0,  0,    0, 10, 1,   16,  2,    8,    12, 5,  0,    0,    9, 2, CHECKING,     8, CHECKING,     9],
-    [STEP,  CHECK,       1,       16, 0,  0,    0,  0, 0,   16,  2,    8,    12, 5,  0,    0,   16, 2, TESTING,     16, CHECKING,     9],
-    [STEP,  CHECK,       2,       18, 0,  0,    0,  0, 0,   18,  2,    8,    12, 5,  0,    0,   18, 2, TESTING,     16, ENTERING,    18],
-    [STEP,  WAIT,        0,       24, 0,  0,    0,  8, 1,   21,  2,    8,    12, 5,  0,    0,   18, 2, TESTING,     16, ENTERING,    18],
-    [STEP,  TEST,        1,       20, 0,  0,    0,  0, 0,   20,  2,    8,    12, 5,  0,    0,   20, 2, TESTING,     20, ENTERING,    18],
-    [STEP,  CRIT,        2,       20, 0,  0,    0,  0, 2,   20,  2,    8,    12, 5,  0,    0,   20, 2, TESTING,     20, CRITICAL,     0],
-    [STEP,  WAIT,        0,       19, 0,  0,    0,  4, 0,   20,  2,    8,    12, 5,  0,    0,   20, 2, TESTING,     20, CRITICAL,     0],
+    row!(Fresh(USUAL) =>       Accepted(0, 0),           USUAL,  0, 0, Remainder,   Remainder),
+    row!(Step(TRY, 1, 0) =>    Accepted(0, 0),           USUAL,  0, 0, Testing(0),  Remainder),
+    row!(Step(TEST, 1, 3) =>   Accepted(0, 3),           USUAL,  3, 0, Setting(3),  Remainder),
+    row!(Step(TRY, 2, 3) =>    Accepted(0, 3),           USUAL,  3, 0, Setting(3),  Testing(3)),
+    row!(Step(TEST, 2, 4) =>   Accepted(0, 4),           USUAL,  4, 0, Setting(3),  Setting(4)),
+    row!(Step(SET, 1, 8) =>    Accepted(0, 8),           USUAL,  8, 1, Checking(8), Setting(4)),
+    row!(Step(SET, 2, 9) =>    Accepted(0, 9),           USUAL,  9, 2, Checking(8), Checking(9)),
+    row!(Step(CHECK, 1, 15) => Refused(Early, 1, 16),    USUAL,  9, 2, Checking(8), Checking(9)),
+    row!(Step(CHECK, 1, 16) => Accepted(0, 16),          USUAL, 16, 2, Testing(16), Checking(9)),
+    row!(Step(CHECK, 2, 18) => Accepted(0, 18),          USUAL, 18, 2, Testing(16), Entering(18)),
+    row!(Step(WAIT, 0, 24) =>  Refused(Late, 1, 21),     USUAL, 18, 2, Testing(16), Entering(18)),
+    row!(Step(TEST, 1, 20) =>  Accepted(0, 20),          USUAL, 20, 2, Testing(20), Entering(18)),
+    row!(Step(CRIT, 2, 20) =>  Accepted(2, 20),          USUAL, 20, 2, Testing(20), Critical),
+    row!(Step(WAIT, 0, 19) =>  Refused(Backward, 0, 20), USUAL, 20, 2, Testing(20), Critical),
     // [20.200] from each location but testing
-    [FRESH,        2,    8,       12, 5,  0,    0,  0, 0,    0,  2,    8,    12, 5,  0,    0,    0, 0, REMAINDER,    0, REMAINDER,    0],
-    [STEP,  WITHDRAW,    1,        0, 0,  0,    0,  9, 1,    0,  2,    8,    12, 5,  0,    0,    0, 0, REMAINDER,    0, REMAINDER,    0],
-    [STEP,  TRY,         1,        0, 0,  0,    0,  0, 0,    0,  2,    8,    12, 5,  0,    0,    0, 0, TESTING,      0, REMAINDER,    0],
-    [STEP,  TEST,        1,        0, 0,  0,    0,  0, 0,    0,  2,    8,    12, 5,  0,    0,    0, 0, SETTING,      0, REMAINDER,    0],
-    [STEP,  WITHDRAW,    1,        0, 0,  0,    0,  9, 1,    0,  2,    8,    12, 5,  0,    0,    0, 0, SETTING,      0, REMAINDER,    0],
-    [STEP,  SET,         1,        0, 0,  0,    0,  0, 0,    0,  2,    8,    12, 5,  0,    0,    0, 1, CHECKING,     0, REMAINDER,    0],
-    [STEP,  WITHDRAW,    1,        0, 0,  0,    0,  9, 1,    0,  2,    8,    12, 5,  0,    0,    0, 1, CHECKING,     0, REMAINDER,    0],
-    [STEP,  CHECK,       1,        8, 0,  0,    0,  0, 0,    8,  2,    8,    12, 5,  0,    0,    8, 1, ENTERING,     8, REMAINDER,    0],
-    [STEP,  WITHDRAW,    1,        8, 0,  0,    0,  9, 1,    0,  2,    8,    12, 5,  0,    0,    8, 1, ENTERING,     8, REMAINDER,    0],
-    [STEP,  CRIT,        1,        8, 0,  0,    0,  0, 1,    8,  2,    8,    12, 5,  0,    0,    8, 1, CRITICAL,     0, REMAINDER,    0],
-    [STEP,  WITHDRAW,    1,        8, 0,  0,    0,  9, 1,    0,  2,    8,    12, 5,  0,    0,    8, 1, CRITICAL,     0, REMAINDER,    0],
-    [STEP,  EXIT,        1,        9, 0,  0,    0,  0, 0,    9,  2,    8,    12, 5,  0,    0,    9, 1, RESETTING,    9, REMAINDER,    0],
-    [STEP,  WITHDRAW,    1,        9, 0,  0,    0,  9, 1,    0,  2,    8,    12, 5,  0,    0,    9, 1, RESETTING,    9, REMAINDER,    0],
-    [STEP,  RESET,       1,        9, 0,  0,    0,  0, 0,    9,  2,    8,    12, 5,  0,    0,    9, 0, LEAVING,      9, REMAINDER,    0],
-    [STEP,  WITHDRAW,    1,        9, 0,  0,    0,  9, 1,    0,  2,    8,    12, 5,  0,    0,    9, 0, LEAVING,      9, REMAINDER,    0],
+    row!(Fresh(USUAL) =>         Accepted(0, 0),            USUAL, 0, 0, Remainder,    Remainder),
+    row!(Step(WITHDRAW, 1, 0) => Refused(OutOfPlace, 1, 0), USUAL, 0, 0, Remainder,    Remainder),
+    row!(Step(TRY, 1, 0) =>      Accepted(0, 0),            USUAL, 0, 0, Testing(0),   Remainder),
+    row!(Step(TEST, 1, 0) =>     Accepted(0, 0),            USUAL, 0, 0, Setting(0),   Remainder),
+    row!(Step(WITHDRAW, 1, 0) => Refused(OutOfPlace, 1, 0), USUAL, 0, 0, Setting(0),   Remainder),
+    row!(Step(SET, 1, 0) =>      Accepted(0, 0),            USUAL, 0, 1, Checking(0),  Remainder),
+    row!(Step(WITHDRAW, 1, 0) => Refused(OutOfPlace, 1, 0), USUAL, 0, 1, Checking(0),  Remainder),
+    row!(Step(CHECK, 1, 8) =>    Accepted(0, 8),            USUAL, 8, 1, Entering(8),  Remainder),
+    row!(Step(WITHDRAW, 1, 8) => Refused(OutOfPlace, 1, 0), USUAL, 8, 1, Entering(8),  Remainder),
+    row!(Step(CRIT, 1, 8) =>     Accepted(1, 8),            USUAL, 8, 1, Critical,     Remainder),
+    row!(Step(WITHDRAW, 1, 8) => Refused(OutOfPlace, 1, 0), USUAL, 8, 1, Critical,     Remainder),
+    row!(Step(EXIT, 1, 9) =>     Accepted(0, 9),            USUAL, 9, 1, Resetting(9), Remainder),
+    row!(Step(WITHDRAW, 1, 9) => Refused(OutOfPlace, 1, 0), USUAL, 9, 1, Resetting(9), Remainder),
+    row!(Step(RESET, 1, 9) =>    Accepted(0, 9),            USUAL, 9, 0, Leaving(9),   Remainder),
+    row!(Step(WITHDRAW, 1, 9) => Refused(OutOfPlace, 1, 0), USUAL, 9, 0, Leaving(9),   Remainder),
     // [20.210]
-    [FRESH,        2,    8,       12, 5,  0,    0,  0, 0,    0,  2,    8,    12, 5,  0,    0,    0, 0, REMAINDER,    0, REMAINDER,    0],
-    [STEP,  UNKNOWN,     1,        0, 0,  0,    0,  6, 0,    0,  2,    8,    12, 5,  0,    0,    0, 0, REMAINDER,    0, REMAINDER,    0],
+    row!(Fresh(USUAL) =>        Accepted(0, 0),          USUAL, 0, 0, Remainder, Remainder),
+    row!(Step(UNKNOWN, 1, 0) => Refused(NoAction, 0, 0), USUAL, 0, 0, Remainder, Remainder),
     // [20.220] a withdraw just after the deadline, and at it
-    [FRESH,        2,    8,       12, 5,  0,    0,  0, 0,    0,  2,    8,    12, 5,  0,    0,    0, 0, REMAINDER,    0, REMAINDER,    0],
-    [STEP,  TRY,         1,        0, 0,  0,    0,  0, 0,    0,  2,    8,    12, 5,  0,    0,    0, 0, TESTING,      0, REMAINDER,    0],
-    [STEP,  WITHDRAW,    1,        6, 0,  0,    0,  8, 1,    5,  2,    8,    12, 5,  0,    0,    0, 0, TESTING,      0, REMAINDER,    0],
-    [STEP,  WITHDRAW,    1,        5, 0,  0,    0,  0, 0,    5,  2,    8,    12, 5,  0,    0,    5, 0, REMAINDER,    0, REMAINDER,    0],
+    row!(Fresh(USUAL) =>         Accepted(0, 0),      USUAL, 0, 0, Remainder,  Remainder),
+    row!(Step(TRY, 1, 0) =>      Accepted(0, 0),      USUAL, 0, 0, Testing(0), Remainder),
+    row!(Step(WITHDRAW, 1, 6) => Refused(Late, 1, 5), USUAL, 0, 0, Testing(0), Remainder),
+    row!(Step(WITHDRAW, 1, 5) => Accepted(0, 5),      USUAL, 5, 0, Remainder,  Remainder),
     // [20.230] process 1 has the word, and process 2 tries and withdraws at once
-    [FRESH,        2,    8,       12, 5,  0,    0,  0, 0,    0,  2,    8,    12, 5,  0,    0,    0, 0, REMAINDER,    0, REMAINDER,    0],
-    [STEP,  TRY,         1,        0, 0,  0,    0,  0, 0,    0,  2,    8,    12, 5,  0,    0,    0, 0, TESTING,      0, REMAINDER,    0],
-    [STEP,  TEST,        1,        3, 0,  0,    0,  0, 0,    3,  2,    8,    12, 5,  0,    0,    3, 0, SETTING,      3, REMAINDER,    0],
-    [STEP,  SET,         1,        8, 0,  0,    0,  0, 0,    8,  2,    8,    12, 5,  0,    0,    8, 1, CHECKING,     8, REMAINDER,    0],
-    [STEP,  TRY,         2,       10, 0,  0,    0,  0, 0,   10,  2,    8,    12, 5,  0,    0,   10, 1, CHECKING,     8, TESTING,     10],
-    [STEP,  WITHDRAW,    2,       10, 0,  0,    0,  0, 0,   10,  2,    8,    12, 5,  0,    0,   10, 1, CHECKING,     8, REMAINDER,    0],
+    row!(Fresh(USUAL) =>          Accepted(0, 0),  USUAL,  0, 0, Remainder,   Remainder),
+    row!(Step(TRY, 1, 0) =>       Accepted(0, 0),  USUAL,  0, 0, Testing(0),  Remainder),
+    row!(Step(TEST, 1, 3) =>      Accepted(0, 3),  USUAL,  3, 0, Setting(3),  Remainder),
+    row!(Step(SET, 1, 8) =>       Accepted(0, 8),  USUAL,  8, 1, Checking(8), Remainder),
+    row!(Step(TRY, 2, 10) =>      Accepted(0, 10), USUAL, 10, 1, Checking(8), Testing(10)),
+    row!(Step(WITHDRAW, 2, 10) => Accepted(0, 10), USUAL, 10, 1, Checking(8), Remainder),
     // [20.240] the clock runs on
-    [FRESH,        2,    8,       12, 5,  0,    0,  0, 0,    0,  2,    8,    12, 5,  0,    0,    0, 0, REMAINDER,    0, REMAINDER,    0],
-    [STEP,  TRY,         1,        0, 0,  0,    0,  0, 0,    0,  2,    8,    12, 5,  0,    0,    0, 0, TESTING,      0, REMAINDER,    0],
-    [STEP,  TRY,         2,        0, 0,  0,    0,  0, 0,    0,  2,    8,    12, 5,  0,    0,    0, 0, TESTING,      0, TESTING,      0],
-    [STEP,  WITHDRAW,    1,        3, 0,  0,    0,  0, 0,    3,  2,    8,    12, 5,  0,    0,    3, 0, REMAINDER,    0, TESTING,      0],
-    [STEP,  WITHDRAW,    2,        5, 0,  0,    0,  0, 0,    5,  2,    8,    12, 5,  0,    0,    5, 0, REMAINDER,    0, REMAINDER,    0],
-    [STEP,  WAIT,        0,       50, 0,  0,    0,  0, 0,   50,  2,    8,    12, 5,  0,    0,   50, 0, REMAINDER,    0, REMAINDER,    0],
+    row!(Fresh(USUAL) =>         Accepted(0, 0),  USUAL,  0, 0, Remainder,  Remainder),
+    row!(Step(TRY, 1, 0) =>      Accepted(0, 0),  USUAL,  0, 0, Testing(0), Remainder),
+    row!(Step(TRY, 2, 0) =>      Accepted(0, 0),  USUAL,  0, 0, Testing(0), Testing(0)),
+    row!(Step(WITHDRAW, 1, 3) => Accepted(0, 3),  USUAL,  3, 0, Remainder,  Testing(0)),
+    row!(Step(WITHDRAW, 2, 5) => Accepted(0, 5),  USUAL,  5, 0, Remainder,  Remainder),
+    row!(Step(WAIT, 0, 50) =>    Accepted(0, 50), USUAL, 50, 0, Remainder,  Remainder),
     // [20.270] each is late after its own deadline: process 1 has the lower a
-    [FRESH,        2, 8000,    12000, 5,  2, 5000,  0, 0,    0,  2, 8000, 12000, 5,  2, 5000,    0, 0, REMAINDER,    0, REMAINDER,    0],
-    [STEP,  TRY,         1,        0, 0,  0,    0,  0, 0,    0,  2, 8000, 12000, 5,  2, 5000,    0, 0, TESTING,      0, REMAINDER,    0],
-    [STEP,  TRY,         2,        0, 0,  0,    0,  0, 0,    0,  2, 8000, 12000, 5,  2, 5000,    0, 0, TESTING,      0, TESTING,      0],
-    [STEP,  WAIT,        0,        6, 0,  0,    0,  8, 1,    5,  2, 8000, 12000, 5,  2, 5000,    0, 0, TESTING,      0, TESTING,      0],
-    [STEP,  WITHDRAW,    1,        5, 0,  0,    0,  0, 0,    5,  2, 8000, 12000, 5,  2, 5000,    5, 0, REMAINDER,    0, TESTING,      0],
-    [STEP,  WAIT,        0,     5001, 0,  0,    0,  8, 2, 5000,  2, 8000, 12000, 5,  2, 5000,    5, 0, REMAINDER,    0, TESTING,      0],
-    [STEP,  TEST,        2,     5000, 0,  0,    0,  0, 0, 5000,  2, 8000, 12000, 5,  2, 5000, 5000, 0, REMAINDER,    0, SETTING,   5000],
+    row!(Fresh(SECOND_LONG) =>   Accepted(0, 0),         SECOND_LONG,    0, 0, Remainder,  Remainder),
+    row!(Step(TRY, 1, 0) =>      Accepted(0, 0),         SECOND_LONG,    0, 0, Testing(0), Remainder),
+    row!(Step(TRY, 2, 0) =>      Accepted(0, 0),         SECOND_LONG,    0, 0, Testing(0), Testing(0)),
+    row!(Step(WAIT, 0, 6) =>     Refused(Late, 1, 5),    SECOND_LONG,    0, 0, Testing(0), Testing(0)),
+    row!(Step(WITHDRAW, 1, 5) => Accepted(0, 5),         SECOND_LONG,    5, 0, Remainder,  Testing(0)),
+    row!(Step(WAIT, 0, 5001) =>  Refused(Late, 2, 5000), SECOND_LONG,    5, 0, Remainder,  Testing(0)),
+    row!(Step(TEST, 2, 5000) =>  Accepted(0, 5000),      SECOND_LONG, 5000, 0, Remainder,  Setting(5000)),
     // [20.270] the other way round
-    [FRESH,        2, 8000,    12000, 5,  1, 5000,  0, 0,    0,  2, 8000, 12000, 5,  1, 5000,    0, 0, REMAINDER,    0, REMAINDER,    0],
-    [STEP,  TRY,         1,        0, 0,  0,    0,  0, 0,    0,  2, 8000, 12000, 5,  1, 5000,    0, 0, TESTING,      0, REMAINDER,    0],
-    [STEP,  TRY,         2,        0, 0,  0,    0,  0, 0,    0,  2, 8000, 12000, 5,  1, 5000,    0, 0, TESTING,      0, TESTING,      0],
-    [STEP,  WAIT,        0,        6, 0,  0,    0,  8, 2,    5,  2, 8000, 12000, 5,  1, 5000,    0, 0, TESTING,      0, TESTING,      0],
-    [STEP,  WITHDRAW,    2,        5, 0,  0,    0,  0, 0,    5,  2, 8000, 12000, 5,  1, 5000,    5, 0, TESTING,      0, REMAINDER,    0],
-    [STEP,  WAIT,        0,     5001, 0,  0,    0,  8, 1, 5000,  2, 8000, 12000, 5,  1, 5000,    5, 0, TESTING,      0, REMAINDER,    0],
-    [STEP,  TEST,        1,     5000, 0,  0,    0,  0, 0, 5000,  2, 8000, 12000, 5,  1, 5000, 5000, 0, SETTING,   5000, REMAINDER,    0],
+    row!(Fresh(FIRST_LONG) =>    Accepted(0, 0),         FIRST_LONG,    0, 0, Remainder,     Remainder),
+    row!(Step(TRY, 1, 0) =>      Accepted(0, 0),         FIRST_LONG,    0, 0, Testing(0),    Remainder),
+    row!(Step(TRY, 2, 0) =>      Accepted(0, 0),         FIRST_LONG,    0, 0, Testing(0),    Testing(0)),
+    row!(Step(WAIT, 0, 6) =>     Refused(Late, 2, 5),    FIRST_LONG,    0, 0, Testing(0),    Testing(0)),
+    row!(Step(WITHDRAW, 2, 5) => Accepted(0, 5),         FIRST_LONG,    5, 0, Testing(0),    Remainder),
+    row!(Step(WAIT, 0, 5001) =>  Refused(Late, 1, 5000), FIRST_LONG,    5, 0, Testing(0),    Remainder),
+    row!(Step(TEST, 1, 5000) =>  Accepted(0, 5000),      FIRST_LONG, 5000, 0, Setting(5000), Remainder),
     // [20.270] the least a there may be, and an a as close to b as it may be
-    [FRESH,        2, 1001,     2000, 1,  2, 1000,  0, 0,    0,  2, 1001,  2000, 1,  2, 1000,    0, 0, REMAINDER,    0, REMAINDER,    0],
-    [STEP,  TRY,         1,        0, 0,  0,    0,  0, 0,    0,  2, 1001,  2000, 1,  2, 1000,    0, 0, TESTING,      0, REMAINDER,    0],
-    [STEP,  TRY,         2,        0, 0,  0,    0,  0, 0,    0,  2, 1001,  2000, 1,  2, 1000,    0, 0, TESTING,      0, TESTING,      0],
-    [STEP,  WAIT,        0,        2, 0,  0,    0,  8, 1,    1,  2, 1001,  2000, 1,  2, 1000,    0, 0, TESTING,      0, TESTING,      0],
-    [STEP,  WITHDRAW,    1,        1, 0,  0,    0,  0, 0,    1,  2, 1001,  2000, 1,  2, 1000,    1, 0, REMAINDER,    0, TESTING,      0],
-    [STEP,  WAIT,        0,     1001, 0,  0,    0,  8, 2, 1000,  2, 1001,  2000, 1,  2, 1000,    1, 0, REMAINDER,    0, TESTING,      0],
-    [STEP,  TEST,        2,     1000, 0,  0,    0,  0, 0, 1000,  2, 1001,  2000, 1,  2, 1000, 1000, 0, REMAINDER,    0, SETTING,   1000],
+    row!(Fresh(FAR_APART) =>     Accepted(0, 0),         FAR_APART,    0, 0, Remainder,  Remainder),
+    row!(Step(TRY, 1, 0) =>      Accepted(0, 0),         FAR_APART,    0, 0, Testing(0), Remainder),
+    row!(Step(TRY, 2, 0) =>      Accepted(0, 0),         FAR_APART,    0, 0, Testing(0), Testing(0)),
+    row!(Step(WAIT, 0, 2) =>     Refused(Late, 1, 1),    FAR_APART,    0, 0, Testing(0), Testing(0)),
+    row!(Step(WITHDRAW, 1, 1) => Accepted(0, 1),         FAR_APART,    1, 0, Remainder,  Testing(0)),
+    row!(Step(WAIT, 0, 1001) =>  Refused(Late, 2, 1000), FAR_APART,    1, 0, Remainder,  Testing(0)),
+    row!(Step(TEST, 2, 1000) =>  Accepted(0, 1000),      FAR_APART, 1000, 0, Remainder,  Setting(1000)),
     // [20.280] an a of its own, none, and one that is equal to b
-    [FRESH,        2,    8,       12, 7,  2,    1,  0, 0,    0,  2,    8,    12, 7,  2,    1,    0, 0, REMAINDER,    0, REMAINDER,    0],
-    [FRESH,        2,    8,       12, 7,  2,    0, 12, 0,    0,  0,    0,     0, 0,  0,    0,    0, 0, REMAINDER,    0, REMAINDER,    0],
-    [FRESH,        2,    8,       12, 7,  2,    8, 12, 0,    0,  0,    0,     0, 0,  0,    0,    0, 0, REMAINDER,    0, REMAINDER,    0],
+    row!(Fresh(Asked { a: 7, own: Some((2, 1)), ..USUAL }) => Accepted(0, 0),           Asked { a: 7, own: Some((2, 1)), ..USUAL }, 0, 0, Remainder, Remainder),
+    row!(Fresh(Asked { a: 7, own: Some((2, 0)), ..USUAL }) => Refused(BadLimits, 0, 0), NOTHING,                                    0, 0, Remainder, Remainder),
+    row!(Fresh(Asked { a: 7, own: Some((2, 8)), ..USUAL }) => Refused(BadLimits, 0, 0), NOTHING,                                    0, 0, Remainder, Remainder),
     // [20.280] the a of a process past n is not 0
-    [FRESH,        2,    8,       12, 5,  3,    5, 12, 0,    0,  0,    0,     0, 0,  0,    0,    0, 0, REMAINDER,    0, REMAINDER,    0],
+    row!(Fresh(Asked { own: Some((3, 5)), ..USUAL }) => Refused(BadLimits, 0, 0), NOTHING, 0, 0, Remainder, Remainder),
     // [20.280] as many processes as there may be, the last with an a of its own
-    [FRESH,       96,    8,       12, 5, 96,    7,  0, 0,    0, 96,    8,    12, 5, 96,    7,    0, 0, REMAINDER,    0, REMAINDER,    0],
-    // wider columns: times past 65,535 and limits as large as they may be
+    row!(Fresh(Asked { n: 96, own: Some((96, 7)), ..USUAL }) => Accepted(0, 0), Asked { n: 96, own: Some((96, 7)), ..USUAL }, 0, 0, Remainder, Remainder),
+    // times past 65,535 and limits as large as they may be
     // [20.290] of the two times left the lower 16 bits would tell the other one first
-    [FRESH,        2, 200000,     MOST,   131077, 2, 65546, 0, 0,      0, 2, 200000, MOST,   131077, 2, 65546,      0, 0, REMAINDER,      0, REMAINDER, 0],
-    [STEP,  TRY,           1,        0,        0, 0,     0, 0, 0,      0, 2, 200000, MOST,   131077, 2, 65546,      0, 0, TESTING,        0, REMAINDER, 0],
-    [STEP,  TRY,           2,        0,        0, 0,     0, 0, 0,      0, 2, 200000, MOST,   131077, 2, 65546,      0, 0, TESTING,        0, TESTING,   0],
-    [STEP,  WAIT,          0,    65547,        0, 0,     0, 8, 2,  65546, 2, 200000, MOST,   131077, 2, 65546,      0, 0, TESTING,        0, TESTING,   0],
-    [STEP,  WITHDRAW,      2,    65546,        0, 0,     0, 0, 0,  65546, 2, 200000, MOST,   131077, 2, 65546,  65546, 0, TESTING,        0, REMAINDER, 0],
-    [STEP,  WAIT,          0,   131078,        0, 0,     0, 8, 1, 131077, 2, 200000, MOST,   131077, 2, 65546,  65546, 0, TESTING,        0, REMAINDER, 0],
-    [STEP,  TEST,          1,   131077,        0, 0,     0, 0, 0, 131077, 2, 200000, MOST,   131077, 2, 65546, 131077, 0, SETTING,   131077, REMAINDER, 0],
+    row!(Fresh(PAST_16_BITS) =>      Accepted(0, 0),           PAST_16_BITS,      0, 0, Remainder,       Remainder),
+    row!(Step(TRY, 1, 0) =>          Accepted(0, 0),           PAST_16_BITS,      0, 0, Testing(0),      Remainder),
+    row!(Step(TRY, 2, 0) =>          Accepted(0, 0),           PAST_16_BITS,      0, 0, Testing(0),      Testing(0)),
+    row!(Step(WAIT, 0, 65547) =>     Refused(Late, 2, 65546),  PAST_16_BITS,      0, 0, Testing(0),      Testing(0)),
+    row!(Step(WITHDRAW, 2, 65546) => Accepted(0, 65546),       PAST_16_BITS,  65546, 0, Testing(0),      Remainder),
+    row!(Step(WAIT, 0, 131078) =>    Refused(Late, 1, 131077), PAST_16_BITS,  65546, 0, Testing(0),      Remainder),
+    row!(Step(TEST, 1, 131077) =>    Accepted(0, 131077),      PAST_16_BITS, 131077, 0, Setting(131077), Remainder),
     // [20.290] the longest stay that there may be, just after its end, and at it
-    [FRESH,        2,   MOST,     MOST, MOST - 1, 0,     0, 0, 0,      0, 2,   MOST, MOST, MOST - 1, 0,     0,      0, 0, REMAINDER,      0, REMAINDER, 0],
-    [STEP,  TRY,           1,        0,        0, 0,     0, 0, 0,      0, 2,   MOST, MOST, MOST - 1, 0,     0,      0, 0, TESTING,        0, REMAINDER, 0],
-    [STEP,  TEST,          1,        0,        0, 0,     0, 0, 0,      0, 2,   MOST, MOST, MOST - 1, 0,     0,      0, 0, SETTING,        0, REMAINDER, 0],
-    [STEP,  SET,           1,        0,        0, 0,     0, 0, 0,      0, 2,   MOST, MOST, MOST - 1, 0,     0,      0, 1, CHECKING,       0, REMAINDER, 0],
-    [STEP,  WAIT,          0, MOST + 1,        0, 0,     0, 8, 1,   MOST, 2,   MOST, MOST, MOST - 1, 0,     0,      0, 1, CHECKING,       0, REMAINDER, 0],
-    [STEP,  CHECK,         1,     MOST,        0, 0,     0, 0, 0,   MOST, 2,   MOST, MOST, MOST - 1, 0,     0,   MOST, 1, ENTERING,    MOST, REMAINDER, 0],
+    row!(Fresh(LONGEST) =>          Accepted(0, 0),         LONGEST,    0, 0, Remainder,      Remainder),
+    row!(Step(TRY, 1, 0) =>         Accepted(0, 0),         LONGEST,    0, 0, Testing(0),     Remainder),
+    row!(Step(TEST, 1, 0) =>        Accepted(0, 0),         LONGEST,    0, 0, Setting(0),     Remainder),
+    row!(Step(SET, 1, 0) =>         Accepted(0, 0),         LONGEST,    0, 1, Checking(0),    Remainder),
+    row!(Step(WAIT, 0, MOST + 1) => Refused(Late, 1, MOST), LONGEST,    0, 1, Checking(0),    Remainder),
+    row!(Step(CHECK, 1, MOST) =>    Accepted(0, MOST),      LONGEST, MOST, 1, Entering(MOST), Remainder),
     // [20.290] equal deadlines: the lower process came later, with a lower a
-    [FRESH,        2,    8,       12, 5,  2,    7,  0, 0,    0,  2,    8,    12, 5,  2,    7,    0, 0, REMAINDER,    0, REMAINDER,    0],
-    [STEP,  TRY,         2,        0, 0,  0,    0,  0, 0,    0,  2,    8,    12, 5,  2,    7,    0, 0, REMAINDER,    0, TESTING,      0],
-    [STEP,  TRY,         1,        2, 0,  0,    0,  0, 0,    2,  2,    8,    12, 5,  2,    7,    2, 0, TESTING,      2, TESTING,      0],
-    [STEP,  WAIT,        0,        8, 0,  0,    0,  8, 1,    7,  2,    8,    12, 5,  2,    7,    2, 0, TESTING,      2, TESTING,      0],
+    row!(Fresh(SECOND_HIGHER) => Accepted(0, 0),      SECOND_HIGHER, 0, 0, Remainder,  Remainder),
+    row!(Step(TRY, 2, 0) =>      Accepted(0, 0),      SECOND_HIGHER, 0, 0, Remainder,  Testing(0)),
+    row!(Step(TRY, 1, 2) =>      Accepted(0, 2),      SECOND_HIGHER, 2, 0, Testing(2), Testing(0)),
+    row!(Step(WAIT, 0, 8) =>     Refused(Late, 1, 7), SECOND_HIGHER, 2, 0, Testing(2), Testing(0)),
 ];
 
 // [20.120] The table of cases. Each row's call gives back what the row tells; the state before the first row, a fresh one, is of no account.
-pub(crate) fn table() -> [Row; 134]
-    ensures { Hold blank result }
+pub(crate) fn table() -> &'static [Row; 134]
+    ensures { Hold blank result.now }
 {
-    CASES
+    &CASES
 }
 
-// The same a for processes 1 to n, but another for a process that is not 0.
+// The same a for processes 1 to n, but another for a process that has its own.
 #[tactic(auto, unfolding(crate::specs::Cases::limits_with))]
-fn limits_with(n: u64, limit: u64, process: u64, own: u64) -> [u64; 96]
-    ensures { result ≡ limits_with n limit process own }
+fn limits_with(n: u64, limit: u64, own: Option<(u64, u64)>) -> [u64; 96]
+    ensures { result ≡ limits_with n limit own }
 {
     let mut a = equal_limits(n, limit);
-    if process == 0 {
-        return a;
-    }
-    if process <= 96 {
-        a[(process - 1) as usize] = own;
+    if let Some((process, limit)) = own {
+        let place = process.saturating_sub(1);
+        if place < 96 {
+            a[place as usize] = limit;
+        }
     }
     a
 }
 
-// The parameters that a fresh row asks for.
-fn asked(row: Row) -> Parameters
-    ensures { result ≡ asked_of row }
+// The parameters that a fresh state is asked for with.
+fn parameters_with(asked: Asked) -> Parameters
+    ensures { result ≡ parameters_with asked }
 {
-    let n = row[1];
-    let b = row[2];
-    let c = row[3];
-    let a = limits_with(n, row[4], row[5], row[6]);
     Parameters {
-        n: n,
-        b: b,
-        c: c,
-        a: a,
+        n: asked.n,
+        b: asked.b,
+        c: asked.c,
+        a: limits_with(asked.n, asked.a, asked.own),
     }
 }
 
 // The call that a row makes, a step at the state that the row before it gave back.
 #[tactic(auto, unfolding(crate::specs::Cases::called_of))]
-pub(crate) fn call(state: State, row: Row) -> Outcome
+pub(crate) fn call(state: State<Arrivals>, row: Row) -> Outcome<Arrivals>
     ensures { result ≡ called_of state row }
 {
-    if row[0] == FRESH {
-        return machine::fresh(asked(row));
+    match row.call {
+        Fresh(asked) => machine::fresh(parameters_with(asked)),
+        Step(action, process, time) => machine::step(state, action, process, time),
     }
-    machine::step(state, row[1], row[2], row[3])
 }

@@ -8,98 +8,106 @@ mod prints;
 mod reads;
 
 ghost use Rattle.std.specs.Prelude.{◌≤◌};
+ghost use Rattle.std.specs.Io.{WritesAtMost};
 
-use crate::prints::{print_call, print_line, print_recorded};
-use crate::reads::{read_acts, read_calls, read_head};
+use crate::prints::{print_call, print_recorded};
+use crate::reads::{Call, read_calls, read_parameters};
+use history::rows::summary_in;
 use model::Parameters;
 use std::env::FillError;
-use std::io;
-use std::io::Read;
 use std::rt::{Env, Files};
-use streams::{kept, open_argument, read_text, tell};
+use std::{fs, io};
+use streams::{KEPT, argument, read_text};
 
-// Runs the first calls of a text, and prints the answer to the last of them, the summary that it left and the table; or nothing, and
-// answers false, where the text has fewer.
+// Runs the first calls of a list, and prints the answer to the last of them, the summary that it left and the table.
 fn run_first(
     rt: &impl Print,
     parameters: Parameters,
-    text: &[u8],
+    calls: &[Call; 64],
     wanted: usize,
-) -> io::Result<bool>
+) -> io::Result<()>
     requires { wanted ≤ 64 }
 {
-    let mut calls = [[0; 4]; 64];
-    let mut counts = [[0; 5]; 64];
-    let mut waited = [[0; 96]; 64];
+    let rows = calls.map(|call| call.row);
+    let mut counts = calls.map(|call| call.counts);
+    let mut waited = calls.map(|call| call.waited);
     let mut answers = [[0; 3]; 64];
-    let count = read_calls(text, wanted, &mut calls, &mut counts, &mut waited);
-    if count < wanted {
-        return Ok(false);
-    }
     let outcome = history::run(
         parameters,
-        &calls[..count],
+        &rows[..wanted],
         &mut counts,
         &mut waited,
         &mut answers,
     );
-    print_call(rt, parameters.n, outcome, &answers, &counts, &waited, count)?;
-    Ok(true)
+    let left = wanted
+        .checked_sub(1)
+        .map(|last| summary_in(counts[last], waited[last]));
+    print_call(rt, parameters.n, outcome, &answers[..wanted], left)
 }
 
 // The same acts, all lent one summary.
 fn record_first(
     rt: &impl Print,
     parameters: Parameters,
-    text: &[u8],
+    calls: &[Call; 64],
     wanted: usize,
 ) -> io::Result<()>
     requires { wanted ≤ 64 }
 {
-    let mut acts = [[0; 3]; 64];
+    let acts = calls.map(|call| call.act());
     let mut answers = [[0; 3]; 64];
-    let count = read_acts(text, wanted, &mut acts);
-    let recorded = history::run_recorded(parameters, &acts[..count], &mut answers);
-    print_recorded(rt, parameters.n, recorded, &answers, count)
+    let recorded = history::run_recorded(parameters, &acts[..wanted], &mut answers);
+    print_recorded(rt, parameters.n, recorded, &answers[..wanted])
 }
 
-fn run_list(rt: &impl Print, parameters: Parameters, text: &[u8]) -> io::Result<()> {
-    for wanted in 0..65 {
-        if !run_first(rt, parameters, text, wanted)? {
-            return Ok(());
-        }
-        record_first(rt, parameters, text, wanted)?;
+fn run_list(rt: &impl Print, text: &[u8]) -> io::Result<()> {
+    let parameters = read_parameters(text);
+    let mut calls = [Call::NONE; 64];
+    let count = read_calls(text, &mut calls);
+    for wanted in 0..=count {
+        run_first(rt, parameters, &calls, wanted)?;
+        record_first(rt, parameters, &calls, wanted)?;
     }
     Ok(())
 }
 
-// A file that cannot be read is told, and the others are run all the same.
-fn run_file<R: Print + Eprint, F: Read>(rt: &R, mut file: F, name: &[u8]) -> io::Result<()>
-where
-    F: Drop,
+// The bytes of a file, as many as a recording may have and one more, and how many they are.
+fn read_file(rt: &impl Files, name: &str, text: &mut [u8; KEPT]) -> io::Result<usize>
+    ensures { WritesAtMost result text.new }
 {
-    let mut text = kept();
-    let size = match read_text(&mut file, &mut text) {
-        Ok(size) => size,
+    let mut file = fs::open(rt, name)?;
+    read_text(&mut file, text)
+}
+
+// Tells a failure on standard error, after the name of what failed. Where that fails too, nothing is left to tell it on.
+fn tell(rt: &impl Eprint, name: &str, error: &io::Error) {
+    let _ = eprintln!(rt; "{name}: {error}");
+}
+
+// A file that cannot be read is told, and the others are run all the same.
+fn run_file<R: Files + Print + Eprint>(rt: &R, name: &str) -> io::Result<()> {
+    let mut text = [0; KEPT];
+    match read_file(rt, name, &mut text) {
+        Ok(size) => {
+            println!(rt; "{name}")?;
+            run_list(rt, &text[..size])
+        }
         Err(error) => {
             tell(rt, name, &error);
-            return Ok(());
+            Ok(())
         }
-    };
-    print_line(rt, name)?;
-    let head = read_head(&text[..size]);
-    let start = head.size;
-    run_list(rt, head.parameters, &text[start..size])
+    }
 }
 
 // A path has fewer bytes than the room that it is kept in.
-fn open_and_run<R: Env + Files + Print + Eprint>(rt: &R, place: usize) -> io::Result<()> {
+fn run_argument<R: Env + Files + Print + Eprint>(rt: &R, place: usize) -> io::Result<()> {
     let mut path = [0; 4096];
-    let opened = open_argument(rt, place, &mut path);
-    let length = opened.length;
-    match opened.file {
-        Some(file) => run_file(rt, file, &path[..length]),
-        None => Ok(()),
+    match argument(rt, place, &mut path) {
+        Ok(name) => run_file(rt, name),
+        Err(error) => {
+            tell(rt, "argument", &error);
+            Ok(())
+        }
     }
 }
 
@@ -115,7 +123,7 @@ fn argument_count(rt: &impl Env) -> usize {
 
 fn main(rt: HostRuntime) -> io::Result<()> {
     for place in 1..argument_count(&rt) {
-        open_and_run(&rt, place)?;
+        run_argument(&rt, place)?;
     }
     Ok(())
 }

@@ -6,6 +6,7 @@ use mathlib.Core.Logic.{◌≢◌}
 use mathlib.Core.List.{List}
 use native.Mathlib.Omega.{arith}
 use lib.ListN.{length}
+use Rattle.model.specs.Refusals.{code_of}
 use Rattle.model.specs.Readings.{Trace, refused, trace, trace_of}
 use Rattle.model.specs.Reports.{report_text}
 use Rattle.grammar.proofs.Faults.{fault_some}
@@ -19,7 +20,7 @@ use Rattle.spans.specs.Prints.{printed_for, printed_text}
 module _ (text out : List ℕ) where
   written_of : (t : Trace) → TraceTells text t → (intervals_into out t).answer.code ≡ 0
       → Whole (printed_for text t) (intervals_into out t).out (intervals_into out t).answer.time
-  written_of (refused code line) told = λ (e : code ≡ 0). absurd (omega (arith, fault_some told))
+  written_of (refused why line) told = λ (e : code_of why ≡ 0). absurd (omega (arith, fault_some told))
   written_of (trace line k events) told = whole (intervals_text (trace_intervals k events)) out
 
   pub written : (write_intervals_of text out).answer.code ≡ 0
@@ -29,7 +30,7 @@ module _ (text out : List ℕ) where
 
   refused_of : 65536 ≤ length out → (t : Trace) → TraceTells text t → (intervals_into out t).answer.code ≢ 0
       → printed_for text t ≡ report_text text
-  refused_of wide (refused code line) told = λ _. refl
+  refused_of wide (refused why line) told = λ _. refl
   refused_of wide (trace line k events) told =
       let fits : length (intervals_text (trace_intervals k events)) ≤ length out =
       omega (arith, intervals_short text line k events told, told.short) in

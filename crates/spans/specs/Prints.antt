@@ -6,7 +6,7 @@ use Rattle.intervals.specs.Intervals.{trace_intervals, intervals_text}
 
 -- [11.95] the text of the intervals of a trace; or, where it is refused, what `replay` prints for it
 abbrev pub printed_for : List ℕ → Trace → List ℕ
-printed_for text (refused code line) = report_text text
+printed_for text (refused why line) = report_text text
 printed_for text (trace line k events) = intervals_text (trace_intervals k events)
 
 -- [11.95] of any bytes

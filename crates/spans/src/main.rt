@@ -4,16 +4,21 @@
 
 mod prints;
 
-use crate::prints::print_intervals;
-use streams::{kept, read_text};
+ghost use Rattle.spans.specs.Prints.{printed_text};
+
+use streams::{OUTPUT, Render};
+
+// The spans of a text, or its report.
+struct Spans;
+
+impl Render for Spans {
+    ghost rendered = { printed_text };
+
+    fn render<'a>(&self, text: &[u8], out: &'a mut [u8; OUTPUT]) -> &'a [u8] {
+        prints::render(text, out)
+    }
+}
 
 fn main(rt: HostRuntime) {
-    let mut text = kept();
-    let Ok(size) = read_text(&mut rt.stdin(), &mut text) else {
-        let _ = eprintln!(rt; "spans: the recording could not be read");
-        return;
-    };
-    if !print_intervals(&rt, &text[..size]) {
-        let _ = eprintln!(rt; "spans: the spans could not be written");
-    }
+    streams::run(&rt, &mut rt.stdin(), "spans", "the spans", &Spans);
 }

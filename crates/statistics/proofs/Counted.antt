@@ -1,7 +1,7 @@
 -- An accepted act as `record` counts it: what going over the waits so far asks for holds of the state after it, and the summary then is
 -- the model's. Assumes nothing.
 use Rattle.std.proofs.Common.{◌≡◌, ℕ, ◌+◌, ◌-◌, ◌^◌, ◌<◌, ◌≤◌, true, false, List, length, get_or, set, sym, ap, ◌∙◌, mod-eq_of_lt, arith}
-use Rattle.model.specs.declared.State.{State}
+use Rattle.model.specs.Types.{State}
 use Rattle.model.specs.declared.Counts.{Counts}
 use Rattle.model.specs.declared.Statistics.{Statistics}
 use Rattle.model.specs.Stages.{remainder}
@@ -16,10 +16,10 @@ use Rattle.theory.proofs.Acceptance.{accepted_iff_allowed, next_is_changed}
 use Rattle.theory.proofs.Entries.{entry_at}
 use Rattle.theory.proofs.Soundness.{sound_iff_plain}
 use Rattle.theory.proofs.StaysSound.{sound_kept}
-use Rattle.theory.proofs.Waits.{unused_fits, waited_on_zero, waited_after_act}
-use Rattle.statistics.specs.Waitings.{unused_beside, others_before, longer_by, stage_at}
+use Rattle.theory.proofs.Waits.{waited_on_zero, unused_fits, waited_after_act}
+use Rattle.statistics.specs.Waitings.{unused_beside, others_before, may_wait, longer_by, stage_at}
 use Rattle.statistics.proofs.Laws.{not_one_sound}
-use Rattle.statistics.proofs.Waits.{unused-beside, others-before}
+use Rattle.statistics.proofs.Waits.{unused-beside, others-before, may_wait_not}
 
 -- past n a sound state has nobody but in the remainder
 pub past_rests : (s : State) → Sound s → (i : ℕ) → s.parameters.n ≤ i → stage_at s.processes i ≡ remainder
@@ -108,3 +108,26 @@ pub record Grown (s s' : State) (x : Statistics) (m slot : ℕ) (y : Statistics)
   pub unused_is : unused ≡ unused_time s m
   pub wait_is : wait ≡ longer_by unused (get_or x.waited slot 0)
   pub waits : y.waited ≡ waited_on unused s'.processes x.waited
+
+module _ (s : State) (size : length s.processes ≡ 96) (x : Statistics) (room : HasRoom s.clock x)
+    (act p m : ℕ) (accepted : Accepted (step_of s act p m)) where
+  pub grown_by : {u slot wait : ℕ} {ws : List ℕ} {y : Statistics}
+      → u ≡ unused_beside (others_before (step_of s act p m).answer.process (step_of s act p m).state.processes act p) act s.clock
+      (step_of s act p m).state.clock
+      → ws ≡ waited_on u (step_of s act p m).state.processes x.waited → wait ≡ longer_by u (get_or x.waited slot 0) → y ≡ statistics_of x.counts ws
+      → Grown s (step_of s act p m).state x m slot y wait
+  grown_by {u} told on wait-is y-is = record {
+    unused = u;
+    unused_is = unused_told s size x room act p m accepted told;
+    wait_is = wait-is;
+    waits = ap (λ (y : Statistics). y.waited) y-is ∙ on;
+  }
+
+  pub grown_not : {slot wait : ℕ} {y : Statistics} → may_wait (step_of s act p m).answer.process act s.clock m ≡ false → slot ≡ p - 1
+      → wait ≡ get_or x.waited slot 0 → y ≡ x → Grown s (step_of s act p m).state x m slot y wait
+  grown_not not slot-is wait-is y-is = record {
+    unused = 0;
+    unused_is = sym (may_wait_not s size act p m accepted not);
+    wait_is = wait-is ∙ rest_wait s size x room act p m accepted slot-is;
+    waits = ap (λ (y : Statistics). y.waited) y-is ∙ rest_waits s size x room act p m accepted;
+  }

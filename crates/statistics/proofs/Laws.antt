@@ -1,10 +1,15 @@
 -- What soundness of a summary tells, what the recorded step comes to by the answer of the step, and that an act which it counts can
 -- be counted and is counted as in the model. Assumes nothing.
-use Rattle.std.proofs.Common.{◌≡◌, ℕ, suc, ◌+◌, ◌<◌, ◌≤◌, true, cond, ◌&&◌, eqb, leb, ◌≢◌, List, [], ◌∷◌, length, get_or, drop, sym, refl}
-use Rattle.std.proofs.Common.{◌∙◌, mod-eq_of_lt, arith, eq-eqb, ne_eqb, le-leb}
-use borrow.Author.Tests.{eqb-false, lt-leb}
-use Rattle.model.specs.declared.State.{State}
-use Rattle.model.specs.declared.Outcome.{Outcome}
+use Rattle.std.proofs.Common.{◌≡◌, ℕ, suc, ◌+◌, ◌<◌, ◌≤◌, true, cond, ◌&&◌, leb, ◌≢◌, List, [], ◌∷◌, get_or, sym, refl, ap}
+use Rattle.std.proofs.Common.{◌∙◌, mod-eq_of_lt, arith, le-leb}
+use borrow.Author.Tests.{eqb-false}
+use Rattle.std.specs.Prelude.{Option, Some, None}
+use Rattle.std.specs.List.{list_all}
+use Rattle.model.specs.declared.Refusal.{Refusal}
+use Rattle.model.specs.declared.Refusal.TheVariants.{NoSummary, SummaryFull}
+use Rattle.model.specs.Types.{State}
+use Rattle.model.specs.Refusals.{code_of}
+use Rattle.model.specs.Types.{Outcome}
 use Rattle.model.specs.declared.Counts.{Counts}
 use Rattle.model.specs.declared.Statistics.{Statistics}
 use Rattle.model.specs.States.{sound_of}
@@ -14,7 +19,6 @@ use Rattle.model.specs.Summaries.{most_acts, accepted_counted, refused_counted, 
 use Rattle.model.specs.Facts.{Accepted}
 use Rattle.theory.specs.Summaries.{HasRoom, RecordedTells}
 use Rattle.statistics.specs.Countings.{fault_by, Room, one_more, refused_after, accepted_after}
-use Rattle.model.proofs.Lists.{drop_at, drop_end}
 use Rattle.model.proofs.Soundness.{sound_numbers}
 use Rattle.model.proofs.Tests.{by_test}
 use Rattle.theory.proofs.Conditions.{turn_named}
@@ -25,20 +29,11 @@ use Rattle.theory.proofs.Summaries.{summary_sound_iff_plain, recorded_is_plain}
 
 -- Waits so far
 
-module _ (clock : ℕ) (l : List ℕ) (i : ℕ) where
-  -- those from place i on: that at i, and those from i + 1 on
-  pub waits_at : i < length l → waited_sound clock (drop i l) ≡ leb (get_or l i 0) clock && waited_sound clock (drop (i + 1) l)
-  unfolding waited_sound
-  waits_at h = rw (drop_at l i 0 h)
-
-  -- those from place i on are sound just where all are: by where a pass over them ends
-  pub all_stand : i ≡ length l → waited_sound clock (drop i l) ≡ waited_sound clock l → eqb i (length l) ≡ waited_sound clock l
-  unfolding waited_sound
-  all_stand e inv = eq-eqb i (length l) e ∙ rw (drop_end l i (omega arith) (omega arith)) at inv
-
-  pub one_late : i < length l → clock < get_or l i 0 → waited_sound clock (drop i l) ≡ waited_sound clock l
-      → eqb i (length l) ≡ waited_sound clock l
-  one_late h late inv = ne_eqb i (length l) (omega arith) ∙ simp (lt-leb _ _ late) at (sym (waits_at h)) ∙ inv
+-- all stand just where each does
+pub waited_all : (clock : ℕ) (l : List ℕ) → list_all (λ w. leb w clock) l ≡ waited_sound clock l
+unfolding waited_sound
+waited_all clock [] = refl
+waited_all clock (w ∷ ws) = ap (λ b. leb w clock && b) (waited_all clock ws)
 
 -- none is past the clock
 pub all_few : (clock : ℕ) (l : List ℕ) → ((k : ℕ) → get_or l k 0 ≤ clock) → waited_sound clock l ≡ true
@@ -48,18 +43,18 @@ all_few clock (w ∷ ws) h = rw (le-leb w clock (h 0)) (all_few clock ws (λ k. 
 
 -- The refusals 2 and 3
 
-abbrev pub fault_of : ℕ → Statistics → ℕ
+abbrev pub fault_of : ℕ → Statistics → Option Refusal
 fault_of clock x = fault_by x.counts (waited_sound clock x.waited)
 
 module _ (clock : ℕ) (x : Statistics) where
-  pub no_fault_room : fault_of clock x ≡ 0 → HasRoom clock x
+  pub no_fault_room : fault_of clock x ≡ None → HasRoom clock x
   unfolding statistics_sound
   no_fault_room h =
       by_test (counts_sound x.counts && waited_sound clock x.waited)
       (λ e. by_test (full x.counts)
-      (λ f. absurd (omega (arith, simp (e, f) at h)))
+      (λ f. let z = simp (e, f) at h in absurd (cc))
       (λ f. record { sound = (summary_sound_iff_plain clock x).0 e; not_full = eqb-false _ _ f }))
-      (λ e. absurd (omega (arith, simp e at h)))
+      (λ e. let z = simp e at h in absurd (cc))
 
   pub counts_room : HasRoom clock x → Room x.counts
   counts_room h = omega (arith, h.sound.counts, h.not_full)
@@ -90,13 +85,15 @@ accepted_named s act p m a =
 
 module _ (s : State) (x : Statistics) (act p m : ℕ) where
   -- where 2 or 3 applies, unless 1 does
-  pub recorded_fault : fault_of s.clock x ≢ 0
-      → recorded_of s x act p m ≡ beside x (cond (sound_of s) (answers (fault_of s.clock x) 0 0 s) (answers 1 0 0 s))
+  pub recorded_fault : (r : Refusal) → fault_of s.clock x ≡ Some r
+      → recorded_of s x act p m ≡ beside x (cond (sound_of s) (answers (code_of r) 0 0 s) (answers 1 0 0 s))
   unfolding recorded_of statistics_sound
-  recorded_fault n = by_test (sound_of s)
+  recorded_fault r h = by_test (sound_of s)
       (λ e. by_test (counts_sound x.counts && waited_sound s.clock x.waited)
-      (λ f. by_test (full x.counts) (λ g. simp (e, f, g)) (λ g. absurd (n (simp (f, g)))))
-      (λ f. simp (e, f)))
+      (λ f. by_test (full x.counts)
+      (λ g. let z : r ≡ SummaryFull = let k = simp (f, g) at h in cc in simp (e, f, g, z))
+      (λ g. let z = simp (f, g) at h in absurd (cc)))
+      (λ f. let z : r ≡ NoSummary = let k = simp f at h in cc in simp (e, f, z)))
       (λ e. simp e)
 
   module _ (room : HasRoom s.clock x) where

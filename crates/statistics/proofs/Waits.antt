@@ -1,17 +1,19 @@
 -- What going over the waits so far comes to, and that the unused time of an accepted act is known from the state after it and from who is named
 -- in the answer: laws of the recorded step, of structs and of lists. Assumes nothing.
-use Rattle.std.proofs.Common.{◌≡◌, ℕ, zero, suc, ◌+◌, ◌-◌, ◌^◌, ◌<◌, ◌≤◌, false, cond, not, eqb, ltb, ◌≢◌, ◌⊎◌, List, length, get_or, drop}
+use Rattle.std.proofs.Common.{◌≡◌, ℕ, zero, suc, ◌+◌, ◌-◌, ◌^◌, ◌<◌, ◌≤◌, false, cond, not, eqb, ltb, ◌≢◌, ◌⊎◌, List, [], ◌∷◌, length, get_or, drop}
 use Rattle.std.proofs.Common.{set, sym, refl, ap, ◌∙◌, inl, inr, mod-eq_of_lt, arith, length-set, get_or-set_other, get_or-set_same}
-use Rattle.std.proofs.Common.{ext_get_or, lt-ltb, eq-eqb, ne_eqb}
-use Rattle.model.specs.declared.Location.{Location}
+use Rattle.std.proofs.Common.{ext_get_or, le-ltb, lt-ltb, eq-eqb, ne_eqb}
+use Rattle.std.specs.Prelude.{Bool, Some, None, position}
+use Rattle.std.specs.List.{position_or_len}
+use Rattle.model.specs.Types.{Location}
 use Rattle.model.specs.declared.Location.TheVariants.{Remainder, Testing, Setting, Checking, Entering, Critical, Resetting, Leaving}
-use Rattle.model.specs.declared.Process.{Process}
-use Rattle.model.specs.declared.State.{State}
+use Rattle.model.specs.Types.{Process}
+use Rattle.model.specs.Types.{State}
 use Rattle.model.specs.Stages.{remainder, critical}
 use Rattle.model.specs.Acts.{wait_act, crit_act, exit_act, leaves}
 use Rattle.model.specs.States.{entry, idle, stage_of, trying, entry_of}
 use Rattle.model.specs.Actions.{transition_of, effect}
-use Rattle.model.specs.Answers.{critical_from, critical_of, step_of}
+use Rattle.model.specs.Answers.{critical_by, critical_from, critical_of, step_of}
 use Rattle.model.specs.Facts.{Accepted, IsCritical}
 use Rattle.model.specs.Summaries.{unused_time, waited_on}
 use Rattle.rules.specs.Judging.{others_from, lowest_of}
@@ -26,16 +28,6 @@ use Rattle.theory.proofs.Waits.{trying_at, length_waited_on, waited_at, waited_o
 
 -- What stages gain
 
-pub stage_few : (l : Location) → stage_of l < 8
-stage_few Remainder = omega arith
-stage_few (Testing t) = omega arith
-stage_few (Setting t) = omega arith
-stage_few (Checking t) = omega arith
-stage_few (Entering t) = omega arith
-stage_few Critical = omega arith
-stage_few (Resetting t) = omega arith
-stage_few (Leaving t) = omega arith
-
 pub gains_at : (d : ℕ) (l : Location) → get_or (gains_of d) (stage_of l) 0 ≡ cond (trying l) d 0
 gains_at d Remainder = refl
 gains_at d (Testing t) = refl
@@ -48,6 +40,31 @@ gains_at d (Leaving t) = refl
 
 remainder_waits_not : (l : Location) → stage_of l ≡ remainder → trying l ≡ false
 remainder_waits_not l e = rw (stage_location l e)
+
+-- Who is critical past the acting process, by the place of the first critical entry
+
+abbrev pub is_critical : Process → Bool
+is_critical q = eqb (stage_of q.location) critical
+
+critical_placed : (i : ℕ) (qs : List Process)
+    → critical_from i qs ≡ cond (ltb (position_or_len is_critical qs) (length qs)) (i + position_or_len is_critical qs) 0
+unfolding critical_by
+critical_placed i [] = refl
+critical_placed i (q ∷ qs) = by_test (is_critical q)
+    (λ e. simp (e, lt-ltb 0 (length (q ∷ qs)) (omega arith)) (omega arith))
+    (λ e. if_lt (position_or_len is_critical qs) (length qs)
+    (λ h. simp (e, critical_placed (i + 1) qs, lt-ltb _ _ h, lt-ltb (1 + position_or_len is_critical qs) (length (q ∷ qs)) (omega arith)) (omega arith))
+    (λ h. simp (e, critical_placed (i + 1) qs, le-ltb _ _ h, le-ltb (1 + position_or_len is_critical qs) (length (q ∷ qs)) (omega arith))))
+
+pub critical_found : (i : ℕ) (qs : List Process) (k : ℕ) → Some k ≡ position is_critical qs → i + k ≡ critical_from i qs
+critical_found i qs k h = by_test (ltb (position_or_len is_critical qs) (length qs))
+    (λ e. let z : k ≡ position_or_len is_critical qs = let g = simp e at h in cc in rw (critical_placed i qs, e, z))
+    (λ e. let z = simp e at h in absurd (cc))
+
+pub critical_nowhere : (i : ℕ) (qs : List Process) → None ≡ position is_critical qs → 0 ≡ critical_from i qs
+critical_nowhere i qs h = by_test (ltb (position_or_len is_critical qs) (length qs))
+    (λ e. let z = simp e at h in absurd (cc))
+    (λ e. rw (critical_placed i qs, e))
 
 -- Places in a row
 
@@ -72,20 +89,12 @@ module _ (g : List ℕ) (st : ℕ → ℕ) where
   unfolding waited_from
   waited_from_next i k ws = waited_from_more i k 1 ws
 
-  -- the place i comes after those from i₀ on that have been gone over
-  pub one_more_gone : (i₀ i w : ℕ) (ws₀ ws : List ℕ) → i₀ ≤ i → ws ≡ waited_from g st i₀ (i - i₀) ws₀
-      → w ≡ longer_by (get_or g (st i) 0) (get_or ws i 0) → set ws i w ≡ waited_from g st i₀ (i + 1 - i₀) ws₀
-  one_more_gone i₀ i w ws₀ ws h inv e =
-      let f : i₀ + (i - i₀) ≡ i = omega arith in
-      let k : i + 1 - i₀ ≡ i - i₀ + 1 = omega arith in
-      rw (e, k) (sym (rw (f, ← inv) at (waited_from_next i₀ (i - i₀) ws₀)))
-
-  -- j more come after the first k
-  pub more_gone : (k j : ℕ) (ws₀ ws ws' : List ℕ) → ws ≡ waited_from g st 0 k ws₀ → ws' ≡ waited_from g st k j ws
-      → ws' ≡ waited_from g st 0 (k + j) ws₀
-  more_gone k j ws₀ ws ws' inv e =
-      let f : 0 + k ≡ k = omega arith in
-      e ∙ sym (rw (f, ← inv) at (waited_from_more 0 k j ws₀))
+  -- the place i comes after those before it
+  pub one_more_gone : (i w : ℕ) (ws₀ ws : List ℕ) → ws ≡ waited_from g st 0 i ws₀
+      → w ≡ longer_by (get_or g (st i) 0) (get_or ws i 0) → set ws i w ≡ waited_from g st 0 (i + 1) ws₀
+  one_more_gone i w ws₀ ws inv e =
+      let f : 0 + i ≡ i = omega arith in
+      rw e (sym (rw (f, ← inv) at (waited_from_next 0 i ws₀)))
 
   before_kept : (i k : ℕ) (ws : List ℕ) (x : ℕ) → x < i → get_or (waited_from g st i k ws) x 0 ≡ get_or ws x 0
   unfolding waited_from
@@ -128,10 +137,6 @@ module _ (d : ℕ) (qs : List Process) (ws : List ℕ) (fits : (i : ℕ) → get
       ∙ sym (waited_other d qs ws x (remainder_waits_not (get_or qs x idle).location (rest x (omega arith))))))
 
 -- Unused time, from who is critical besides the acting process
-
-pub unused_most : (others act clock m : ℕ) → unused_beside others act clock m ≤ m - clock
-unused_most others act clock m = by_cond (λ (d : ℕ). d ≤ m - clock) (not (eqb others 0)) (λ _. omega arith)
-    (λ _. by_cond (λ (d : ℕ). d ≤ m - clock) (eqb act exit_act) (λ _. omega arith) (λ _. omega arith))
 
 -- an exit alone is of a critical process
 from_exit : {b m act : ℕ} {l : Location} → From b m act l → act ≡ exit_act → l ≡ Critical

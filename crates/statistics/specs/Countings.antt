@@ -1,14 +1,15 @@
 -- What is judged of a summary before an action is counted, and how any counts are counted on, sound or not. Where there is room this is
 -- what the model says; `proofs/Laws` tells so. Assumes nothing.
-use Rattle.std.specs.Prelude.{ℕ, ◌+◌, ◌%◌, ◌^◌, ◌<◌, max, Bool, cond, not, ◌&&◌, ◌==◌}
+use Rattle.std.specs.Prelude.{ℕ, ◌+◌, ◌%◌, ◌^◌, ◌<◌, max, Bool, cond, not, ◌&&◌, ◌==◌, Option, Some, None}
 use Rattle.model.specs.declared.Counts.{Counts}
+use Rattle.model.specs.declared.Refusal.{Refusal}
+use Rattle.model.specs.declared.Refusal.TheVariants.{NoSummary, SummaryFull}
 use Rattle.model.specs.Acts.{crit_act, exit_act}
 use Rattle.model.specs.Summaries.{most_acts, counts_of, counts_sound, full}
 
--- [4.2] [4.3] [5.60] the number of the refusal, 2 or 3, by the counts and by whether the waits so far stand; 0 where an
--- action can be counted
-abbrev pub fault_by : Counts → Bool → ℕ
-fault_by k stand = cond (not (counts_sound k && stand)) 2 (cond (full k) 3 0)
+-- [4.2] [4.3] [5.60] the refusal 2 or 3, by the counts and by whether the waits so far stand; none where an action can be counted
+abbrev pub fault_by : Counts → Bool → Option Refusal
+fault_by k stand = cond (not (counts_sound k && stand)) (Some NoSummary) (cond (full k) (Some SummaryFull) None)
 
 -- helper: each count has room for one more
 pub record Room (k : Counts) : Type 0 where

@@ -2,7 +2,7 @@
 -- Any waits are taken, sound or not; `proofs/Waits` relates all this to the model. Assumes nothing.
 use Rattle.std.specs.Prelude.{ℕ, zero, suc, ◌+◌, ◌-◌, ◌%◌, ◌^◌, Bool, cond, not, ◌&&◌, ◌||◌, List, drop, replicate, ◌==◌, nat_lt}
 use Rattle.std.specs.Prelude.{slice_index, slice_index_or, slice_set}
-use Rattle.model.specs.declared.Process.{Process}
+use Rattle.model.specs.Types.{Process}
 use Rattle.model.specs.Acts.{crit_act, exit_act}
 use Rattle.model.specs.Stages.{testing, setting, checking, entering, leaving}
 use Rattle.model.specs.States.{idle, stage_of}

@@ -7,6 +7,7 @@ pub mod soundness;
 pub mod waiting;
 
 ghost use Rattle.std.specs.Prelude.{◌≡◌, if◌then◌else◌};
+ghost use Rattle.model.specs.Refusals.{code_of};
 ghost use Rattle.model.specs.States.{sound_of};
 ghost use Rattle.model.specs.Answers.{answers};
 ghost use Rattle.model.specs.Summaries.{new_statistics, beside, recorded_of};
@@ -15,13 +16,12 @@ use crate::counting::{counts_after, with_refused};
 use crate::soundness::{fault_by, waits_stand};
 use crate::waiting::{does_clear, may_wait, wait_after};
 use machine::step;
-use model::{Counts, Outcome, Recorded, State, Statistics};
+use model::{Answer, Arrivals, Counts, Outcome, Recorded, Refusal, State, Statistics};
 use rules::actions::WAIT;
 use rules::answers::slot_of;
-use std::num::wrapping_add_u64;
-use values::answer_with;
 
 // [5.20] [21.110]
+// kept: (d) a derived Default tells of an array each element apart, and not the whole value, which the clause has
 pub fn new_statistics() -> Statistics
     ensures { result ≡ new_statistics }
 {
@@ -38,17 +38,17 @@ pub fn new_statistics() -> Statistics
 }
 
 // The refusal 2 or 3, or 1 before it: whether the state is sound is told by a wait at its own clock, which changes nothing.
-fn refuse(state: State, fault: u64) -> Outcome
-    ensures { result ≡ (if sound_of state then answers fault 0 0 state else answers 1 0 0 state) }
+fn refuse(state: State<Arrivals>, refusal: Refusal) -> Outcome<Arrivals>
+    ensures { result ≡ (if sound_of state then answers (code_of refusal) 0 0 state else answers 1 0 0 state) }
 {
     let judged = step(state, WAIT, 0, state.clock);
     let answer = judged.answer;
-    if answer.code == 1 {
+    if answer.code == Refusal::NoTable.code() {
         return judged;
     }
     Outcome {
-        answer: answer_with(fault, 0, 0),
-        state: state,
+        answer: Answer::from(refusal),
+        state,
     }
 }
 
@@ -56,7 +56,7 @@ fn refuse(state: State, fault: u64) -> Outcome
 // changed in place, as each hand-over of it copies 808 bytes; the waits so far are gone over after the step, so that no second state is
 // kept.
 pub fn record(
-    state: State,
+    state: State<Arrivals>,
     mut statistics: Statistics,
     action: u64,
     process: u64,
@@ -66,11 +66,10 @@ pub fn record(
 {
     let counts = statistics.counts;
     let clock = state.clock;
-    let fault = fault_by(counts, waits_stand(&statistics.waited, clock));
-    if fault != 0 {
+    if let Some(refusal) = fault_by(counts, waits_stand(&statistics.waited, clock)) {
         return Recorded {
-            outcome: refuse(state, fault),
-            statistics: statistics,
+            outcome: refuse(state, refusal),
+            statistics,
         };
     }
     let outcome = step(state, action, process, time);
@@ -78,6 +77,7 @@ pub fn record(
     if answer.code == 0 {
         let slot = slot_of(process);
         let mut wait = statistics.waited[slot];
+        // else the state after the act is not handed over
         if may_wait(answer.process, action, clock, time) {
             let unused = wait_after(
                 &mut statistics.waited,
@@ -87,29 +87,29 @@ pub fn record(
                 process,
                 clock,
             );
-            wait = wrapping_add_u64(wait, unused);
+            wait = wait.wrapping_add(unused);
         }
         statistics.counts = counts_after(counts, action, wait);
         if does_clear(action) {
             statistics.waited[slot] = 0;
         }
-    } else if answer.code != 1 {
+    } else if answer.code != Refusal::NoTable.code() {
         statistics.counts = with_refused(counts);
     }
     Recorded {
-        outcome: outcome,
-        statistics: statistics,
+        outcome,
+        statistics,
     }
 }
 
 // [5.30] [21.70] [21.110]
 pub fn record_step(
-    state: State,
+    state: State<Arrivals>,
     statistics: &mut Statistics,
     action: u64,
     process: u64,
     time: u64,
-) -> Outcome
+) -> Outcome<Arrivals>
     ensures { beside statistics.new result ≡ recorded_of state statistics.old action process time }
 {
     let recorded = record(state, *statistics, action, process, time);

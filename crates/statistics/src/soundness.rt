@@ -3,7 +3,7 @@ ghost use Rattle.std.specs.Prelude.{◌≡◌};
 ghost use Rattle.model.specs.Summaries.{counts_sound, waited_sound};
 ghost use Rattle.statistics.specs.Countings.{fault_by};
 
-use model::Counts;
+use model::{Counts, Refusal};
 use values::bits_of;
 
 // [5.40] [5.60] of acts and of microseconds
@@ -13,59 +13,29 @@ const MOST: u64 = 1000000000000;
 fn counts_stand(counts: Counts) -> bool
     ensures { result ≡ counts_sound counts }
 {
-    if MOST < counts.accepted {
-        return false;
-    }
-    if MOST - counts.accepted < counts.refused {
-        return false;
-    }
-    if counts.accepted < counts.entries {
-        return false;
-    }
-    if counts.accepted - counts.entries < counts.exits {
-        return false;
-    }
-    counts.longest <= MOST
-}
-
-// [5.40] The waits so far, one by one.
-fn each_stands(waited: &[u64], clock: u64) -> bool
-    ensures { result ≡ waited_sound clock waited.now }
-{
-    let end = waited.len();
-    let mut i: usize = 0;
-    while i < end {
-        if clock < waited[i] {
-            break;
-        }
-        i += 1;
-    }
-    i == end
+    counts.accepted <= MOST
+        && counts.refused <= MOST - counts.accepted
+        && counts.entries <= counts.accepted
+        && counts.exits <= counts.accepted - counts.entries
+        && counts.longest <= MOST
 }
 
 // [5.40] The waits so far. Unless one is more than half of the clock, it is past all their bits together, and none is looked at alone.
 pub fn waits_stand(waited: &[u64], clock: u64) -> bool
     ensures { result ≡ waited_sound clock waited.now }
 {
-    if bits_of(waited) <= clock {
-        return true;
-    }
-    each_stands(waited, clock)
+    bits_of(waited) <= clock || waited.iter().all(|wait| *wait <= clock)
 }
 
-// [4.2] [4.3] [5.60] The number of the refusal, 2 or 3; 0 where an act can be counted. `stand` tells whether the waits
-// so far stand.
-pub fn fault_by(counts: Counts, stand: bool) -> u64
+// [4.2] [4.3] [5.60] The refusal 2 or 3; none where an act can be counted. `stand` tells whether the waits so far stand.
+pub fn fault_by(counts: Counts, stand: bool) -> Option<Refusal>
     ensures { result ≡ fault_by counts stand }
 {
-    if !counts_stand(counts) {
-        return 2;
-    }
-    if !stand {
-        return 2;
+    if !counts_stand(counts) || !stand {
+        return Some(Refusal::NoSummary);
     }
     if MOST - counts.accepted == counts.refused {
-        return 3;
+        return Some(Refusal::SummaryFull);
     }
-    0
+    None
 }

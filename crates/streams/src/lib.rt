@@ -1,122 +1,97 @@
-// What the programs share: opening a file that an argument names, reading a text, and room for what is printed.
+// What the programs share: the path that an argument names, reading a text, and printing what is made of it.
 // Whether a read fails is told apart from the end of the input.
 #![tactic(auto)]
 
-ghost use Rattle.std.specs.Prelude.{◌≡◌, ◌-◌, ◌≤◌, length, take, replicate, IfOk};
+ghost use Rattle.std.specs.Prelude.{◌≡◌, ℕ, List};
 ghost use Rattle.std.specs.Io.{ReadsAtMost};
-ghost use Rattle.streams.specs.Counts.{IsPrefixLen};
 
 use std::env::FillError;
-use std::io::Read;
-use std::rt::{Env, Files};
-use std::{fs, io, str};
+use std::io::{ErrorKind, Read};
+use std::rt::Env;
+use std::{io, str};
 
-// A file that was opened, and how many bytes its path has; there is no `file` where it could not be.
-#[derive(Drop)]
-pub struct Opened<F> {
-    pub file: Option<F>,
-    pub length: usize,
-}
+// One byte more than a recording may have: of a longer input so much is kept that it is refused.
+pub const KEPT: usize = 65537;
+
+// [7.55] How many bytes a program prints at most: the longest output is a report.
+pub const OUTPUT: usize = 687734;
 
 // What Linux answers of an argument that is missing, and of one that does not fit.
-const MISSING: i32 = 22;
+const EINVAL: i32 = 22;
 
-const TOO_LONG: i32 = 36;
+const ENAMETOOLONG: i32 = 36;
 
-// Tells a failure on standard error, after the name of what failed. Where that fails too, nothing is left to tell it on.
-pub fn tell(rt: &impl Eprint, name: &[u8], error: &io::Error) {
-    let _ = match str::from_utf8(name) {
-        Ok(text) => eprintln!(rt; "{text}: {error}"),
-        Err(_) => eprintln!(rt; "argument: {error}"),
-    };
+// What a program makes of a text.
+pub trait Render {
+    // What is made of the bytes of a text.
+    ghost rendered: { List ℕ → List ℕ };
+
+    // It is made in an output that has room for any, and handed out from there.
+    fn render<'a>(&self, text: &[u8], out: &'a mut [u8; OUTPUT]) -> &'a [u8]
+        ensures { result.now ≡ rendered text.now };
+}
+
+// What a program failed at.
+#[derive(Clone, Copy, PartialEq, Eq)]
+pub enum Failure {
+    Reading,
+    Writing,
 }
 
 fn failure_of(error: FillError) -> io::Error {
     match error {
-        FillError::NotPresent => io::Error::from_raw_os_error(MISSING),
-        FillError::TooLong => io::Error::from_raw_os_error(TOO_LONG),
+        FillError::NotPresent => io::Error::from_raw_os_error(EINVAL),
+        FillError::TooLong => io::Error::from_raw_os_error(ENAMETOOLONG),
     }
 }
 
-// A path is text.
-fn open_path<R: Files>(rt: &R, path: &[u8]) -> io::Result<R::File> {
-    match str::from_utf8(path) {
-        Ok(text) => fs::open(rt, text),
-        Err(_) => Err(io::Error::from(io::ErrorKind::InvalidFilename)),
-    }
-}
-
-// Opens the file that an argument of the program names, whose path is kept; a failure is told on standard error.
-pub fn open_argument<R: Env + Files + Eprint>(
-    rt: &R,
-    place: usize,
-    path: &mut [u8],
-) -> Opened<R::File>
-    ensures { IsPrefixLen result.length path.new }
-{
-    let length = match rt.arg(place, path) {
-        Ok(length) => length,
-        Err(error) => {
-            tell(rt, b"argument", &failure_of(error));
-            return Opened {
-                file: None,
-                length: 0,
-            };
-        }
-    };
-    match open_path(rt, &path[..length]) {
-        Ok(file) => Opened {
-            file: Some(file),
-            length: length,
-        },
-        Err(error) => {
-            tell(rt, &path[..length], &error);
-            Opened {
-                file: None,
-                length: length,
-            }
-        }
-    }
-}
-
-// One byte more than a recording may have, all zeros: of a longer input so much is kept that it is refused.
-pub fn kept() -> [u8; 65537]
-    ensures size { 65537 ≡ length result }
-    ensures zeros { result ≡ replicate 65537 0 }
-{
-    [0; 65537]
-}
-
-// [7.55] Room for what a program prints, all zeros: the longest is a report.
-pub fn output() -> [u8; 687734]
-    ensures size { 687734 ≡ length result }
-    ensures zeros { result ≡ replicate 687734 0 }
-{
-    [0; 687734]
-}
-
-// One read, to place `at` on; what stands before it stays. One that a signal interrupts before it moves a byte counts as failed.
-fn read_to<R: Read>(source: &mut R, text: &mut [u8], at: usize) -> io::Result<usize>
-    requires { at ≤ length text.old }
-    ensures moved { IfOk result (λ n. n ≤ length text.old - at) }
-    ensures stays { take at text.new ≡ take at text.old }
-{
-    source.read(&mut text[at..])
+// The path that an argument of the program names, which is text and is kept in `path`.
+pub fn argument<'a>(rt: &impl Env, place: usize, path: &'a mut [u8]) -> io::Result<&'a str> {
+    let length = rt.arg(place, path).map_err(failure_of)?;
+    str::from_utf8(&path[..length]).map_err(|_| io::Error::from(ErrorKind::InvalidFilename))
 }
 
 // Reads a source until the text is full, the input ends or a read fails, and answers how many bytes were kept; of an input that is
 // longer than the text the first bytes are kept, and the others are not read. A read may be short, as from a pipe. A failed read keeps
-// nothing.
+// nothing, and one that a signal interrupts before it moves a byte counts as failed.
 pub fn read_text<R: Read>(source: &mut R, text: &mut [u8]) -> io::Result<usize>
     ensures counts { ReadsAtMost result text.new }
 {
     let mut at: usize = 0;
     while at < text.len() {
-        let more = read_to(source, text, at)?;
-        if more == 0 {
-            break;
+        match source.read(&mut text[at..])? {
+            0 => break,
+            more => at += more,
         }
-        at += more;
     }
     Ok(at)
+}
+
+// Reads a recording, and prints what `renderer` makes of it.
+fn print_made<S: Read>(
+    rt: &impl Print,
+    source: &mut S,
+    renderer: &impl Render,
+) -> Result<(), Failure> {
+    let mut text = [0; KEPT];
+    let size = read_text(source, &mut text).map_err(|_| Failure::Reading)?;
+    let mut out = [0; OUTPUT];
+    let made = renderer.render(&text[..size], &mut out);
+    rt.write_all(made).map_err(|_| Failure::Writing)
+}
+
+// The same as a program, which tells on standard error what it could not read or write, after its name.
+pub fn run<R: Print + Eprint, S: Read>(
+    rt: &R,
+    source: &mut S,
+    program: &str,
+    made: &str,
+    renderer: &impl Render,
+) {
+    if let Err(failure) = print_made(rt, source, renderer) {
+        let _ = match failure {
+            Failure::Reading => eprintln!(rt; "{program}: the recording could not be read"),
+            Failure::Writing => eprintln!(rt; "{program}: {made} could not be written"),
+        };
+    }
 }

@@ -7,9 +7,9 @@ use native.Mathlib.Omega.{arith}
 use lib.Dec.{eqb}
 use lib.ListN.{length, get_or, set}
 use borrow.Author.Tests.{eqb-true}
-use Rattle.model.specs.declared.Location.{Location}
+use Rattle.model.specs.Types.{Location}
 use Rattle.model.specs.declared.Location.TheVariants.{Remainder, Critical}
-use Rattle.model.specs.declared.Process.{Process}
+use Rattle.model.specs.Types.{Process}
 use Rattle.model.specs.Stages.{critical}
 use Rattle.model.specs.States.{idle, stage_of}
 use Rattle.model.specs.Tallies.{critical_count}

@@ -8,8 +8,8 @@ use mathlib.Core.List.{List, [], ◌∷◌}
 use native.Mathlib.Omega.{arith}
 use lib.ListN.{length}
 use borrow.Author.Tests.{eq-eqb}
-use Rattle.model.specs.declared.Location.{Location}
-use Rattle.model.specs.declared.State.{State}
+use Rattle.model.specs.Types.{Location}
+use Rattle.model.specs.Types.{State}
 use Rattle.model.specs.declared.Statistics.{Statistics}
 use Rattle.model.specs.Acts.{crit_act}
 use Rattle.model.specs.States.{trying, entry_of}

@@ -1,4 +1,3 @@
-pub mod Cells
 pub mod Turns
 pub mod Putting
 pub mod Wholes

@@ -1,13 +1,12 @@
 // Lines of numbers: reading one at the start of a text, and putting one into a lent output.
 ghost use Rattle.std.specs.Prelude.{◌≡◌, ◌+◌, ◌*◌, ◌≤◌, length, set, take};
 ghost use Rattle.model.specs.Texts.{numbers_text};
-ghost use Rattle.model.specs.Readings.{line_fails, numbers_at};
+ghost use Rattle.model.specs.Readings.{numbers_at};
 ghost use Rattle.text.specs.Puts.{most_numbers, Put};
 
 use crate::fields::number_at;
 use crate::puts::{put_byte, put_digits};
-use model::{Field, Line};
-use values::least;
+use model::{Fault, Parsed, Refusal};
 
 // So many numbers at most follow the first of a line that is put: then no sum of places overflows.
 const MOST_NUMBERS: usize = 4294967295;
@@ -22,47 +21,28 @@ fn with_number(mut numbers: [u64; 4], i: usize, v: u64) -> [u64; 4]
     numbers
 }
 
-// [4.14] [6.80] A line that fails.
-pub fn line_fails(line: u64) -> Line
-    ensures { result ≡ line_fails line }
-{
-    Line {
-        code: 14,
-        line: line,
-        numbers: [0; 4],
-        size: 0,
-    }
-}
-
-// [6.30] [6.80] [21.10] [21.60] The line of `more` numbers that end with a comma and one that ends with a newline.
-pub fn numbers_at(s: &[u8], more: usize, line: u64) -> Line
+// [6.30] [6.80] [4.14] [21.10] [21.60] The line of `more` numbers that end with a comma and one that ends with a newline.
+pub fn numbers_at(s: &[u8], more: usize, line: u64) -> Result<Parsed<[u64; 4]>, Fault>
     ensures { result ≡ numbers_at line more s.now }
 {
     let mut numbers: [u64; 4] = [0; 4];
     let mut at: usize = 0;
-    let mut i: usize = 0;
-    while i < more {
-        let field = number_at(&s[at..], b',');
-        let Field::Value(v, k) = field else {
-            return line_fails(line);
+    for i in 0..more {
+        let Some(Parsed { value, size }) = number_at(&s[at..], b',') else {
+            return Err(Refusal::BadLine.at(line));
         };
-        let next = with_number(numbers, i, v);
+        let next = with_number(numbers, i, value);
         numbers = next;
-        at += k;
-        i += 1;
+        at += size;
     }
-    let last = number_at(&s[at..], b'\n');
-    let Field::Value(v, k) = last else {
-        return line_fails(line);
+    let Some(Parsed { value, size }) = number_at(&s[at..], b'\n') else {
+        return Err(Refusal::BadLine.at(line));
     };
-    let all = with_number(numbers, i, v);
-    let size = at + k;
-    Line {
-        code: 0,
-        line: line,
-        numbers: all,
-        size: size,
-    }
+    let all = with_number(numbers, more, value);
+    Ok(Parsed {
+        value: all,
+        size: at + size,
+    })
 }
 
 // [6.30] [7.25] Puts a line of numbers, `first` and then the others: a number has at most 20 digits, and a byte ends it. The place is a u32
@@ -72,14 +52,12 @@ pub fn put_numbers(out: &mut [u8], at: u32, first: u64, rest: &[u64]) -> usize
     ensures upper_bound { result ≤ 21 + 21 * length rest.now }
 {
     let start = at as usize;
-    let count = least(rest.len(), MOST_NUMBERS);
+    let count = rest.len().min(MOST_NUMBERS);
     let mut size = put_digits(out, start, first);
-    let mut i: usize = 0;
-    while i < count {
+    for number in &rest[..count] {
         put_byte(out, start, size, b',');
         size += 1;
-        size += put_digits(out, start + size, rest[i]);
-        i += 1;
+        size += put_digits(out, start + size, *number);
     }
     put_byte(out, start, size, b'\n');
     size + 1

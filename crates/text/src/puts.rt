@@ -4,7 +4,7 @@ ghost use Rattle.std.specs.Prelude.{◌≡◌, ◌+◌, set};
 ghost use Rattle.model.specs.Texts.{decimal, number_text, word_text};
 ghost use Rattle.text.specs.Puts.{Put};
 
-use crate::words::{CELL, CELLS, COUNT, WIDTHS};
+use crate::words::word;
 
 // Stores x at place at + k, where `out` has such a place.
 pub(crate) fn put_byte(out: &mut [u8], at: usize, k: usize, x: u8)
@@ -21,12 +21,10 @@ pub(crate) fn put_byte(out: &mut [u8], at: usize, k: usize, x: u8)
 pub fn put_text(out: &mut [u8], at: usize, text: &[u8]) -> usize
     ensures { Put out.old out.new at text.now result }
 {
-    let mut i: usize = 0;
-    while i < text.len() {
-        put_byte(out, at, i, text[i]);
-        i += 1;
+    for (i, x) in text.iter().enumerate() {
+        put_byte(out, at, i, *x);
     }
-    i
+    text.len()
 }
 
 // [6.60]
@@ -55,14 +53,7 @@ pub fn put_number(out: &mut [u8], at: usize, v: u64, end: u8) -> usize
 pub fn put_word(out: &mut [u8], at: usize, action: u64) -> usize
     ensures { Put out.old out.new at (word_text action) result }
 {
-    if COUNT <= action {
-        return put_text(out, at, b"\n");
-    }
-    let cells = CELLS;
-    let widths = WIDTHS;
-    let from = (action as usize) * CELL;
-    let to = from + (widths[action as usize] as usize);
-    let k = put_text(out, at, &cells[from..to]);
+    let k = put_text(out, at, word(action));
     put_byte(out, at, k, b'\n');
     k + 1
 }

@@ -6,8 +6,8 @@ use mathlib.Core.Logic.{⊎_elim, ◌≢◌}
 use native.Mathlib.Omega.{arith}
 use lib.ListN.{length, length-set}
 use borrow.Author.Tests.{ne_eqb}
-use Rattle.model.specs.declared.State.{State}
-use Rattle.model.specs.declared.Outcome.{Outcome}
+use Rattle.model.specs.Types.{State}
+use Rattle.model.specs.Types.{Outcome}
 use Rattle.model.specs.Acts.{wait_act}
 use Rattle.model.specs.States.{entry_of}
 use Rattle.model.specs.Actions.{transition_of, effect}

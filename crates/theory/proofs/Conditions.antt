@@ -7,9 +7,9 @@ use mathlib.Core.Bool.{Bool, true, false, cond}
 use native.Mathlib.Omega.{arith}
 use lib.Dec.{eqb}
 use borrow.Author.Tests.{ltb-true, lt-ltb, ne_eqb}
-use Rattle.model.specs.declared.Location.{Location}
+use Rattle.model.specs.Types.{Location}
 use Rattle.model.specs.declared.Location.TheVariants.{Checking}
-use Rattle.model.specs.declared.State.{State}
+use Rattle.model.specs.Types.{State}
 use Rattle.model.specs.Stages.{checking}
 use Rattle.model.specs.Acts.{wait_act, check_act, last_act}
 use Rattle.model.specs.States.{stage_of, since_of, release, entry_of}

@@ -8,8 +8,8 @@ use native.Mathlib.Omega.{arith}
 use native.Mathlib.Nat.{sub_self}
 use lib.ListN.{length, get_or, replicate}
 use lib.Seq.{ext_get_or, get_or-set_same, get_or-set_other}
-use Rattle.model.specs.declared.Process.{Process}
-use Rattle.model.specs.declared.State.{State}
+use Rattle.model.specs.Types.{Process}
+use Rattle.model.specs.Types.{State}
 use Rattle.model.specs.declared.Transition.{Transition}
 use Rattle.model.specs.States.{entry, idle, entry_of}
 use Rattle.model.specs.Actions.{moved}

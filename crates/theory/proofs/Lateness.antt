@@ -7,8 +7,8 @@ use mathlib.Core.Bool.{true, cond}
 use mathlib.Core.List.{List, [], ◌∷◌}
 use native.Mathlib.Omega.{arith}
 use borrow.Author.Tests.{ltb-true, ne_eqb}
-use Rattle.model.specs.declared.Process.{Process}
-use Rattle.model.specs.declared.State.{State}
+use Rattle.model.specs.Types.{Process}
+use Rattle.model.specs.Types.{State}
 use Rattle.model.specs.States.{bounded, deadline}
 use Rattle.model.specs.Answers.{Due, due, none_due, sooner, first_from, first_by, first_deadline, missed}
 use Rattle.model.specs.Facts.{HasDeadline}

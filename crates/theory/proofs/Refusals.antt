@@ -2,9 +2,9 @@
 use Prim.Native.Nat.{ℕ}
 use mathlib.Core.Path.{refl, sym, ap, subst, ◌∙◌}
 use mathlib.Core.Logic.{◌≢◌}
-use Rattle.model.specs.declared.State.{State}
+use Rattle.model.specs.Types.{State}
 use Rattle.model.specs.declared.Answer.{Answer}
-use Rattle.model.specs.declared.Outcome.{Outcome}
+use Rattle.model.specs.Types.{Outcome}
 use Rattle.theory.specs.Refusals.{Refusal, RefusedIffRefusal}
 use Rattle.theory.proofs.Steps.{Stepped, stepped, refusal_step}
 

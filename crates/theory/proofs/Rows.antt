@@ -7,9 +7,9 @@ use mathlib.Core.Bool.{false, cond, true≢false}
 use native.Mathlib.Omega.{arith}
 use lib.Dec.{eqb}
 use borrow.Author.Tests.{eqb-true, eqb-false}
-use Rattle.model.specs.declared.Location.{Location}
+use Rattle.model.specs.Types.{Location}
 use Rattle.model.specs.declared.Location.TheVariants.{Remainder, Testing, Setting, Checking, Entering, Critical, Resetting, Leaving}
-use Rattle.model.specs.declared.State.{State}
+use Rattle.model.specs.Types.{State}
 use Rattle.model.specs.Stages.{remainder, testing, setting, checking, entering, critical, resetting, leaving}
 use Rattle.model.specs.Acts.{wait_act, try_act, test_act, set_act, check_act, crit_act, exit_act, reset_act, rem_act, withdraw_act, last_act, leaves}
 use Rattle.model.specs.States.{stage_of, since_of, release, trying, entry_of}

@@ -10,11 +10,11 @@ use lib.Dec.{leb}
 use lib.ListN.{replicate}
 use borrow.Author.Tests.{leb-true, leb-false, lt-leb, not-true, not-false}
 use Rattle.model.specs.declared.Location.TheVariants.{Remainder, Critical}
-use Rattle.model.specs.declared.Process.{Process}
+use Rattle.model.specs.Types.{Process}
 use Rattle.model.specs.declared.Parameters.{Parameters}
-use Rattle.model.specs.declared.State.{State}
+use Rattle.model.specs.Types.{State}
 use Rattle.model.specs.declared.Answer.{Answer}
-use Rattle.model.specs.declared.Outcome.{Outcome}
+use Rattle.model.specs.Types.{Outcome}
 use Rattle.model.specs.States.{limits_in, equal_limits, parameters_of, no_parameters, count_stands, own_stand, limits_stand, parameters_stand, last_time}
 use Rattle.model.specs.States.{entry, idle, initial, stage_of, entry_sound, entries_sound, sound_of, entry_of}
 use Rattle.model.specs.Answers.{answer_of, answers, blank, fresh_of}

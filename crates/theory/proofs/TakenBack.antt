@@ -4,10 +4,10 @@ use Prim.Native.Nat.{ℕ}
 use mathlib.Core.Path.{◌≡◌, refl, sym, ap, ◌∙◌}
 use mathlib.Core.Logic.{inr, ⊎_elim}
 use native.Mathlib.Omega.{arith}
-use Rattle.model.specs.declared.Location.{Location}
+use Rattle.model.specs.Types.{Location}
 use Rattle.model.specs.declared.Location.TheVariants.{Remainder, Testing}
 use Rattle.model.specs.declared.Parameters.{Parameters}
-use Rattle.model.specs.declared.State.{State}
+use Rattle.model.specs.Types.{State}
 use Rattle.model.specs.Acts.{try_act, withdraw_act}
 use Rattle.model.specs.States.{entry, entry_of}
 use Rattle.model.specs.Answers.{step_of}

@@ -1,10 +1,10 @@
 -- Section 3 of the specification: which acts the algorithm allows, in plain facts, and what they change, its table as two relations,
 -- `From` and `Effect`. `step_of` accepts exactly these, and a refused step gives the state back. Assumes nothing.
 use Rattle.std.specs.Prelude.{ℕ, ◌+◌, ◌≤◌, ◌≡◌, ◌⊎◌, ◌≢◌, ◌↔◌, true, length}
-use Rattle.model.specs.declared.Location.{Location}
+use Rattle.model.specs.Types.{Location}
 use Rattle.model.specs.declared.Location.TheVariants.{Remainder, Testing, Setting, Checking, Entering, Critical, Resetting, Leaving}
-use Rattle.model.specs.declared.State.{State}
-use Rattle.model.specs.declared.Outcome.{Outcome}
+use Rattle.model.specs.Types.{State}
+use Rattle.model.specs.Types.{Outcome}
 use Rattle.model.specs.Acts.{wait_act, try_act, test_act, set_act, check_act, crit_act, exit_act, reset_act, rem_act, withdraw_act}
 use Rattle.model.specs.States.{last_time, entry_of, sound_of}
 use Rattle.model.specs.Answers.{step_of}

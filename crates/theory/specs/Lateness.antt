@@ -1,7 +1,7 @@
 -- Section 4 of the specification, what the code 8 speaks of: the first deadline of a state, the smallest and of equal ones that of the
 -- lowest process, and whether every deadline is kept. Assumes nothing.
 use Rattle.std.specs.Prelude.{ℕ, ◌≤◌, ◌<◌, ◌≡◌, ◌≢◌, ◌↔◌, false}
-use Rattle.model.specs.declared.State.{State}
+use Rattle.model.specs.Types.{State}
 use Rattle.model.specs.Answers.{Due, first_deadline, missed}
 use Rattle.model.specs.Facts.{HasDeadline}
 

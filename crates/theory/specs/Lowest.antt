@@ -1,8 +1,8 @@
 -- Section 4 of the specification, the answer to an accepted act: which process and which time it tells.
 -- Assumes nothing.
 use Rattle.std.specs.Prelude.{ℕ, ◌≤◌, ◌≡◌, ◌≢◌, ◌↔◌}
-use Rattle.model.specs.declared.State.{State}
-use Rattle.model.specs.declared.Outcome.{Outcome}
+use Rattle.model.specs.Types.{State}
+use Rattle.model.specs.Types.{Outcome}
 use Rattle.model.specs.Answers.{step_of}
 use Rattle.model.specs.Facts.{Accepted, IsCritical}
 

@@ -1,7 +1,7 @@
 -- Section 2 of the specification, deadlines by each process's own a: two processes whose values of a lie far apart try at 0, with the quick
 -- one first and with the slow one first. antt computes the answers. Assumes nothing.
 use Rattle.std.specs.Prelude.{ℕ, ◌≡◌, List, [], ◌∷◌, ◌++◌}
-use Rattle.model.specs.declared.State.{State}
+use Rattle.model.specs.Types.{State}
 use Rattle.model.specs.Acts.{wait_act, try_act, test_act, set_act}
 use Rattle.model.specs.States.{limits_in, parameters_of, initial}
 use Rattle.model.specs.Answers.{answer_of}

@@ -2,7 +2,7 @@
 -- no condition before it holds. A step is refused by exactly these. Assumes nothing.
 use Rattle.std.specs.Prelude.{ℕ, ◌+◌, ◌≤◌, ◌<◌, ◌≡◌, ◌≢◌, ◌↔◌}
 use Rattle.model.specs.declared.Location.TheVariants.{Checking}
-use Rattle.model.specs.declared.State.{State}
+use Rattle.model.specs.Types.{State}
 use Rattle.model.specs.Acts.{wait_act, check_act, last_act}
 use Rattle.model.specs.States.{last_time, entry_of}
 use Rattle.model.specs.Answers.{answer_of, step_of}

@@ -3,8 +3,8 @@
 use Rattle.std.specs.Prelude.{ℕ, ◌-◌, ◌≤◌, ◌<◌, ◌≡◌, ◌↔◌, ◌≢◌, true, false, length, get_or}
 use Rattle.model.specs.declared.Location.TheVariants.{Remainder}
 use Rattle.model.specs.declared.Parameters.{Parameters}
-use Rattle.model.specs.declared.State.{State}
-use Rattle.model.specs.declared.Outcome.{Outcome}
+use Rattle.model.specs.Types.{State}
+use Rattle.model.specs.Types.{Outcome}
 use Rattle.model.specs.States.{no_parameters, largest_limit, last_time, entry_of, sound_of}
 use Rattle.model.specs.Answers.{answer_of, step_of, fresh_of}
 use Rattle.model.specs.Facts.{Accepted, Arrival, HasDeadline, IsCritical}

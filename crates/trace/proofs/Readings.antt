@@ -3,14 +3,15 @@ use Prim.Native.Nat.{ℕ, ◌≤◌, ◌<◌}
 use mathlib.Core.Path.{◌≡◌}
 use mathlib.Core.Logic.{◌≢◌}
 use mathlib.Core.List.{List}
-use native.Mathlib.Omega.{arith}
 use lib.ListN.{length, drop}
 use borrow.Author.Tests.{lt-ltb, le-ltb, eq-eqb, ne_eqb}
-use Rattle.model.specs.declared.Scan.{Scan}
-use Rattle.model.specs.Readings.{scan_fails, head_of, Body, body_of, trace, trace_of, Lists, room, stored, scan_gave, scanned_of}
+use Rattle.std.specs.Prelude.{Ok, Err}
+use Rattle.model.specs.declared.Refusal.TheVariants.{BadLine, ShortOutput}
+use Rattle.model.specs.declared.Fault.{Fault}
+use Rattle.model.specs.declared.Head.{Head}
+use Rattle.model.specs.Readings.{fault, found, head_of, Body, body_of, trace, trace_of, Lists, room, stored, scan_gave, scanned_of}
 use Rattle.model.proofs.Tests.{if_eq}
-use Rattle.trace.specs.declared.steps.Counted.TheVariants.{Steps, Fault}
-use Rattle.trace.specs.Passes.{counted_of, scan_found}
+use Rattle.trace.specs.Passes.{counted_of}
 use Rattle.grammar.proofs.Heads.{trace_refused, trace_events, trace_fault}
 
 -- What the count says of a body
@@ -19,57 +20,42 @@ pub record Whole (b : Body) (count : ℕ) : Type 0 where
   pub whole : b.fault ≡ 0
   pub many : length b.events ≡ count
 
-pub counted_steps : (b : Body) (count : ℕ) → counted_of b ≡ Steps count → Whole b count
+pub counted_steps : (b : Body) (count : ℕ) → counted_of b ≡ Ok count → Whole b count
 counted_steps b count e =
     if_eq b.fault 0
-    (λ z.
-    let s : Steps (length b.events) ≡ Steps count = simp (eq-eqb b.fault 0 z) at e in
-    record { whole = z; many = cc })
-    (λ z.
-    let s : Fault 14 b.fault ≡ Steps count = simp (ne_eqb b.fault 0 z) at e in
-    let n : ◌≡◌ {A = ℕ} 0 1 = cc in
-    absurd (omega arith))
+    (λ z. let s = simp (eq-eqb b.fault 0 z) at e in record { whole = z; many = cc })
+    (λ z. let s = simp (ne_eqb b.fault 0 z) at e in cc)
 
-pub record Faulty (b : Body) (code line : ℕ) : Type 0 where
-  pub broken : b.fault ≡ 0 → ⊥
-  pub named : code ≡ 14
-  pub here : b.fault ≡ line
+pub record Faulty (b : Body) (f : Fault) : Type 0 where
+  pub broken : b.fault ≢ 0
+  pub is : f ≡ fault BadLine b.fault
 
-pub counted_fault : (b : Body) (code line : ℕ) → counted_of b ≡ Fault code line → Faulty b code line
-counted_fault b code line e =
+pub counted_fault : (b : Body) (f : Fault) → counted_of b ≡ Err f → Faulty b f
+counted_fault b f e =
     if_eq b.fault 0
-    (λ z.
-    let s : Steps (length b.events) ≡ Fault code line = simp (eq-eqb b.fault 0 z) at e in
-    let n : ◌≡◌ {A = ℕ} 0 1 = cc in
-    absurd (omega arith))
-    (λ z.
-    let s : Fault 14 b.fault ≡ Fault code line = simp (ne_eqb b.fault 0 z) at e in
-    record { broken = z; named = cc; here = cc })
+    (λ z. let s = simp (eq-eqb b.fault 0 z) at e in cc)
+    (λ z. let s = simp (ne_eqb b.fault 0 z) at e in record { broken = z; is = cc })
 
--- The ways out, where h was found of the first lines
+-- The ways out
 
-module _ (text : List ℕ) (l : Lists) (h : Scan) (e : head_of text ≡ h) where
-  pub scan_refused : h.code ≢ 0 → scanned_of text l ≡ scan_gave (scan_fails h.code h.line) l
+pub scan_refused : (text : List ℕ) (l : Lists) (f : Fault) → head_of text ≡ Err f → scanned_of text l ≡ scan_gave (Err f) l
+unfolding scanned_of
+scan_refused text l f e = rw (trace_refused text f e)
+
+-- where h was found of the first lines, and `body` of the others
+module _ (text : List ℕ) (l : Lists) (h : Head) (e : head_of text ≡ Ok h) (body : Body) (rest : body_of h.line (drop h.size text) ≡ body) where
+  says : body.fault ≡ 0 → trace_of text ≡ trace h.line h.parameters body.events
+  says z = rw rest at (trace_events text h e (rw rest z))
+
+  pub scan_fault : (f : Fault) → counted_of body ≡ Err f → scanned_of text l ≡ scan_gave (Err f) l
   unfolding scanned_of
-  scan_refused n = rw (trace_refused text h e n)
+  scan_fault f t = let b = counted_fault body f t in rw (trace_fault text h e (rw rest b.broken), rest, b.is)
 
-  module _ (read : h.code ≡ 0) (body : Body) (rest : body_of h.line (drop h.size text) ≡ body) where
-    says : body.fault ≡ 0 → trace_of text ≡ trace h.line h.parameters body.events
-    says z = rw rest at (trace_events text h e read (rw rest z))
-
-    pub scan_fault : (code line : ℕ) → counted_of body ≡ Fault code line
-        → scanned_of text l ≡ scan_gave (scan_found h.line h.parameters (counted_of body)) l
+  module _ (count : ℕ) (t : counted_of body ≡ Ok count) where
+    pub scan_full : room l < count → scanned_of text l ≡ scan_gave (Err (fault ShortOutput 0)) l
     unfolding scanned_of
-    scan_fault code line t =
-        let f = counted_fault body code line t in
-        rw (t, trace_fault text h e read (rw rest f.broken), rest, f.named, f.here)
+    scan_full g = let c = counted_steps body count t in rw (says c.whole, c.many, lt-ltb (room l) count g)
 
-    module _ (count : ℕ) (t : counted_of body ≡ Steps count) where
-      pub scan_full : room l < count → scanned_of text l ≡ scan_gave (scan_fails 16 0) l
-      unfolding scanned_of
-      scan_full g = let c = counted_steps body count t in rw (says c.whole, c.many, lt-ltb (room l) count g)
-
-      pub scan_stored : count ≤ room l
-          → scanned_of text l ≡ scan_gave (scan_found h.line h.parameters (counted_of body)) (stored body.events l)
-      unfolding scanned_of
-      scan_stored g = let c = counted_steps body count t in rw (t, says c.whole, c.many, le-ltb (room l) count g)
+    pub scan_stored : count ≤ room l → scanned_of text l ≡ scan_gave (Ok (found h.line h.parameters count)) (stored body.events l)
+    unfolding scanned_of
+    scan_stored g = let c = counted_steps body count t in rw (says c.whole, c.many, le-ltb (room l) count g)

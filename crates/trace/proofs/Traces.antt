@@ -4,13 +4,14 @@ use mathlib.Core.Path.{◌≡◌}
 use mathlib.Core.Bool.{true, false}
 use mathlib.Core.List.{[], ◌++◌}
 use native.Mathlib.Omega.{arith}
+use Rattle.std.specs.Prelude.{None, Some}
 use Rattle.model.specs.Texts.{event_text, events_text, has_form}
 use Rattle.model.specs.Readings.{Lists, room}
 use Rattle.model.specs.Writings.{events_of, event_in, formless_from}
 use Rattle.model.proofs.Steps.{from, steps_end, steps_next}
 
 module _ (l : Lists) (i : ℕ) where
-  pub formless_end : (line : ℕ) → room l ≤ i → formless_from line (events_of (from i l)) ≡ 0
+  pub formless_end : (line : ℕ) → room l ≤ i → formless_from line (events_of (from i l)) ≡ None
   unfolding formless_from
   formless_end line h = rw (steps_end l i h)
 
@@ -24,7 +25,7 @@ module _ (l : Lists) (i : ℕ) where
     text_at = rw (steps_next l i within)
 
     -- where the first step has the line `first`
-    pub formless_here : (first : ℕ) → has_form (event_in l i) ≡ false → first + i ≡ formless_from (first + i) (events_of (from i l))
+    pub formless_here : (first : ℕ) → has_form (event_in l i) ≡ false → Some (first + i) ≡ formless_from (first + i) (events_of (from i l))
     unfolding formless_from
     formless_here first e = rw (steps_next l i within) (rw e)
 

@@ -1,12 +1,11 @@
 -- The answers to a writing: one law for each row of `write_of`, in the order of its tests. Assumes nothing.
 use Prim.Native.Nat.{ℕ, ◌≤◌, ◌<◌}
 use mathlib.Core.Path.{◌≡◌, ◌∙◌}
-use mathlib.Core.Logic.{◌≢◌}
 use mathlib.Core.Bool.{true, false}
 use mathlib.Core.List.{List}
 use lib.ListN.{length}
 use lib.Seq.{sets}
-use borrow.Author.Tests.{ne_eqb}
+use Rattle.std.specs.Prelude.{Option, Some, None}
 use Rattle.model.specs.declared.Parameters.{Parameters}
 use Rattle.model.specs.States.{count_stands, limits_stand, parameters_stand}
 use Rattle.model.specs.Answers.{answer_of}
@@ -25,8 +24,8 @@ pub record Task : Type 0 where
 abbrev pub text_of : Task → List ℕ
 text_of t = trace_text t.parameters t.events
 
--- the line of its first step without a form
-abbrev pub formless : Task → ℕ
+-- the line of its first step without a form, if there is one
+abbrev pub formless : Task → Option ℕ
 formless t = formless_from (first_line t.parameters) t.events
 
 abbrev pub done : Task → Written
@@ -41,16 +40,16 @@ module _ (t : Task) where
   unfolding write_of
   write_unlimited e f = let g : limits_stand t.parameters ≡ false = rw e at f in rw (e, g)
 
-  pub write_formless : parameters_stand t.parameters ≡ true → formless t ≢ 0 → done t ≡ unwritten 14 (formless t) t.out
+  pub write_formless : parameters_stand t.parameters ≡ true → (line : ℕ) → formless t ≡ Some line → done t ≡ unwritten 14 line t.out
   unfolding write_of
-  write_formless e g =
+  write_formless e line g =
       let f = (and_true_iff (count_stands t.parameters.n) (limits_stand t.parameters)).0 e in
-      rw (f.0, f.1, ne_eqb (formless t) 0 g)
+      rw (f.0, f.1, g)
 
 -- parameters and forms are as they should be
 pub record Sound (t : Task) : Type 0 where
   pub stand : parameters_stand t.parameters ≡ true
-  pub formed : formless t ≡ 0
+  pub formed : formless t ≡ None
 
 module _ {t : Task} (s : Sound t) where
   pub write_too_long : text_limit < length (text_of t) → done t ≡ unwritten 15 0 t.out

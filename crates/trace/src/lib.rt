@@ -12,81 +12,77 @@ ghost use Rattle.model.specs.Writings.{events_of, write_gave, write_of};
 ghost use Rattle.trace.specs.Passes.{answer_without_room};
 ghost use Rattle.trace.specs.ReadingTo.{reading_to_of, read_to_gave, read_to_of};
 
-use crate::lines::{head_of, scan_fails};
-use crate::steps::{Counted, count_events, scan_found, store_events};
-use crate::texts::{Size, formless, put_trace};
-use model::{Answer, Parameters, Reading, Scan};
+use crate::lines::head_of;
+use crate::steps::{count_events, store_events};
+use crate::texts::{formless, put_trace};
+use model::{Answer, Fault, Found, Parameters, Reading, Refusal};
 use values::limits::{count_stands, parameters_stand};
-use values::{answer_with, copy, least, no_parameters};
 
 // [6.145] [6.90] [6.130] [6.133] [6.136] [6.140] [21.110] Scans a recording: its steps go to the three lists. A refused scan stores nothing,
 // and keeps the line that the refusal is reported at, that of 11 and 12 too.
-pub fn scan(text: &[u8], times: &mut [u64], processes: &mut [u64], actions: &mut [u64]) -> Scan
+pub fn scan(
+    text: &[u8],
+    times: &mut [u64],
+    processes: &mut [u64],
+    actions: &mut [u64],
+) -> Result<Found, Fault>
     ensures { scan_gave result (lists times.new processes.new actions.new)
         ≡ scanned_of text.now (lists times.old processes.old actions.old) }
 {
-    let head = head_of(text);
-    if head.code != 0 {
-        return scan_fails(head.code, head.line);
-    }
-    let at = head.size;
-    let first = head.line;
+    let head = head_of(text)?;
+    let line = head.line;
     let parameters = head.parameters;
-    let body = &text[at..];
-    let counted = count_events(body, first);
-    let Counted::Steps(count) = counted else {
-        return scan_found(first, parameters, counted);
-    };
-    let room = least(times.len(), least(processes.len(), actions.len()));
-    if room < count {
-        return scan_fails(16, 0);
+    let body = &text[head.size..];
+    let steps = count_events(body, line)?;
+    if times.len().min(processes.len().min(actions.len())) < steps {
+        return Err(Refusal::ShortOutput.at(0));
     }
-    let stored = store_events(body, first, times, processes, actions);
-    scan_found(first, parameters, stored)
+    let steps = store_events(body, line, times, processes, actions)?;
+    Ok(Found {
+        parameters,
+        line,
+        steps,
+    })
 }
 
 // [6.110] The line in the answer, of the line that a refusal is reported at.
-fn line_told(code: u64, line: u64) -> u64
-    ensures { result ≡ line_told code line }
+fn line_told(fault: Fault) -> u64
+    ensures { result ≡ line_told fault.refusal fault.line }
 {
-    if code == 11 {
-        return 0;
+    match fault.refusal {
+        Refusal::BadCount | Refusal::BadLimits => 0,
+        _ => fault.line,
     }
-    if code == 12 {
-        return 0;
-    }
-    line
 }
 
-// [6.110] [6.130] [6.140] How many steps there are and the parameters; or the refusal with its line.
-fn reading_from(found: Scan) -> Reading
+// [6.110] [6.130] [6.140] The parameters and how many steps there are; or the refusal with its line.
+fn reading_from(found: Result<Found, Fault>) -> Result<Reading, Answer>
     ensures { result ≡ reading_from found }
 {
-    if found.code != 0 {
-        let line = line_told(found.code, found.line);
-        let answer = answer_with(found.code, 0, line);
-        let parameters = no_parameters();
-        return Reading {
-            answer: answer,
-            parameters: parameters,
-        };
-    }
-    let answer = answer_with(0, 0, found.size as u64);
-    let parameters = found.parameters;
-    Reading {
-        answer: answer,
-        parameters: parameters,
+    match found {
+        Ok(found) => {
+            let parameters = found.parameters;
+            Ok(Reading {
+                parameters,
+                steps: found.steps,
+            })
+        }
+        Err(fault) => Err(Answer::refused(fault.refusal, 0, line_told(fault))),
     }
 }
 
 // [6.90] [6.110] [6.130] [6.133] [6.136] [6.140] [21.110] Reads a recording: a scan of it, and what is told of that. The line of 11 and of 12
 // is dropped: 0 is told.
-pub fn read(text: &[u8], times: &mut [u64], processes: &mut [u64], actions: &mut [u64]) -> Reading
+pub fn read(
+    text: &[u8],
+    times: &mut [u64],
+    processes: &mut [u64],
+    actions: &mut [u64],
+) -> Result<Reading, Answer>
     ensures { read_gave result (lists times.new processes.new actions.new)
         ≡ read_of text.now (lists times.old processes.old actions.old) }
 {
-    let found = scan(text, times, processes, actions);
-    reading_from(found)
+    reading_from(scan(text, times, processes, actions))
 }
 
 // [9.90] What a reading for the library answers; n, b and c are 0 where it is refused. Its fields lie as in C, for `funnelfawn`.
@@ -118,12 +114,10 @@ fn answer_without_room(text: &[u8]) -> Answer
     let mut times: [u64; 0] = [];
     let mut processes: [u64; 0] = [];
     let mut actions: [u64; 0] = [];
-    let reading = read(text, &mut times, &mut processes, &mut actions);
-    let answer = reading.answer;
-    if answer.code == 0 {
-        return answer_with(16, 0, 0);
+    match read(text, &mut times, &mut processes, &mut actions) {
+        Ok(_) => Answer::from(Refusal::ShortOutput),
+        Err(answer) => answer,
     }
-    answer
 }
 
 // [9.90] [6.130] [6.140] [21.110] Reads a recording as `read` does, and drops the line of 11 and of 12 as it does; its values of a go to the
@@ -141,15 +135,16 @@ pub fn read_to(
     if a.len() < 96 {
         return unread_to(answer_without_room(text));
     }
-    let reading = read(text, times, processes, actions);
-    let answer = reading.answer;
-    if answer.code != 0 {
-        return unread_to(answer);
-    }
+    let reading = match read(text, times, processes, actions) {
+        Ok(reading) => reading,
+        Err(answer) => {
+            return unread_to(answer);
+        }
+    };
     let parameters = reading.parameters;
-    copy(a, &parameters.a);
+    a[..96].copy_from_slice(&parameters.a);
     ReadingTo {
-        answer: answer,
+        answer: Answer::accepted(0, reading.steps as u64),
         n: parameters.n,
         b: parameters.b,
         c: parameters.c,
@@ -169,24 +164,22 @@ pub fn write(
         ≡ write_of parameters (events_of (lent times.entry processes.entry actions.entry)) out.old }
 {
     if !count_stands(parameters.n) {
-        return answer_with(11, 0, 0);
+        return Answer::from(Refusal::BadCount);
     }
     if !parameters_stand(parameters.n, parameters.b, parameters.c, &parameters.a) {
-        return answer_with(12, 0, 0);
+        return Answer::from(Refusal::BadLimits);
     }
     // [6.50] the line of the first step
     let first = parameters.n + 5;
-    let line = formless(first, times, processes, actions);
-    if line != 0 {
-        return answer_with(14, 0, line);
+    if let Some(line) = formless(first, times, processes, actions) {
+        return Answer::refused(Refusal::BadLine, 0, line);
     }
-    let measured = put_trace(&mut out[..0], parameters, times, processes, actions);
-    let Size::Bytes(size) = measured else {
-        return answer_with(15, 0, 0);
+    let Some(size) = put_trace(&mut out[..0], parameters, times, processes, actions) else {
+        return Answer::from(Refusal::BadLength);
     };
     if out.len() < size {
-        return answer_with(16, 0, 0);
+        return Answer::from(Refusal::ShortOutput);
     }
     put_trace(out, parameters, times, processes, actions);
-    answer_with(0, 0, size as u64)
+    Answer::accepted(0, size as u64)
 }

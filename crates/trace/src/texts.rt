@@ -11,42 +11,26 @@ use text::fields::{NUMBER_BOUND, TIME_BOUND};
 use text::numbers::put_numbers;
 use text::puts::{put_number, put_text, put_word};
 use text::words::COUNT;
-use values::least;
-
-// [4.15] [21.100] How many bytes a text has; or that they are more than 65,536.
-#[derive(Drop)]
-pub(crate) enum Size {
-    Bytes(usize),
-    Long,
-}
 
 // [6.160]
 fn has_form(time: u64, process: u64, action: u64) -> bool
     ensures { result ≡ has_form (event time process action) }
 {
-    if TIME_BOUND <= time {
-        return false;
-    }
-    if NUMBER_BOUND <= process {
-        return false;
-    }
-    action < COUNT
+    time < TIME_BOUND && process < NUMBER_BOUND && action < COUNT
 }
 
-// [6.170] The line of the first step that has no form, where the first step has the line `first`; 0 where there is none.
-pub(crate) fn formless(first: u64, times: &[u64], processes: &[u64], actions: &[u64]) -> u64
+// [6.170] The line of the first step that has no form, where the first step has the line `first`; or that there is none.
+pub(crate) fn formless(first: u64, times: &[u64], processes: &[u64], actions: &[u64]) -> Option<u64>
     requires { first ≤ 65536 }
     ensures { result ≡ formless_from first (events_of (lent times.entry processes.entry actions.entry)) }
 {
-    let count = least(times.len(), least(processes.len(), actions.len()));
-    let mut i: usize = 0;
-    while i < count {
+    let count = times.len().min(processes.len().min(actions.len()));
+    for i in 0..count {
         if !has_form(times[i], processes[i], actions[i]) {
-            return first + (i as u64);
+            return Some(first + (i as u64));
         }
-        i += 1;
     }
-    0
+    None
 }
 
 // [6.34] The line of a process. The place is a u32 so that no sum of places overflows.
@@ -64,11 +48,8 @@ fn put_limits(out: &mut [u8], at: usize, a: &[u64]) -> usize
     ensures upper_bound { result ≤ 42 * length a.now }
 {
     let mut size: usize = 0;
-    let mut i: usize = 0;
-    while i < a.len() {
-        let place = at + size;
-        size += put_limit(out, place as u32, (i as u64) + 1, a[i]);
-        i += 1;
+    for (i, limit) in a.iter().enumerate() {
+        size += put_limit(out, (at + size) as u32, (i as u64) + 1, *limit);
     }
     size
 }
@@ -102,39 +83,39 @@ fn put_event(out: &mut [u8], at: u32, time: u64, process: u64, action: u64) -> u
     i + (j + k)
 }
 
-// Puts the lines of the steps from place `start` on, where the text has come to, and answers where they end.
+// [4.15] [21.100] Puts the lines of the steps from place `start` on, where the text has come to, and answers where they end, if that is not
+// past 65,536 bytes.
 fn put_events(
     out: &mut [u8],
     start: usize,
     times: &[u64],
     processes: &[u64],
     actions: &[u64],
-) -> Size
+) -> Option<usize>
     requires { start ≤ 65536 }
     ensures { PutSized out.old out.new start
         (events_text (events_of (lent times.entry processes.entry actions.entry))) result }
 {
-    let count = least(times.len(), least(processes.len(), actions.len()));
+    let count = times.len().min(processes.len().min(actions.len()));
     let mut at = start;
-    let mut i: usize = 0;
-    while i < count {
+    for i in 0..count {
         at += put_event(out, at as u32, times[i], processes[i], actions[i]);
         if 65536 < at {
-            return Size::Long;
+            return None;
         }
-        i += 1;
     }
-    Size::Bytes(at)
+    Some(at)
 }
 
-// Puts the text of a recording, and answers how many bytes it has. What a text that is too long leaves is not told.
+// [4.15] [21.100] Puts the text of a recording, and answers how many bytes it has, if they are no more than 65,536. What a text that is too long
+// leaves is not told.
 pub(crate) fn put_trace(
     out: &mut [u8],
     parameters: Parameters,
     times: &[u64],
     processes: &[u64],
     actions: &[u64],
-) -> Size
+) -> Option<usize>
     requires { parameters.n ≤ 96 }
     ensures { PutSized out.old out.new 0
         (trace_text parameters (events_of (lent times.entry processes.entry actions.entry))) result }

@@ -1,14 +1,14 @@
--- Laws of the values of a: one look at the top bit of all of them, the values up to n and those past it, and filling 96 of them from the
--- first on. Assumes nothing.
+-- Laws of the values of a: one look at the top bit of all of them, the values up to n and those past it, and 96 of which the first are
+-- written over. Assumes nothing.
 use Rattle.std.proofs.Common.{◌≡◌, ℕ, zero, suc, ◌+◌, ◌-◌, ◌%◌, ◌^◌, ◌<◌, ◌≤◌, Bool, true, false, ◌&&◌, ltb, leb, List, [], ◌∷◌, ◌++◌}
-use Rattle.std.proofs.Common.{length, get_or, take, drop, set, replicate, sym, refl, ap, ◌∙◌, arith, length-take-le, take_all, take-suc}
+use Rattle.std.proofs.lemmas.List.{drop-replicate, take-replicate, length-replicate, take_min}
+use Rattle.std.proofs.Common.{min, length, get_or, take, drop, replicate, sym, refl, ap, ◌∙◌, arith}
 use Rattle.std.proofs.Common.{le-ltb, lt-ltb, eq-eqb, le-leb}
 use mathlib.Core.Bool.{and_assoc, and-true}
 use lib.Bits.{bit_or, or_add_and, and_le_l, and_le_r, or_lt}
-use lib.Seq.{set-append_seam, append_snoc}
 use borrow.Author.Tests.{lt-leb}
 use Rattle.model.specs.declared.Parameters.{Parameters}
-use Rattle.model.specs.States.{parameters_of, count_stands, own_stand, limits_stand, parameters_stand, limits_in}
+use Rattle.model.specs.States.{parameters_of, count_stands, own_stand, limits_stand, parameters_stand, limits_in, equal_limits}
 use Rattle.values.specs.Bits.{are_zero}
 use Rattle.values.specs.Within.{top_bit, within}
 use Rattle.model.proofs.Tests.{by_test, if_lt, clash}
@@ -114,32 +114,21 @@ module _ (n b c : ℕ) (a : List ℕ) where
       true_more true = refl
       true_more false = refl
 
--- Filling
+-- 96 values, of which the first are written over
 
--- the first i values of l, and 0 for those up to 96
-abbrev pub filled : List ℕ → ℕ → List ℕ
-filled l i = take i l ++ replicate (96 - i) 0
-
-one_less : (k i : ℕ) → i < k → replicate {A = ℕ} (k - i) 0 ≡ 0 ∷ replicate (k - (i + 1)) 0
-one_less k i h = ap (λ (m : ℕ). replicate {A = ℕ} m 0) {x = k - i} {y = suc (k - (i + 1))} (omega arith)
-
-pub filled_next : (l : List ℕ) (i x : ℕ) → i < 96 → i < length l → x ≡ get_or l i 0 → set (filled l i) i x ≡ filled l (i + 1)
-filled_next l i x h g e =
-    rw (one_less 96 i h)
-    (ap (λ (k : ℕ). set (take i l ++ 0 ∷ replicate (96 - (i + 1)) 0) k x) (sym (length-take-le i l (omega arith)))
-    ∙ set-append_seam (take i l) 0 (replicate (96 - (i + 1)) 0) x
-    ∙ sym (append_snoc (take i l) x (replicate (96 - (i + 1)) 0))
-    ∙ ap (λ (r : List ℕ). r ++ replicate (96 - (i + 1)) 0) {x = take i l ++ (x ∷ [])} {y = take (i + 1) l} one_more)
+pub written_over : (l part : List ℕ) (k : ℕ) → k ≡ min (length l) 96 → part ≡ take k l → part ++ drop k (replicate 96 0) ≡ limits_in l
+unfolding limits_in
+written_over l part k e f = ap (λ (r : List ℕ). r ++ drop k (replicate 96 0)) (f ∙ first) ∙ ap (λ (r : List ℕ). take 96 l ++ r) rest
   where
-    one_more : take i l ++ (x ∷ []) ≡ take (i + 1) l
-    one_more = ap (λ (y : ℕ). take i l ++ (y ∷ [])) e ∙ sym (take-suc l i 0 g) ∙ ap (λ (k : ℕ). take k l) {x = suc i} {y = i + 1} (omega arith)
+    first : take k l ≡ take 96 l
+    first = ap (λ (m : ℕ). take m l) {x = k} {y = min 96 (length l)} (omega arith) ∙ take_min 96 l
 
-pub filled_all : (l : List ℕ) (i : ℕ) → 96 ≤ i → i ≤ 96 → i ≤ length l → filled l i ≡ limits_in l
-unfolding limits_in
-filled_all l i h g k = ap (λ (m : ℕ). take m l ++ replicate (96 - m) 0) {x = i} {y = 96} (omega arith)
-    ∙ ap (λ (m : ℕ). take 96 l ++ replicate m 0) {x = 96 - 96} {y = 96 - length l} (omega arith)
+    rest : drop k (replicate {A = ℕ} 96 0) ≡ replicate (96 - length l) 0
+    rest = drop-replicate k 96 0 ∙ ap (λ (m : ℕ). replicate {A = ℕ} m 0) {x = 96 - k} {y = 96 - length l} (omega arith)
 
-pub filled_short : (l : List ℕ) (i : ℕ) → length l ≤ i → i ≤ 96 → i ≤ length l → filled l i ≡ limits_in l
-unfolding limits_in
-filled_short l i h g k = ap (λ (m : ℕ). take m l ++ replicate (96 - m) 0) {x = i} {y = length l} (omega arith)
-    ∙ ap (λ (r : List ℕ). r ++ replicate (96 - length l) 0) (take_all (length l) l (omega arith) ∙ sym (take_all 96 l (omega arith)))
+-- as many of them as there are processes, with the same value each
+pub filled_over : (n limit k : ℕ) (old part : List ℕ) → k ≡ min n 96 → length old ≡ k → part ≡ replicate (length old) limit
+    → part ++ drop k (replicate 96 0) ≡ equal_limits n limit
+filled_over n limit k old part e size f =
+    written_over (replicate n limit) part k (omega (arith, length-replicate n limit))
+    (f ∙ rw size (sym (take-replicate k n limit (omega arith))))

@@ -1,6 +1,6 @@
 // Which n, b, c and values of a stand, the a of a process, and 96 values of a out of a list. The values are lent, wherever they lie: a copy
 // of them for each step costs more than the look at them.
-ghost use Rattle.std.specs.Prelude.{◌≡◌, ◌≤◌, ◌&&◌, nat_le, nat_lt, slice_index};
+ghost use Rattle.std.specs.Prelude.{◌≡◌, ◌≤◌, ◌&&◌, nat_le, nat_lt};
 ghost use Rattle.model.specs.States.{parameters_of, count_stands, parameters_stand, limit_at, limits_in, equal_limits};
 ghost use Rattle.values.specs.Within.{top_bit, within};
 
@@ -11,29 +11,17 @@ use std::num::wrapping_sub_u64;
 pub fn count_stands(n: u64) -> bool
     ensures { result ≡ count_stands n }
 {
-    if n < 1 {
-        return false;
-    }
-    n <= 96
-}
-
-fn number_at(numbers: &[u64], i: usize) -> u64
-    ensures { result ≡ slice_index numbers.now i }
-{
-    if numbers.len() <= i {
-        return 0;
-    }
-    numbers[i]
+    (1..=96).contains(&n)
 }
 
 // [2.90] The a of a process.
+#[tactic(auto, unfolding(model::specs::States::limit_at))]
 pub fn limit_of(a: &[u64], process: u64) -> u64
     ensures { result ≡ limit_at a.now process }
 {
-    if process == 0 {
-        return number_at(a, 0);
-    }
-    number_at(a, (process - 1) as usize)
+    a.get(process.saturating_sub(1) as usize)
+        .copied()
+        .unwrap_or(0)
 }
 
 // A number whose top bit is 0 just where an a is at least 1 and below b: else the first difference wraps, or the second does.
@@ -52,12 +40,9 @@ fn all_faults(a: &[u64], b: u64) -> u64
     requires b_bound { b ≤ 10000000 }
     ensures { nat_lt result top_bit ≡ within b a.now }
 {
-    let end = a.len();
     let mut bits: u64 = 0;
-    let mut i: usize = 0;
-    while i < end {
-        bits = bits | faults(a[i], b);
-        i += 1;
+    for limit in a {
+        bits |= faults(*limit, b);
     }
     bits
 }
@@ -93,15 +78,9 @@ pub fn parameters_stand(n: u64, b: u64, c: u64, a: &[u64]) -> bool
 pub fn limits_in(list: &[u64]) -> [u64; 96]
     ensures { result ≡ limits_in list.now }
 {
-    let mut a: [u64; 96] = [0; 96];
-    let mut i: usize = 0;
-    while i < 96 {
-        if list.len() <= i {
-            break;
-        }
-        a[i] = list[i];
-        i += 1;
-    }
+    let mut a = [0; 96];
+    let count = list.len().min(96);
+    a[..count].copy_from_slice(&list[..count]);
     a
 }
 
@@ -109,14 +88,8 @@ pub fn limits_in(list: &[u64]) -> [u64; 96]
 pub fn equal_limits(n: u64, limit: u64) -> [u64; 96]
     ensures { result ≡ equal_limits n limit }
 {
-    let mut a: [u64; 96] = [0; 96];
-    let mut i: usize = 0;
-    while i < 96 {
-        if n <= (i as u64) {
-            break;
-        }
-        a[i] = limit;
-        i += 1;
-    }
+    let mut a = [0; 96];
+    let count = n.min(96) as usize;
+    a[..count].fill(limit);
     a
 }

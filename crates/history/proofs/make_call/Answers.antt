@@ -1,14 +1,13 @@
--- `history::make_call` meets its contract. Assumes nothing.
-use mathlib.Core.Path.{ap}
-use borrow.Author.Tests.{ne_eqb}
+-- `history::make_call` meets its contract: the kind tells which call it is. Assumes nothing.
+use mathlib.Core.Path.{ap, sym}
 use Rattle.model.specs.Summaries.{beside}
 use Rattle.model.specs.Calls.{call_of}
 use Rattle.history.proofs.make_call.Goals as goal
 
-pub returns-then-kind-eq0 : goal.returns-then-kind-eq0
+pub returns-in-Step : goal.returns-in-Step
 unfolding call_of
-returns-then-kind-eq0 c = rw c.if-kind-eq0.true (ap (beside _) c.step-outcome.ensures)
+returns-in-Step c = rw (sym c.in-Step.ensures) (ap (beside _) c.step-outcome.ensures)
 
-pub returns : goal.returns
+pub returns-in-Recorded : goal.returns-in-Recorded
 unfolding call_of
-returns c = simp (ne_eqb _ _ c.if-kind-eq0.false) c.lent_step.ensures
+returns-in-Recorded c = rw (sym c.in-Recorded.ensures) c.record_step-outcome.ensures

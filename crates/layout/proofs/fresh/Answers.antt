@@ -1,5 +1,4 @@
 -- `layout::fresh` meets its contract: 11 and 12 before 16, and the table over the first numbers. Assumes nothing.
-use Rattle.std.proofs.Common.{sym, length-take-le, rules}
 use Rattle.layout.proofs.Starting.{fresh_refused, fresh_short, fresh_saved}
 use Rattle.layout.proofs.fresh.Goals as goal
 
@@ -7,16 +6,10 @@ pub returns-then-answer-ne0 : goal.returns-then-answer-ne0
 returns-then-answer-ne0 c =
     fresh_refused _ c.args.table.now c.fresh-outcome.ensures c.if-answer-ne0.true
 
-pub returns-then-table-lt-TABLE : goal.returns-then-table-lt-TABLE
-returns-then-table-lt-TABLE c =
-    fresh_short _ c.args.table.now c.fresh-outcome.ensures c.if-answer-ne0.false c.if-table-lt-TABLE.true c.answer_with.ensures
-
-pub slice_bounds-put_table-end-2 : goal.slice_bounds-put_table-end-2
-slice_bounds-put_table-end-2 c = sym (search (rules, length-take-le))
-
-pub put_table-requires : goal.put_table-requires
-put_table-requires c = search (rules, length-take-le)
+pub returns-in_default : goal.returns-in_default
+returns-in_default c =
+    fresh_short _ c.args.table.now c.fresh-outcome.ensures c.if-answer-ne0.false c.in_default.ensures.cases c.from.ensures
 
 pub returns : goal.returns
 returns c =
-    fresh_saved _ c.args.table.now c.fresh-outcome.ensures c.if-answer-ne0.false c.if-table-lt-TABLE.false c.put_table.ensures
+    fresh_saved _ c.args.table.now c.fresh-outcome.ensures c.if-answer-ne0.false c.in-Some.ensures.cases.enough c.put_table.ensures

@@ -19,12 +19,11 @@ filled smallest largest d e low is h = rw (is, le-ltb (highest smallest d e) (lo
 pub returns-then-high-low : goal.returns-then-high-low
 returns-then-high-low c =
     let s = c.args in
-    c.refused.ensures ∙ sym (empty s.smallest s.largest s.d s.e (omega (arith, c.greater.ensures, c.lesser-high.ensures, c.if-high-low.true)))
+    sym (empty s.found.smallest s.found.largest s.d s.e (omega arith))
 
 pub returns : goal.returns
 returns c =
     let s = c.args in
     let back = to_z-of_z {w = w64} {z = c.shift_of-shift.result} (record { sfits = c.shift_of-shift.type_inv }) in
     ap (comparison 0) (back ∙ c.shift_of-shift.ensures)
-    ∙ sym (filled s.smallest s.largest s.d s.e (c.greater.result - s.e) (omega (arith, c.greater.ensures))
-    (omega (arith, c.lesser-high.ensures, c.if-high-low.false)))
+    ∙ sym (filled s.found.smallest s.found.largest s.d s.e (c.max.result - s.e) (omega arith) (omega arith))

@@ -18,7 +18,7 @@ returns-then-out-needed c =
     omega (arith, rw (nothing_put measured) at c.if-out-needed.true, measured.wide) in
     let less = c.if-out-lt-MOST_BYTES.true in
     rw (lt-ltb _ _ short) record {
-      report = write-gave c.answer_with.ensures (rw (nothing_put measured));
+      report = write-gave c.from.ensures (rw (nothing_put measured));
       room = λ (h : 687734 ≤ length c.args.out.now). absurd (omega (arith, less));
     }
 
@@ -39,6 +39,6 @@ returns c =
       | else-out-lt-MOST_BYTES w ↦ omega (arith, put.upper_bound, w.if-out-lt-MOST_BYTES.false)
     ] in
     record {
-      report = write-gave c.answer_with-2.ensures refl ∙ put_whole (rw same at put.put) room;
-      room = λ _. ap (λ (a : Answer). a.code) c.answer_with-2.ensures;
+      report = write-gave c.accepted.ensures refl ∙ put_whole (rw same at put.put) room;
+      room = λ _. ap (λ (a : Answer). a.code) c.accepted.ensures;
     }

@@ -1,12 +1,11 @@
 -- `round_trips::reread` meets its contract: what `write` gave is `write_of`, and `SameEvents` is the round trip. Assumes nothing.
 use Rattle.std.proofs.Common.{◌≡◌, sym, ap, ◌∙◌}
+use mathlib.Core.Path.{subst}
 use lib.Seq.{length-take-le}
-use Rattle.model.specs.declared.Reading.{Reading}
-use Rattle.model.specs.Readings.{lists, read_gave}
+use Rattle.model.specs.Readings.{lists}
 use Rattle.model.specs.Writings.{events_of, Written, write_gave, write_of}
 use Rattle.model.proofs.Given.{gave_out}
-use Rattle.grammar.specs.RoundTrips.{events_read}
-use Rattle.round_trips.specs.Trips.{reread_of}
+use Rattle.round_trips.specs.Trips.{reread_of, StepsComeBack}
 use Rattle.round_trips.proofs.Trips.{written_held, reread_refused, reread_done, reread_same}
 use Rattle.round_trips.proofs.reread.Goals as goal
 
@@ -18,7 +17,7 @@ returns-then-answer-ne0 c =
     let due = write_of a.parameters (events_of (lists a.times.now a.processes.now a.actions.now)) a.out.now in
     let e : given ≡ due = c.write-answer.ensures in
     let n = c.if-answer-ne0.true in
-    let gave = ap (λ (r : Reading). read_gave r to) c.not_read.ensures ∙ sym (reread_refused given to n) in
+    let gave = sym (reread_refused given to n) in
     record {
       out = gave_out e;
       read = gave ∙ ap (λ (w : Written). reread_of w to) e;
@@ -49,5 +48,5 @@ returns c =
     record {
       out = gave_out e;
       read = r;
-      trip = λ z h. ap events_read r ∙ reread_same a.parameters from a.out.now to z h;
+      trip = subst (StepsComeBack a.parameters (events_of from) a.out.now to) (sym r) (reread_same a.parameters from a.out.now to);
     }

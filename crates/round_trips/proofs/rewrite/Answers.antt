@@ -2,7 +2,7 @@
 use Rattle.std.proofs.Common.{ℕ, ◌≡◌, List, sym, ap, ◌∙◌}
 use mathlib.Core.Path.{subst}
 use lib.Seq.{length-take-le}
-use Rattle.model.specs.Readings.{Lists, lists, Read, read_gave, read_of}
+use Rattle.model.specs.Readings.{Lists, lists, Read, read_of}
 use Rattle.model.specs.Writings.{Written}
 use Rattle.model.proofs.Given.{gave_out}
 use Rattle.round_trips.specs.Trips.{rewrite_of, ReadsAlike}
@@ -13,19 +13,17 @@ use Rattle.round_trips.proofs.rewrite.Goals as goal
 given-alike : (text : List ℕ) (to : Lists) (out : List ℕ) {w : Written} → w ≡ rewrite_of (read_of text to) out → ReadsAlike text to w
 given-alike text to out e = subst (ReadsAlike text to) (sym e) (rewrite_alike text to out)
 
-pub returns-then-answer-ne0 : goal.returns-then-answer-ne0
-returns-then-answer-ne0 c =
+pub returns-in-Err : goal.returns-in-Err
+returns-in-Err c =
     let a = c.args in
     let to = lists a.times.now a.processes.now a.actions.now in
-    let r = c.read-reading in
-    let given = read_gave r.result (lists r.new.times r.new.processes r.new.actions) in
-    let e : given ≡ read_of a.text.now to = r.ensures in
-    let n = c.if-answer-ne0.true in
-    let w = sym (rewrite_refused given a.out.now n) ∙ ap (λ (x : Read). rewrite_of x a.out.now) e in
+    let e = c.read.ensures in
+    let new = lists c.read.new.times c.read.new.processes c.read.new.actions in
+    let w = sym (rewrite_refused new a.out.now c.in-Err.answer c.in-Err.is) ∙ ap (λ (x : Read). rewrite_of x a.out.now) e in
     record {
       kept = ap (λ (x : Read). x.kept) e;
       written = w;
-      trip = λ _ z _. absurd (n (ap (λ (x : Read). x.reading.answer.code) e ∙ z));
+      trip = λ q s z h. gave_out w ∙ rewrite_same a.text.now to a.out.now q s z h;
       alike = given-alike a.text.now to a.out.now w;
     }
 
@@ -33,51 +31,50 @@ returns-then-answer-ne0 c =
 pub slice_bounds-write-end : goal.slice_bounds-write-end
 slice_bounds-write-end c =
     let a = c.args in
-    let h = held a.text.now (lists a.times.now a.processes.now a.actions.now) c.read-reading.ensures c.if-answer-ne0.false in
+    let h = held a.text.now (lists a.times.now a.processes.now a.actions.now) c.read.ensures c.in-Ok.is in
     h.times
 
 pub slice_bounds-write-end-2 : goal.slice_bounds-write-end-2
 slice_bounds-write-end-2 c =
     let a = c.args in
-    let h = held a.text.now (lists a.times.now a.processes.now a.actions.now) c.read-reading.ensures c.if-answer-ne0.false in
+    let h = held a.text.now (lists a.times.now a.processes.now a.actions.now) c.read.ensures c.in-Ok.is in
     sym (length-take-le _ _ h.times)
 
 pub slice_bounds-write-end-3 : goal.slice_bounds-write-end-3
 slice_bounds-write-end-3 c =
     let a = c.args in
-    let h = held a.text.now (lists a.times.now a.processes.now a.actions.now) c.read-reading.ensures c.if-answer-ne0.false in
+    let h = held a.text.now (lists a.times.now a.processes.now a.actions.now) c.read.ensures c.in-Ok.is in
     h.processes
 
 pub slice_bounds-write-end-4 : goal.slice_bounds-write-end-4
 slice_bounds-write-end-4 c =
     let a = c.args in
-    let h = held a.text.now (lists a.times.now a.processes.now a.actions.now) c.read-reading.ensures c.if-answer-ne0.false in
+    let h = held a.text.now (lists a.times.now a.processes.now a.actions.now) c.read.ensures c.in-Ok.is in
     sym (length-take-le _ _ h.processes)
 
 pub slice_bounds-write-end-5 : goal.slice_bounds-write-end-5
 slice_bounds-write-end-5 c =
     let a = c.args in
-    let h = held a.text.now (lists a.times.now a.processes.now a.actions.now) c.read-reading.ensures c.if-answer-ne0.false in
+    let h = held a.text.now (lists a.times.now a.processes.now a.actions.now) c.read.ensures c.in-Ok.is in
     h.actions
 
 pub slice_bounds-write-end-6 : goal.slice_bounds-write-end-6
 slice_bounds-write-end-6 c =
     let a = c.args in
-    let h = held a.text.now (lists a.times.now a.processes.now a.actions.now) c.read-reading.ensures c.if-answer-ne0.false in
+    let h = held a.text.now (lists a.times.now a.processes.now a.actions.now) c.read.ensures c.in-Ok.is in
     sym (length-take-le _ _ h.actions)
 
 pub returns : goal.returns
 returns c =
     let a = c.args in
     let to = lists a.times.now a.processes.now a.actions.now in
-    let r = c.read-reading in
-    let given = read_gave r.result (lists r.new.times r.new.processes r.new.actions) in
-    let e : given ≡ read_of a.text.now to = r.ensures in
-    let done = sym (rewrite_done given a.out.now c.if-answer-ne0.false) in
+    let e = c.read.ensures in
+    let new = lists c.read.new.times c.read.new.processes c.read.new.actions in
+    let done = sym (rewrite_done new a.out.now c.in-Ok.reading c.in-Ok.is) in
     let w = c.write.ensures ∙ (done ∙ ap (λ (x : Read). rewrite_of x a.out.now) e) in
     record {
       kept = ap (λ (x : Read). x.kept) e;
       written = w;
-      trip = λ s z h. gave_out w ∙ rewrite_same a.text.now to a.out.now s z h;
+      trip = λ q s z h. gave_out w ∙ rewrite_same a.text.now to a.out.now q s z h;
       alike = given-alike a.text.now to a.out.now w;
     }

@@ -6,13 +6,13 @@ use Rattle.theory.proofs.Steps.{unsound_iff_one, unsound_is}
 use Rattle.statistics.proofs.Laws.{not_one_sound}
 use Rattle.statistics.proofs.refuse.Goals as goal
 
-pub returns-then-answer-eq1 : goal.returns-then-answer-eq1
-returns-then-answer-eq1 c =
+pub returns-then-answer-code : goal.returns-then-answer-code
+returns-then-answer-code c =
     let s = c.args.state in
-    let e = (unsound_iff_one s wait_act 0 s.clock).0 (rw c.step-judged.ensures at c.if-answer-eq1.true) in
+    let e = (unsound_iff_one s wait_act 0 s.clock).0 (rw (c.step-judged.ensures, c.code.ensures) at c.if-answer-code.true) in
     rw e (c.step-judged.ensures ∙ unsound_is s wait_act 0 s.clock e)
 
 pub returns : goal.returns
 returns c =
     let s = c.args.state in
-    rw (not_one_sound s wait_act 0 s.clock (rw c.step-judged.ensures at c.if-answer-eq1.false), c.answer_with.ensures)
+    rw (not_one_sound s wait_act 0 s.clock (rw (c.step-judged.ensures, c.code.ensures) at c.if-answer-code.false), c.from.ensures)

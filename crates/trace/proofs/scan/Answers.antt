@@ -1,18 +1,18 @@
 -- `trace::scan` meets its contract: each way out is a law of `Readings`. Assumes nothing.
-use Rattle.std.proofs.Common.{ℕ, ◌≡◌, ◌≤◌, ◌<◌, min, length, drop, List, refl, sym, ap, ◌∙◌, arith}
-use Rattle.model.specs.declared.Scan.{Scan}
-use Rattle.model.specs.Readings.{head_of, body_of, Lists, lists, scan_gave}
+use Rattle.std.proofs.Common.{ℕ, ◌≡◌, ◌≤◌, ◌<◌, min, length, List, Ok, refl, sym, ap, ◌∙◌, arith}
+use Rattle.std.proofs.lemmas.Result.{err_from_is_err_and}
+use Rattle.model.specs.declared.Head.{Head}
+use Rattle.model.specs.Readings.{found, head_of, Lists, lists, scan_gave}
 use Rattle.model.proofs.Lists.{part_is}
 use Rattle.grammar.proofs.Fields.{took_le}
 use Rattle.grammar.proofs.Heads.{HeadTook, head_was, head_line}
-use Rattle.trace.specs.Passes.{counted_of, scan_found}
-use Rattle.trace.proofs.Readings.{scan_refused, scan_fault, scan_full, scan_stored, counted_steps}
+use Rattle.trace.proofs.Readings.{scan_refused, scan_fault, scan_full, scan_stored}
 use Rattle.trace.proofs.scan.Goals as goal
 
 -- The first lines are read: they are part of the text, and there is a line of the first step
-module _ (text : List ℕ) (h : Scan) (e : h ≡ head_of text) (read : h.code ≡ 0) where
+module _ (text : List ℕ) (h : Head) (e : head_of text ≡ Ok h) where
   took : HeadTook text h
-  took = head_was text h (sym e) read
+  took = head_was text h e
 
   inside : h.size ≤ length text
   inside = took_le took.took
@@ -23,82 +23,59 @@ module _ (text : List ℕ) (h : Scan) (e : h ≡ head_of text) (read : h.code �
   line_fits : h.line ≤ 65536
   line_fits = omega (arith, (head_line took).1, inside, took.short)
 
-pub returns-then-head-ne0 : goal.returns-then-head-ne0
-returns-then-head-ne0 c =
+pub returns-in_err-head : goal.returns-in_err-head
+returns-in_err-head c =
     let a = c.args in
-    let h = c.head_of-head in
     let l = lists a.times.now a.processes.now a.actions.now in
-    rw (scan_refused a.text.now l h.result (sym h.ensures) c.if-head-ne0.true, c.scan_fails.ensures)
+    let p = err_from_is_err_and c.from_residual.result c.from_residual.ensures.1 in
+    rw (scan_refused a.text.now l _ (sym c.head_of.ensures ∙ c.in_err-head.was), p.1, p.2)
 
 pub slice_bounds-body-count : goal.slice_bounds-body-count
-slice_bounds-body-count c = inside c.args.text.now c.head_of-head.result c.head_of-head.ensures c.if-head-ne0.false
+slice_bounds-body-count c = inside c.args.text.now _ (sym c.head_of.ensures ∙ c.in_ok-head.was)
 
 pub slice_bounds-body-start : goal.slice_bounds-body-start
-slice_bounds-body-start c = inside c.args.text.now c.head_of-head.result c.head_of-head.ensures c.if-head-ne0.false
+slice_bounds-body-start c = inside c.args.text.now _ (sym c.head_of.ensures ∙ c.in_ok-head.was)
 
-pub count_events-counted-requires-clause-first_nonzero : goal.count_events-counted-requires-clause-first_nonzero
-count_events-counted-requires-clause-first_nonzero c =
-    line_some c.args.text.now c.head_of-head.result c.head_of-head.ensures c.if-head-ne0.false
+pub count_events-requires-clause-first_nonzero : goal.count_events-requires-clause-first_nonzero
+count_events-requires-clause-first_nonzero c = line_some c.args.text.now _ (sym c.head_of.ensures ∙ c.in_ok-head.was)
 
-pub count_events-counted-requires-clause-first_bound : goal.count_events-counted-requires-clause-first_bound
-count_events-counted-requires-clause-first_bound c =
-    line_fits c.args.text.now c.head_of-head.result c.head_of-head.ensures c.if-head-ne0.false
+pub count_events-requires-clause-first_bound : goal.count_events-requires-clause-first_bound
+count_events-requires-clause-first_bound c = line_fits c.args.text.now _ (sym c.head_of.ensures ∙ c.in_ok-head.was)
 
-pub returns-in_default : goal.returns-in_default
-returns-in_default c =
+pub returns-in_err-steps : goal.returns-in_err-steps
+returns-in_err-steps c =
     let a = c.args in
-    let h = c.head_of-head in
     let l = lists a.times.now a.processes.now a.actions.now in
-    let body = body_of h.result.line (drop h.result.size a.text.now) in
-    let e : c.count_events-counted.result ≡ counted_of body = rw part_is at c.count_events-counted.ensures in
-    let counted = sym e ∙ c.in_default.is in
-    rw (scan_fault a.text.now l h.result (sym h.ensures) c.if-head-ne0.false body refl _ _ counted, ← e, c.scan_found.ensures)
+    let head = sym c.head_of.ensures ∙ c.in_ok-head.was in
+    let r = c.from_residual-in_err-steps in
+    let p = err_from_is_err_and r.result r.ensures.1 in
+    let counted = rw part_is at (sym c.count_events.ensures ∙ c.in_err-steps.was) in
+    rw (scan_fault a.text.now l _ head _ refl _ counted, p.1, p.2)
 
-pub returns-then-room-count : goal.returns-then-room-count
-returns-then-room-count c =
+pub returns-then-min-steps : goal.returns-then-min-steps
+returns-then-min-steps c =
     let a = c.args in
-    let h = c.head_of-head in
     let l = lists a.times.now a.processes.now a.actions.now in
-    let body = body_of h.result.line (drop h.result.size a.text.now) in
-    let e = rw part_is at c.count_events-counted.ensures in
-    let n = c.in-Steps.count in
-    let counted = sym e ∙ c.in-Steps.is in
-    let room_is = c.least-room.ensures ∙ ap (min (length a.times.now)) c.least.ensures in
-    let full = scan_full a.text.now l h.result (sym h.ensures) c.if-head-ne0.false body refl n counted (rw room_is at c.if-room-count.true) in
-    rw (full, c.scan_fails-then-room-count.ensures)
+    let head = sym c.head_of.ensures ∙ c.in_ok-head.was in
+    let counted = rw part_is at (sym c.count_events.ensures ∙ c.in_ok-steps.was) in
+    let room_is = c.min-2.ensures ∙ ap (min (length a.times.now)) c.min.ensures in
+    rw (c.at.ensures, scan_full a.text.now l _ head _ refl _ counted (rw room_is at c.if-min-steps.true))
 
-pub store_events-stored-requires-clause-first_nonzero : goal.store_events-stored-requires-clause-first_nonzero
-store_events-stored-requires-clause-first_nonzero c =
-    line_some c.args.text.now c.head_of-head.result c.head_of-head.ensures c.if-head-ne0.false
+pub store_events-requires-clause-first_nonzero : goal.store_events-requires-clause-first_nonzero
+store_events-requires-clause-first_nonzero c = line_some c.args.text.now _ (sym c.head_of.ensures ∙ c.in_ok-head.was)
 
-pub store_events-stored-requires-clause-first_bound : goal.store_events-stored-requires-clause-first_bound
-store_events-stored-requires-clause-first_bound c =
-    line_fits c.args.text.now c.head_of-head.result c.head_of-head.ensures c.if-head-ne0.false
-
-pub store_events-stored-requires-clause-s_len_bound : goal.store_events-stored-requires-clause-s_len_bound
-store_events-stored-requires-clause-s_len_bound c =
-    let a = c.args in
-    let h = c.head_of-head in
-    let l = lists a.times.now a.processes.now a.actions.now in
-    let body = body_of h.result.line (drop h.result.size a.text.now) in
-    let e = rw part_is at c.count_events-counted.ensures in
-    let n = c.in-Steps.count in
-    let counted = sym e ∙ c.in-Steps.is in
-    let room_is = c.least-room.ensures ∙ ap (min (length a.times.now)) c.least.ensures in
-    rw (part_is, (counted_steps body n counted).many) (rw room_is at c.if-room-count.false)
+pub store_events-requires-clause-first_bound : goal.store_events-requires-clause-first_bound
+store_events-requires-clause-first_bound c = line_fits c.args.text.now _ (sym c.head_of.ensures ∙ c.in_ok-head.was)
 
 pub returns : goal.returns
 returns c =
     let a = c.args in
-    let h = c.head_of-head in
     let l = lists a.times.now a.processes.now a.actions.now in
-    let body = body_of h.result.line (drop h.result.size a.text.now) in
-    let e = rw part_is at c.count_events-counted.ensures in
-    let n = c.in-Steps.count in
-    let counted = sym e ∙ c.in-Steps.is in
-    let room_is = c.least-room.ensures ∙ ap (min (length a.times.now)) c.least.ensures in
-    let all = scan_stored a.text.now l h.result (sym h.ensures) c.if-head-ne0.false body refl n counted (rw room_is at c.if-room-count.false) in
-    let value = rw part_is at c.store_events-stored.ensures.value in
-    let kept = rw part_is at c.store_events-stored.ensures.actions_value in
-    rw (all, c.scan_found-2.ensures, value)
-    (ap (λ (k : Lists). scan_gave (scan_found h.result.line h.result.parameters (counted_of body)) k) kept)
+    let head = sym c.head_of.ensures ∙ c.in_ok-head.was in
+    let counted = rw part_is at (sym c.count_events.ensures ∙ c.in_ok-steps.was) in
+    let again = rw part_is at (sym c.store_events.ensures.value ∙ c.in_ok-steps-2.was) in
+    let room_is = c.min-2.ensures ∙ ap (min (length a.times.now)) c.min.ensures in
+    let kept = rw part_is at c.store_events.ensures.actions_value in
+    let all = scan_stored a.text.now l _ head _ refl _ counted (rw room_is at c.if-min-steps.false) in
+    let same : c.in_ok-steps.steps ≡ c.in_ok-steps-2.steps = let e = sym counted ∙ again in cc in
+    rw (all, ← same) (ap (λ (k : Lists). scan_gave (Ok (found c.in_ok-head.head.line c.in_ok-head.head.parameters c.in_ok-steps.steps)) k) kept)

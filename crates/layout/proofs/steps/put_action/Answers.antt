@@ -1,10 +1,7 @@
 -- `layout::steps::put_action` meets its contract: two stores, and two more for an action of a process. Assumes nothing.
-use Rattle.std.proofs.Common.{length, ap, ◌∙◌, length-set, eq-eqb, ne_eqb}
+use Rattle.std.proofs.Common.{◌∙◌, eq-eqb, ne_eqb}
 use Rattle.layout.specs.Steps.{action_put}
 use Rattle.layout.proofs.steps.put_action.Goals as goal
-
-pub shape_of-table-then-action-ne-WAIT : goal.shape_of-table-then-action-ne-WAIT
-shape_of-table-then-action-ne-WAIT c = ap length c.put_entry.ensures ∙ simp length-set
 
 pub returns-then-action-ne-WAIT : goal.returns-then-action-ne-WAIT
 unfolding action_put

@@ -1,13 +1,11 @@
 -- `local_log::passes::find_differences` meets its contract: the places passed and those left come to the whole pass. Assumes nothing.
-use Rattle.std.proofs.Common.{◌≡◌, ◌-◌, ◌≤◌, min, length}
-use Rattle.local_log.specs.Passes.{differences, pass_of}
-use Rattle.local_log.proofs.Turns.{pass_left}
+use Rattle.std.proofs.Common.{◌≡◌}
+use Rattle.std.specs.Slice.Iter.{iter_rest}
+use Rattle.std.specs.Iterator.Adapters.{zip_first, zip_second}
+use Rattle.local_log.specs.Passes.{differences, pass_from, pass_of}
 use Rattle.local_log.proofs.passes.find_differences.Given as goal
 
-abbrev pub invariant-loop-i : goal.invariant-loop-i
-invariant-loop-i l =
-    (l.i ≤ l.end) × (l.end ≡ min (length l.stamps) (length l.times))
-    × (pass_left l.stamps l.times l.i (differences l.i l.smallest l.largest) ≡ pass_of l.stamps l.times)
-
-abbrev pub decreases-loop-i : goal.decreases-loop-i
-decreases-loop-i l = l.end - l.i
+abbrev pub invariant-loop-stamp : goal.invariant-loop-stamp
+invariant-loop-stamp l =
+    pass_from (differences l.smallest l.largest) (iter_rest (zip_first l.stamp-iterator)) (iter_rest (zip_second l.stamp-iterator))
+    ≡ pass_of l.stamps l.times

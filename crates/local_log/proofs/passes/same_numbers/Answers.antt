@@ -1,22 +1,19 @@
 -- What the check of `passes::same_numbers` does not find alone. Assumes nothing.
-use Rattle.std.proofs.Common.{sym, refl, ◌∙◌, arith}
+use Rattle.std.proofs.Common.{sym, inl, inr, ◌∙◌, ap, length, arith}
 use Rattle.local_log.proofs.Turns.{same_next, same_end, same_long}
 use Rattle.local_log.proofs.passes.same_numbers.Goals as goal
 
-pub returns-then-end-actions : goal.returns-then-end-actions
-returns-then-end-actions c = sym (same_long c.args.claims.now c.args.actions.now c.if-end-actions.true)
+pub returns-then-claims-actions : goal.returns-then-claims-actions
+returns-then-claims-actions c = sym (same_long c.args.claims.now c.args.actions.now c.if-claims-actions.true)
 
-pub loop-i-init : goal.loop-i-init
-loop-i-init c = (omega arith, c.if-end-actions.false, refl)
-
-pub loop-i-preserved : goal.loop-i-preserved
-loop-i-preserved c =
-    let v = c.loop-i in
-    let a = c.args in
-    (omega arith, v.invariant.1, same_next a.claims.now a.actions.now v.bits v.i (omega arith) (omega arith) ∙ v.invariant.2)
+pub loop-claim-preserved : goal.loop-claim-preserved
+loop-claim-preserved c =
+    let v = c.loop-claim in
+    let met = c.in-Some.ensures.steps in
+    (omega (arith, v.invariant.0, ap length met.0, ap length met.1), same_next v.bits met.0 met.1 ∙ v.invariant.1)
 
 pub returns : goal.returns
 returns c =
-    let v = c.loop-i in
-    let a = c.args in
-    sym (same_end a.claims.now a.actions.now v.bits v.i (omega arith) (omega arith)) ∙ v.invariant.2
+    let v = c.loop-claim in
+    let ended = c.in-None.ensures.steps in
+    sym (same_end v.bits _ _ v.invariant.0 (elim ended [ inl a ↦ inl a.1.0 | inr b ↦ inr b.1.0 ])) ∙ v.invariant.1

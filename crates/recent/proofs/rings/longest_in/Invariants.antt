@@ -1,13 +1,10 @@
 -- `recent::rings::longest_in` meets its contract: the entries that are left come to what all come to, from the time and the wait so far on.
 -- Assumes nothing.
-use Prim.Native.Nat.{◌-◌}
-use Rattle.recent.specs.Encodings.{entries_from}
+use lib.ListN.{drop}
+use Rattle.recent.specs.Looking.{entries_in}
 use Rattle.recent.proofs.Passing.{Passing}
 use Rattle.recent.proofs.rings.longest_in.Given as goal
 
-abbrev pub invariant-loop-place : goal.invariant-loop-place
-invariant-loop-place l =
-    Passing (entries_from l.board l.from (l.to - l.from)) l.initial.time l.initial.longest (entries_from l.board l.place (l.to - l.place)) l.time l.longest
-
-abbrev pub decreases-loop-place : goal.decreases-loop-place
-decreases-loop-place l = l.to - l.place
+abbrev pub invariant-loop-entry : goal.invariant-loop-entry
+invariant-loop-entry l =
+    Passing (entries_in l.entries) l.initial.time l.initial.longest (entries_in (drop l.entry-index l.entries)) l.time l.longest

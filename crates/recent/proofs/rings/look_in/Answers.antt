@@ -1,20 +1,27 @@
--- `recent::rings::look_in` meets its contract: too short a list tells no board, and any other the board of the numbers at its front.
--- Assumes nothing.
-use mathlib.Core.Path.{sym}
+-- `recent::rings::look_in` meets its contract: a board whose header does not stand is not sound, and an empty one is. Assumes nothing.
+use Prim.Native.Nat.{◌≤◌}
+use mathlib.Core.Path.{sym, ◌∙◌}
 use native.Mathlib.Omega.{arith}
-use lib.Seq.{length-take-le}
+use borrow.Author.Rules.{rules}
+use lib.ListN.{length}
+use Rattle.model.proofs.Tests.{clash}
 use Rattle.recent.specs.Encodings.{board_length}
-use Rattle.recent.proofs.Sights.{no_sight, front_looks}
+use Rattle.recent.proofs.Sights.{no_sight, empty_seen, width-in}
 use Rattle.recent.proofs.rings.look_in.Goals as goal
+use Rattle.recent.proofs.rings.look_in.Goals.{then-board-via-then-board, then-board-via-else-board+then-board-2}
 
-pub returns-then-board-lt-BOARD : goal.returns-then-board-lt-BOARD
-returns-then-board-lt-BOARD c = no_sight _ _ c.no_board.ensures (λ s. omega (arith, s.fits, c.if-board-lt-BOARD.true))
+pub returns-then-not-width_stands : goal.returns-then-not-width_stands
+returns-then-not-width_stands c =
+    no_sight _ (λ s. clash (width-in _ s) (sym c.width_stands.ensures ∙ c.if-not-width_stands.true))
 
-pub slice_bounds-look_whole-end : goal.slice_bounds-look_whole-end
-slice_bounds-look_whole-end c = sym (length-take-le board_length c.args.board.now c.if-board-lt-BOARD.false)
+pub returns-then-board : goal.returns-then-board
+returns-then-board c =
+    elim c.then-board.branch [
+      | then-board-via-then-board w ↦ no_sight _ (λ s. omega (arith, s.inside, w.if-board.true))
+      | then-board-via-else-board+then-board-2 w ↦ no_sight _ (λ s. omega (arith, s.room, w.if-board-2.true))
+    ]
 
-pub look_whole-requires : goal.look_whole-requires
-look_whole-requires c = length-take-le board_length c.args.board.now c.if-board-lt-BOARD.false
-
-pub returns : goal.returns
-returns c = front_looks _ c.if-board-lt-BOARD.false _ c.look_whole.ensures
+pub returns-then-board-eq0 : goal.returns-then-board-eq0
+returns-then-board-eq0 c =
+    let fits : board_length ≤ length c.args.board.now = search rules in
+    empty_seen _ _ c.if-board-eq0.true fits c.if-board.false (sym c.width_stands.ensures ∙ c.if-not-width_stands.false)

@@ -7,5 +7,5 @@ use Rattle.recent.proofs.rings.wrapped_place.Goals as goal
 pub returns-then-place-lt-PLACES : goal.returns-then-place-lt-PLACES
 returns-then-place-lt-PLACES c = sym (wrapped_inside _ c.if-place-lt-PLACES.true)
 
-pub returns : goal.returns
-returns c = sym (wrapped_past _ c.if-place-lt-PLACES.false)
+pub returns-else-place-lt-PLACES : goal.returns-else-place-lt-PLACES
+returns-else-place-lt-PLACES c = sym (wrapped_past _ c.if-place-lt-PLACES.false)

@@ -1,5 +1,5 @@
 -- With room for any report the answer is 0, and the report is whole. Assumes nothing.
-use Rattle.std.proofs.Common.{ℕ, List, ◌≡◌, sym, ap, ◌∙◌, arith, length-take}
+use Rattle.std.proofs.Common.{ℕ, List, ◌≡◌, sym, ap, ◌∙◌, arith}
 use Rattle.model.specs.declared.Answer.{Answer}
 use Rattle.model.specs.Writings.{write_gave}
 use Rattle.model.specs.Reports.{report_text, report_of}
@@ -14,13 +14,13 @@ rendered text out gave done =
     let answer = gave_answer gave in
     rw (answer, gave_out gave) (whole (report_text text) out (sym (ap (λ (a : Answer). a.code) answer) ∙ done))
 
-pub returns-clause-prefix_len : goal.returns-clause-prefix_len
-returns-clause-prefix_len c =
+pub shared_ref_as_front-result : goal.shared_ref_as_front-result
+shared_ref_as_front-result c =
     let e = c.report-answer.ensures in
-    let w = rendered c.args.text.now c.args.out.now e.report (e.room (omega (arith, c.requires))) in
-    (w.within, simp length-take (omega (arith, w.within)))
+    let done = e.room (omega (arith, c.told-out)) in
+    omega (arith, (rendered c.args.text.now c.args.out.now e.report done).within, c.report-answer.auto.out, c.told-out)
 
-pub returns-clause-out_after : goal.returns-clause-out_after
-returns-clause-out_after c =
+pub returns : goal.returns
+returns c =
     let e = c.report-answer.ensures in
-    (rendered c.args.text.now c.args.out.now e.report (e.room (omega (arith, c.requires)))).bytes
+    (rendered c.args.text.now c.args.out.now e.report (e.room (omega (arith, c.told-out)))).bytes

@@ -1,5 +1,5 @@
 -- Intervals that are answered with 0 are whole; otherwise there is room for the report. Assumes nothing.
-use Rattle.std.proofs.Common.{ℕ, List, ◌≡◌, ◌≤◌, sym, ap, ◌∙◌, arith, length, length-take}
+use Rattle.std.proofs.Common.{ℕ, List, ◌≡◌, ◌≤◌, sym, ap, ◌∙◌, arith, length}
 use mathlib.Core.Logic.{◌≢◌}
 use Rattle.model.specs.declared.Answer.{Answer}
 use Rattle.model.specs.Writings.{write_gave}
@@ -26,27 +26,29 @@ reports {mid = mid} text out wrote other wide gave done =
     rw (reported text out wide (rw (gave_answer wrote) at other))
     (rw (answer, gave_out gave) (whole (report_text text) mid (sym (ap (λ (a : Answer). a.code) answer) ∙ done)))
 
-pub returns-then-written-eq0-clause-prefix_len : goal.returns-then-written-eq0-clause-prefix_len
-returns-then-written-eq0-clause-prefix_len c =
-    let w = intervals c.args.text.now c.args.out.now c.write_intervals-written.ensures c.if-written-eq0.true in
-    (w.within, simp length-take (omega (arith, w.within)))
+pub shared_ref_as_front-result : goal.shared_ref_as_front-result
+shared_ref_as_front-result c =
+    let e = c.write_intervals-written in
+    omega (arith, (intervals c.args.text.now c.args.out.now e.ensures c.if-written-eq0.true).within, e.auto.out, c.told-out)
 
-pub returns-then-written-eq0-clause-out_after : goal.returns-then-written-eq0-clause-out_after
-returns-then-written-eq0-clause-out_after c =
+pub returns-then-written-eq0 : goal.returns-then-written-eq0
+returns-then-written-eq0 c =
     (intervals c.args.text.now c.args.out.now c.write_intervals-written.ensures c.if-written-eq0.true).bytes
 
-pub returns-clause-prefix_len : goal.returns-clause-prefix_len
-returns-clause-prefix_len c =
-    let e = c.report-reported.ensures in
-    let room : 687734 ≤ length c.write_intervals-written.new.out = omega (arith, c.requires, c.write_intervals-written.auto.out) in
-    let w =
-    reports c.args.text.now c.args.out.now c.write_intervals-written.ensures c.if-written-eq0.false (omega (arith, c.requires))
-    e.report (e.room room) in
-    (w.within, simp length-take (omega (arith, w.within)))
+pub shared_ref_as_front-result-2 : goal.shared_ref_as_front-result-2
+shared_ref_as_front-result-2 c =
+    let w = c.write_intervals-written in
+    let e = c.report-reported in
+    let wide : 687734 ≤ length w.new.out = omega (arith, c.told-out, w.auto.out) in
+    let made =
+    reports c.args.text.now c.args.out.now w.ensures c.if-written-eq0.false (omega (arith, c.told-out)) e.ensures.report
+    (e.ensures.room wide) in
+    omega (arith, made.within, e.auto.out, w.auto.out, c.told-out)
 
-pub returns-clause-out_after : goal.returns-clause-out_after
-returns-clause-out_after c =
-    let e = c.report-reported.ensures in
-    let room : 687734 ≤ length c.write_intervals-written.new.out = omega (arith, c.requires, c.write_intervals-written.auto.out) in
-    (reports c.args.text.now c.args.out.now c.write_intervals-written.ensures c.if-written-eq0.false (omega (arith, c.requires))
-    e.report (e.room room)).bytes
+pub returns : goal.returns
+returns c =
+    let w = c.write_intervals-written in
+    let e = c.report-reported in
+    let wide : 687734 ≤ length w.new.out = omega (arith, c.told-out, w.auto.out) in
+    (reports c.args.text.now c.args.out.now w.ensures c.if-written-eq0.false (omega (arith, c.told-out)) e.ensures.report
+    (e.ensures.room wide)).bytes

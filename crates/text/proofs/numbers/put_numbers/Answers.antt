@@ -1,48 +1,56 @@
 -- `numbers::put_numbers` meets its contract: the numbers are put one after the other, and each takes 20 digits at most. Assumes nothing.
-use Rattle.std.proofs.Common.{ℕ, ◌≡◌, ◌+◌, ◌<◌, min, List, length, get_or, take, arith}
+use Rattle.std.proofs.Common.{ℕ, ◌≡◌, ◌+◌, ◌^◌, ◌<◌, min, List, length, get_or, take, sym, ◌∙◌, arith}
 use native.Mathlib.Nat.{add_assoc}
 use lib.ListN.{length-take}
-use lib.Seq.{get_or-take}
+use lib.Seq.{get_or-take, take_all}
+use Rattle.model.proofs.Tests.{if_lt}
 use Rattle.text.specs.Puts.{most_numbers}
 use Rattle.text.proofs.Putting.{put_one, left_all, left_next, left_after, left_last, digits_first, tail_at, tail_end, digits_narrow}
 use Rattle.text.proofs.numbers.put_numbers.Goals as goal
 
 -- as many numbers follow the first as are put
-counted : (rest : List ℕ) (n : ℕ) → n ≡ min (length rest) 4_294_967_295 → n ≡ length (take most_numbers rest)
+counted : (rest : List ℕ) (n : ℕ) → n ≡ min (length rest) 4_294_967_295 → take n rest ≡ take most_numbers rest
 unfolding most_numbers
-counted rest n e = omega (arith, length-take most_numbers rest)
+counted rest n e =
+    if_lt 4_294_967_295 (length rest)
+    (λ h. let q : n ≡ 4_294_967_295 = omega arith in rw q)
+    (λ h. take_all n rest (omega arith) ∙ sym (take_all 4_294_967_295 rest h))
 
-pub loop-i-init : goal.loop-i-init
-loop-i-init c = (omega arith, digits_narrow c.args.first (omega arith) c.put_digits-size.ensures, left_all)
+-- each of them fits its type
+narrow : (rest : List ℕ) (n i : ℕ) → i < length (take n rest) → get_or rest i 0 < 2 ^ 64 → get_or (take n rest) i 0 < 2 ^ 64
+narrow rest n i h g = rw (get_or-take n rest i 0 (omega (arith, length-take n rest))) g
 
-pub overflow_add-size-in-loop-i : goal.overflow_add-size-in-loop-i
-overflow_add-size-in-loop-i c =
-    let k = c.put_digits-size-in-loop-i in
-    omega (arith, digits_narrow (get_or c.args.rest.now c.loop-i.i 0) (omega (arith, c.type_inv.rest c.loop-i.i)) k.ensures)
+pub loop-number-init : goal.loop-number-init
+loop-number-init c = (digits_narrow c.args.first (omega arith) c.put_digits-size.ensures, left_all)
 
-pub loop-i-preserved : goal.loop-i-preserved
-loop-i-preserved c =
-    let v = c.loop-i in
+pub overflow_add-size-in-loop-number : goal.overflow_add-size-in-loop-number
+overflow_add-size-in-loop-number c =
+    let i = c.loop-number.number-index in
+    let rest = c.args.rest.now in
+    let fits = narrow rest c.min-count.result i c.loop-number-test.true (omega (arith, c.type_inv.rest i)) in
+    omega (arith, digits_narrow _ fits c.put_digits-size-in-loop-number.ensures, length-take c.min-count.result rest)
+
+pub loop-number-preserved : goal.loop-number-preserved
+loop-number-preserved c =
+    let v = c.loop-number in
+    let i = v.number-index in
     let a = c.args in
-    let k = c.put_digits-size-in-loop-i in
-    let ws : List ℕ = take most_numbers a.rest.now in
-    let more : v.i < length ws = omega (arith, counted a.rest.now c.least-count.result c.least-count.ensures) in
-    let same = get_or-take most_numbers a.rest.now v.i 0 (omega (arith, length-take most_numbers a.rest.now)) in
-    let left = left_next (rw (tail_at ws v.i more, same) at v.invariant.2) (put_one c.put_byte.ensures) in (
-      omega arith,
-      omega (arith, digits_narrow (get_or a.rest.now v.i 0) (omega (arith, c.type_inv.rest v.i)) k.ensures),
-      rw (← add_assoc a.at (v.size + 1) k.result) (left_next (rw (add_assoc a.at v.size 1) at left) k.ensures),
+    let rest = a.rest.now in
+    let k = c.put_digits-size-in-loop-number in
+    let all = counted rest c.min-count.result c.min-count.ensures in
+    let fits = narrow rest c.min-count.result i c.loop-number-test.true (omega (arith, c.type_inv.rest i)) in
+    let more = rw all at c.loop-number-test.true in
+    let left = left_next (rw (tail_at (take most_numbers rest) i more, ← all) at v.invariant.1) (put_one c.put_byte.ensures) in (
+      omega (arith, digits_narrow _ fits k.ensures),
+      rw (← all, ← add_assoc a.at (v.size + 1) k.result) (left_next (rw (add_assoc a.at v.size 1) at left) k.ensures),
     )
 
-pub returns : goal.returns
-returns c =
-    let v = c.loop-i in
+pub returns-clause-put : goal.returns-clause-put
+returns-clause-put c =
+    let v = c.loop-number in
     let a = c.args in
     let ws : List ℕ = take most_numbers a.rest.now in
-    let q = counted a.rest.now c.least-count.result c.least-count.ensures in
-    let e = tail_end ws v.i (omega arith) (omega arith) in
-    let left = left_after c.put_digits-size.ensures (rw e at v.invariant.2) in
-    record {
-      put = rw (digits_first a.first ws) (left_last left (put_one c.put_byte-2.ensures) (omega arith));
-      upper_bound = omega arith;
-    }
+    let past = rw (counted a.rest.now c.min-count.result c.min-count.ensures) at c.loop-number-test.false in
+    let within = rw (counted a.rest.now c.min-count.result c.min-count.ensures) at v.auto.number-index-end in
+    let left = left_after c.put_digits-size.ensures (rw (tail_end ws v.number-index past within) at v.invariant.1) in
+    rw (digits_first a.first ws) (left_last left (put_one c.put_byte-2.ensures) (omega arith))

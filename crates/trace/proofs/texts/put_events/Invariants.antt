@@ -1,5 +1,5 @@
 -- The loop of `texts::put_events`: the lines from step i on are left to put. Assumes nothing.
-use Rattle.std.proofs.Common.{◌-◌, ◌≤◌}
+use Rattle.std.proofs.Common.{◌≤◌}
 use Rattle.model.specs.Texts.{events_text}
 use Rattle.model.specs.Readings.{lists}
 use Rattle.model.specs.Writings.{events_of}
@@ -10,9 +10,4 @@ use Rattle.trace.proofs.texts.put_events.Given as goal
 abbrev pub invariant-loop-i : goal.invariant-loop-i
 invariant-loop-i l =
     let given = lists l.times l.processes l.actions in
-    (l.i ≤ l.count)
-    × (l.at ≤ 65536)
-    × Left l.initial.out l.start (events_text (events_of given)) l.out l.at (events_text (events_of (from l.i given)))
-
-abbrev pub decreases-loop-i : goal.decreases-loop-i
-decreases-loop-i l = l.count - l.i
+    (l.at ≤ 65536) × Left l.initial.out l.start (events_text (events_of given)) l.out l.at (events_text (events_of (from l.i given)))

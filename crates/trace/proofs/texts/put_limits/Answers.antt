@@ -7,7 +7,7 @@ use Rattle.trace.proofs.Limits.{lines_at, lines_end}
 use Rattle.trace.proofs.texts.put_limits.Goals as goal
 
 pub loop-i-init : goal.loop-i-init
-loop-i-init c = (omega arith, omega arith, rw add-zero left_all)
+loop-i-init c = (omega arith, rw add-zero left_all)
 
 pub overflow_add-size : goal.overflow_add-size
 overflow_add-size c = omega (arith, c.put_limit-size.ensures.upper_bound)
@@ -16,14 +16,14 @@ pub loop-i-preserved : goal.loop-i-preserved
 loop-i-preserved c =
     let v = c.loop-i in
     let a = c.args in
-    let put = left_next (rw (lines_at a.a.now v.i (omega arith)) at v.invariant.2) c.put_limit-size.ensures.put in
-    (omega arith, omega (arith, c.put_limit-size.ensures.upper_bound), rw add_assoc at put)
+    let put = left_next (rw (lines_at a.a.now v.i (omega arith)) at v.invariant.1) c.put_limit-size.ensures.put in
+    (omega (arith, c.put_limit-size.ensures.upper_bound), rw add_assoc at put)
 
 pub returns : goal.returns
 returns c =
     let v = c.loop-i in
     let a = c.args.a.now in
     record {
-      put = left_done (rw (lines_end a v.i (omega arith) (omega arith)) at v.invariant.2) refl;
+      put = left_done (rw (lines_end a v.i (omega arith) (omega arith)) at v.invariant.1) refl;
       upper_bound = omega arith;
     }

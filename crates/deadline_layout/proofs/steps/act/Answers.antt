@@ -1,0 +1,18 @@
+-- `deadline_layout::steps::act` meets its contract: the numbers of the own entry, the row and the answer are those of the definition, and an
+-- accepted action is written. Assumes nothing.
+use Rattle.deadline_layout.proofs.Acts.{acted_accepted, acted_refused}
+use Rattle.deadline_layout.proofs.steps.act.Goals as goal
+
+pub returns-then-answer-eq0 : goal.returns-then-answer-eq0
+returns-then-answer-eq0 c =
+    let a = c.args in
+    acted_accepted a.table.now a.found a.action a.process a.time c.slot_of-slot.result c.slot_of-slot.ensures
+    c.transition_of-transition.ensures (rw (c.entry_in-own.ensures, c.scene_of.ensures) at c.judge-answer.ensures)
+    c.if-answer-eq0.true c.put_action.ensures
+
+pub returns-else-answer-eq0 : goal.returns-else-answer-eq0
+returns-else-answer-eq0 c =
+    let a = c.args in
+    acted_refused a.table.now a.found a.action a.process a.time c.slot_of-slot.result c.slot_of-slot.ensures
+    c.transition_of-transition.ensures (rw (c.entry_in-own.ensures, c.scene_of.ensures) at c.judge-answer.ensures)
+    c.if-answer-eq0.false

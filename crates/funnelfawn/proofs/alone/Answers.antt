@@ -1,5 +1,0 @@
--- `funnelfawn::alone` meets its contract. Assumes nothing.
-use Rattle.funnelfawn.proofs.alone.Goals as goal
-
-pub returns : goal.returns
-returns c = rw c.answer_with.ensures

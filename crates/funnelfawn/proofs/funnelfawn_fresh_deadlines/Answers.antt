@@ -1,6 +1,0 @@
--- `funnelfawn::funnelfawn_fresh_deadlines` meets its contract: it is that of `deadline_layout::fresh`, of the parameters that the numbers and the list make.
--- Assumes nothing.
-use Rattle.funnelfawn.proofs.funnelfawn_fresh_deadlines.Goals as goal
-
-pub returns : goal.returns
-returns c = rw c.parameters_with.ensures at c.fresh.ensures

@@ -1,5 +1,0 @@
--- `statistics::counting::with_accepted` meets its contract. Assumes nothing.
-use Rattle.statistics.proofs.counting.with_accepted.Goals as goal
-
-pub returns : goal.returns
-returns c = rw c.wrapping_add_u64.ensures.value
