@@ -24,7 +24,8 @@ use Rattle.model.specs.declared.Location.TheVariants as with
 use Rattle.deadlines.specs.Types.{DeadlineProcess}
 use Rattle.deadlines.specs.Types.{DeadlineState}
 use Rattle.deadlines.specs.Types.{DeadlineOutcome}
-use Rattle.deadlines.specs.Deadlines.{period, stage_with, first_of, dated_at, entry_with, entry_in, sound_with, answers_with, changed_with, moved_with, step_with}
+use Rattle.deadlines.specs.Deadlines.{period, stage_with, first_of, dated_at, entry_with, entry_in, sound_with, answers_with}
+use Rattle.deadlines.specs.Deadlines.{changed_with, moved_with, step_with}
 use Rattle.deadlines.specs.Matching.{matched, arrived_at, arrived}
 use Rattle.deadlines.specs.Looks.{dated_with}
 use Rattle.model.proofs.Rows.{row_leaves}

@@ -6,7 +6,8 @@ use Rattle.model.specs.declared.Parameters.{Parameters}
 use Rattle.model.specs.declared.Transition.{Transition}
 use Rattle.model.specs.Stages.{remainder, testing, setting, checking, entering, critical, resetting, leaving}
 use Rattle.model.specs.Acts.{wait_act}
-use Rattle.model.specs.States.{initial_over, no_parameters, parameters_stand, clock_stands, word_stands, limit_in, stage_of, timed, time_of, location_at, deadline_in, release_in}
+use Rattle.model.specs.States.{initial_over, no_parameters, parameters_stand, clock_stands, word_stands, limit_in, stage_of, timed, time_of}
+use Rattle.model.specs.States.{location_at, deadline_in, release_in}
 use Rattle.model.specs.Actions.{transition_of}
 use Rattle.model.specs.Answers.{answer_of, Due, none_due, first_by, critical_by, Sight, judged_by, fresh_over}
 use Rattle.deadlines.specs.declared.Period.{Period}

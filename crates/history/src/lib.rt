@@ -17,7 +17,7 @@ use machine::{fresh, step};
 use model::{Arrivals, Outcome, Parameters, Recorded, State, Statistics};
 use statistics::{new_statistics, record_step};
 
-// [8.20] [8.30] The kinds of a call: a step without a summary, or a recorded step with one that is lent.
+// [8.20] [8.30] The kinds of a call: one that counts nothing, and one that is lent a summary.
 #[derive(Clone, Copy)]
 enum Kind {
     Step,

@@ -11,7 +11,8 @@ use Rattle.model.specs.States.{parameters_of, entry, idle, location_at}
 use Rattle.model.specs.Acts.{wait_act, try_act, test_act, rem_act}
 use Rattle.workload.specs.declared.acts.Act.{Act}
 use Rattle.workload.specs.declared.kinds.Kind.{Kind}
-use Rattle.workload.specs.declared.kinds.Kind.TheVariants.{Idle, Accepted, Late, Unsound, Busy, BusyLate, BusyUnsound, Mixed, OutOfPlace, UnsoundFirst, Moving, MixedMoving, Selling, Unequal}
+use Rattle.workload.specs.declared.kinds.Kind.TheVariants.{Idle, Accepted, Late, Unsound, Busy, BusyLate, BusyUnsound, Mixed}
+use Rattle.workload.specs.declared.kinds.Kind.TheVariants.{OutOfPlace, UnsoundFirst, Moving, MixedMoving, Selling, Unequal}
 
 -- helper: the value of a digit; 0 of any other byte
 abbrev pub digit_of : ℕ → ℕ
