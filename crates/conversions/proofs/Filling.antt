@@ -1,5 +1,5 @@
--- What both conversions need: a wait at a state's own clock is accepted just where the state is sound, and what an array is that calls make, of
--- another one or of its places. Assumes nothing.
+-- What both conversions need: a wait at a state's own clock is accepted just where the state is sound, and what an array is that calls make of
+-- its places. Assumes nothing.
 use Rattle.std.proofs.Common.{◌≡◌, ◌↔◌, ℕ, zero, suc, ◌+◌, ◌≤◌, ◌<◌, true, List, [], ◌∷◌, length, get_or, take, drop, map}
 use Rattle.std.proofs.Common.{refl, sym, ap, ◌∙◌, arith, take_all}
 use mathlib.Core.Logic.{inl}
@@ -46,21 +46,6 @@ sound_iff_waits_with d = (
   λ e. by_test (sound_with d) (λ h. h) (λ h. absurd (omega (arith, rw (← exit_unsound_with d wait_act 0 d.clock h) at e))),
 )
 
--- An array that `map` makes of another, by calls that act as h
-
-module _ {F A B : Type 0} (g : Mut F (A × Unit {0}) B) (f : F) (h : A → B) (acts : ActsAs g f h) (xs : List A) (ys : List B) where
-  mapped_from : (i n : ℕ) → i + n ≤ length xs → i + n ≤ length ys → MapsFrom g f xs ys i n → take n (drop i ys) ≡ map h (take n (drop i xs))
-  mapped_from i zero a b m = refl
-  mapped_from i (suc n) a b m =
-      let called = acts m.1 m.2 m.0 m.5 in
-      let rest : MapsFrom g f xs ys (i + 1) n = rw called.0 at m.6 in
-      rw (drop_at ys i m.2 (omega arith), drop_at xs i m.1 (omega arith), m.4.0, m.3.0, called.1)
-      (ap (λ (l : List B). h m.1 ∷ l) (mapped_from (i + 1) n (omega arith) (omega arith) rest))
-
-  pub mapped : (n : ℕ) → length xs ≡ n → IsMapOf g f xs ys n → ys ≡ map h xs
-  mapped n size m =
-      sym (take_all n ys (omega (arith, m.long))) ∙ mapped_from 0 n (omega arith) (omega (arith, m.long)) m.each ∙ ap (map h) (take_all n xs (omega arith))
-
 -- An array that calls which act as h make of its places, where `made` has what h gives
 
 module _ {F B : Type 0} (g : Mut F (ℕ × Unit {0}) B) (f : F) (h : ℕ → B) (acts : ActsAs g f h) (made ys : List B) (d : B)
@@ -76,10 +61,3 @@ module _ {F B : Type 0} (g : Mut F (ℕ × Unit {0}) B) (f : F) (h : ℕ → B) 
   pub placed : (n : ℕ) → length made ≡ n → IsFromFnResult g f ys n → ys ≡ made
   placed n size m =
       sym (take_all n ys (omega (arith, m.long))) ∙ placed_from 0 n (omega arith) (omega (arith, m.long)) m.each ∙ take_all n made (omega arith)
-
--- The entries of both engines
-
-pub arrived_mapped : (k : Parameters) (es : List DeadlineProcess) → map (λ e. entry (arrived_at k.b e.location)) es ≡ arrived_from k es
-unfolding arrived_from
-arrived_mapped k [] = refl
-arrived_mapped k (e ∷ es) = ap (λ (l : List Process). entry (arrived_at k.b e.location) ∷ l) (arrived_mapped k es)

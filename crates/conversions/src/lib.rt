@@ -68,7 +68,10 @@ pub fn to_arrivals(state: State<Deadlines>) -> Outcome<Arrivals>
             parameters,
             clock,
             word,
-            processes: processes.map(|entry| entry_at(arrived(b, entry.location))),
+            // by an array's `map` this took twice the time: each entry then waits in an iterator of its own
+            processes: array::from_fn(|place: usize| {
+                entry_at(arrived(b, processes[place].location))
+            }),
         },
     }
 }

@@ -14,8 +14,10 @@ use Rattle.model.specs.Types.{Process}
 use Rattle.model.specs.Types.{State}
 use Rattle.model.specs.declared.Answer.{Answer}
 use Rattle.model.specs.Stages.{checking}
+use Rattle.model.specs.Readings.{over}
 use Rattle.model.specs.States.{idle, limit_in, sound_of, location_at}
 use Rattle.model.specs.Answers.{answer_of}
+use Rattle.model.proofs.Lists.{copied_whole}
 use Rattle.model.proofs.Soundness.{sound_numbers, sound_past}
 use Rattle.model.proofs.Tests.{and_true_iff}
 use Rattle.layout.specs.Encodings.{limit_place, header_length, table_length, header_numbers, b_in, c_in, table_parameters, clock_in, word_in}
@@ -53,6 +55,12 @@ use Rattle.deadline_layout.specs.Places.{entries_told, arrived_in, placed_with}
 use Rattle.deadline_layout.proofs.Encodings.{table-length, table_fits, entries_are, sound_is_table, table_is_sound}
 use Rattle.deadline_layout.proofs.Entries.{limit-at, entry_at, entries_size, each_told}
 use Rattle.deadline_layout.proofs.Saving.{EntriesWritten, header_written, entry_written}
+
+-- Copying
+
+-- of two lists of one length the one takes the place of the other
+pub all_copied : (from old : List ℕ) → length old ≡ length from → {new : List ℕ} → new ≡ over (take (length old) from) old → new ≡ from
+all_copied from old e is = is ∙ copied_whole from old e
 
 -- What stands before the entries is copied
 

@@ -1,7 +1,7 @@
 // From a table of `layout` to the deadline table that matches it, and back. What stands before the entries is the same in both: it is copied, with
 // as many numbers after it as there is room for, and over these the entries are written one by one. Of a copy of its 101 numbers alone the compiler
 // writes each out. No state is made of the numbers.
-ghost use Rattle.std.specs.Prelude.{◌≡◌, true, ◌<◌, length};
+ghost use Rattle.std.specs.Prelude.{◌≡◌, true, ◌<◌};
 ghost use Rattle.layout.specs.Encodings.{b_in, state_numbers, state_in};
 ghost use Rattle.model.specs.States.{sound_of};
 ghost use Rattle.deadlines.specs.Matching.{matched, arrived};
@@ -14,15 +14,7 @@ use deadlines::locations::dated;
 use layout::tables::{B, C, LIMITS};
 use model::Location;
 use rules::stages::{CHECKING, location_at};
-
-// It is not set into the two that call it, which saves 300 bytes.
-#[inline(never)]
-fn copy(to: &mut [u64], from: &[u64])
-    requires { length to.old ≡ length from.now }
-    ensures { to.new ≡ from.now }
-{
-    to.copy_from_slice(from);
-}
+use values::copy;
 
 // [12.140] The deadline table that matches a sound table: of one that is not sound a sum might wrap.
 pub(crate) fn put_dated(out: &mut [u64; TABLE], table: &[u64; arrivals::TABLE])

@@ -22,18 +22,20 @@ pub struct Run {
     pub answers: [Answer; BLOCK],
 }
 
-// [7.47] [21.110] Takes steps from a state on, as many as there are places for the answers.
-fn take_steps(state: &mut State<Arrivals>, steps: &Steps, answers: &mut [Answer])
-    ensures { executed_gave state.new (map answer_numbers answers.new)
-        ≡ executed_of state.old (steps_of steps.now) (map answer_numbers answers.old) }
+// [7.47] [21.50] [21.110] Takes steps from a state on, as many as there are places for the answers.
+fn take_steps(first: State<Arrivals>, steps: &Steps, answers: &mut [Answer]) -> State<Arrivals>
+    ensures { executed_gave result (map answer_numbers answers.new)
+        ≡ executed_of first (steps_of steps.now) (map answer_numbers answers.old) }
 {
     let count = steps.len().min(answers.len());
+    let mut state = first;
     for i in 0..count {
         let event = steps.at(i);
-        let outcome = step(*state, event.action, event.process, event.time);
+        let outcome = step(state, event.action, event.process, event.time);
         answers[i] = outcome.answer;
-        *state = outcome.state;
+        state = outcome.state;
     }
+    state
 }
 
 impl Run {
@@ -61,7 +63,7 @@ impl Run {
     {
         let left = steps.after(self.taken);
         let count = left.len().min(BLOCK);
-        take_steps(&mut self.state, &left, &mut self.answers);
+        self.state = take_steps(self.state, &left, &mut self.answers);
         self.taken += count;
         if count == 0 { None } else { Some(count) }
     }

@@ -17,7 +17,7 @@ use model::Parameters;
 use std::env::FillError;
 use std::rt::{Env, Files};
 use std::{fs, io};
-use streams::{KEPT, argument, read_text};
+use streams::{KEPT, argument, kept, read_text, tell};
 
 // Runs the first calls of a list, and prints the answer to the last of them, the summary that it left and the table.
 fn run_first(
@@ -28,10 +28,15 @@ fn run_first(
 ) -> io::Result<()>
     requires { wanted ≤ 64 }
 {
-    let rows = calls.map(|call| call.row);
-    let mut counts = calls.map(|call| call.counts);
-    let mut waited = calls.map(|call| call.waited);
+    let mut rows = [[0; 4]; 64];
+    let mut counts = [[0; 5]; 64];
+    let mut waited = [[0; 96]; 64];
     let mut answers = [[0; 3]; 64];
+    for i in 0..wanted {
+        rows[i] = calls[i].row;
+        counts[i] = calls[i].counts;
+        waited[i] = calls[i].waited;
+    }
     let outcome = history::run(
         parameters,
         &rows[..wanted],
@@ -54,8 +59,11 @@ fn record_first(
 ) -> io::Result<()>
     requires { wanted ≤ 64 }
 {
-    let acts = calls.map(|call| call.act());
+    let mut acts = [[0; 3]; 64];
     let mut answers = [[0; 3]; 64];
+    for (act, call) in acts.iter_mut().zip(&calls[..wanted]) {
+        *act = call.act();
+    }
     let recorded = history::run_recorded(parameters, &acts[..wanted], &mut answers);
     print_recorded(rt, parameters.n, recorded, &answers[..wanted])
 }
@@ -79,21 +87,16 @@ fn read_file(rt: &impl Files, name: &str, text: &mut [u8; KEPT]) -> io::Result<u
     read_text(&mut file, text)
 }
 
-// Tells a failure on standard error, after the name of what failed. Where that fails too, nothing is left to tell it on.
-fn tell(rt: &impl Eprint, name: &str, error: &io::Error) {
-    let _ = eprintln!(rt; "{name}: {error}");
-}
-
 // A file that cannot be read is told, and the others are run all the same.
 fn run_file<R: Files + Print + Eprint>(rt: &R, name: &str) -> io::Result<()> {
-    let mut text = [0; KEPT];
+    let mut text = kept();
     match read_file(rt, name, &mut text) {
         Ok(size) => {
             println!(rt; "{name}")?;
             run_list(rt, &text[..size])
         }
         Err(error) => {
-            tell(rt, name, &error);
+            tell(rt, name.as_bytes(), &error);
             Ok(())
         }
     }
@@ -105,7 +108,7 @@ fn run_argument<R: Env + Files + Print + Eprint>(rt: &R, place: usize) -> io::Re
     match argument(rt, place, &mut path) {
         Ok(name) => run_file(rt, name),
         Err(error) => {
-            tell(rt, "argument", &error);
+            tell(rt, b"argument", &error);
             Ok(())
         }
     }

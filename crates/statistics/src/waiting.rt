@@ -43,7 +43,7 @@ pub fn does_clear(action: u64) -> bool
 
 // [5.80] For how much longer processes have waited, by their stages. Looked up, a wait so far takes three instructions, whatever the
 // stage.
-fn gains_of(unused: u64) -> [u64; 8]
+pub fn gains_of(unused: u64) -> [u64; 8]
     ensures { result ≡ gains_of unused }
 {
     let mut gains = [0; 8];

@@ -59,14 +59,14 @@ pub fn number_at(s: &[u8], end: u8) -> Option<Parsed<u64>>
     number_below(s, NUMBER_BOUND, end)
 }
 
-// The line that s starts with is w.
+// The line that s starts with is w. Whether a line ends there is asked first: that costs less than the word, and tells most of the others.
 fn line_is(s: &[u8], w: &[u8]) -> bool
     ensures { result ≡ starts_with (w.now ++ (newline ∷ [])) s.now }
 {
-    if !s.starts_with(w) {
+    if s.len() <= w.len() {
         return false;
     }
-    w.len() < s.len() && s[w.len()] == b'\n'
+    s[w.len()] == b'\n' && s.starts_with(w)
 }
 
 // [6.70] The action whose word fills the line.

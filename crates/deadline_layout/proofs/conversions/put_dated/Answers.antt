@@ -1,8 +1,8 @@
 -- What the check of `conversions::put_dated` does not find alone. Assumes nothing.
 use mathlib.Core.Path.{◌≡◌}
 use borrow.Author.Rules.{rules}
-use lib.ListN.{length}
-use Rattle.deadline_layout.proofs.Converting.{dated_start, dated_written}
+use lib.ListN.{length, take}
+use Rattle.deadline_layout.proofs.Converting.{all_copied, dated_start, dated_written}
 use Rattle.deadline_layout.proofs.Saving.{all_written}
 use Rattle.deadline_layout.proofs.conversions.put_dated.Goals as goal
 
@@ -10,7 +10,7 @@ pub loop-i-init : goal.loop-i-init
 loop-i-init c =
     let long : length c.args.table.now ≡ 293 = search rules in
     let room : length c.args.out.now ≡ 389 = search rules in
-    dated_start c.args.table.now long c.requires c.args.out.now room c.copy.ensures
+    dated_start c.args.table.now long c.requires c.args.out.now room (all_copied c.args.table.now (take 293 c.args.out.now) (search rules) c.copy.ensures)
 
 pub loop-i-preserved : goal.loop-i-preserved
 loop-i-preserved c =

@@ -27,16 +27,16 @@ returns-then-count-eq0 c =
       block = record {
         ended = all;
         counted = omega arith;
-        state = none_taken r.state (map answer_numbers r.answers) none c.take_steps.ensures;
+        state = none_taken r.state (map answer_numbers r.answers) none c.take_steps-self.ensures;
       };
-      ran = ran_after r.state (map answer_numbers r.answers) c.take_steps.ensures c.after-left.ensures;
+      ran = ran_after r.state (map answer_numbers r.answers) c.take_steps-self.ensures c.after-left.ensures;
       counted = omega (arith, left);
     }
 
 pub returns-else-count-eq0 : goal.returns-else-count-eq0
 returns-else-count-eq0 c =
     let r = c.args.self.now in
-    let s = c.take_steps in
+    let s = c.take_steps-self in
     let k = c.min-count.result in
     let all = room_of c.args.steps.now in
     let left = room_after c.args.steps.now c.after-left.result r.taken c.after-left.ensures in
