@@ -41,7 +41,7 @@ pub fn does_clear(action: u64) -> bool
     action == TRY || action == CRIT || action == WITHDRAW
 }
 
-// [5.80] For how much longer processes have waited, by their stages. Looked up, a wait so far takes three instructions, whatever the
+// [5.80] For how much longer processes have waited, by their stages. Looked up, a wait so far takes five instructions, whatever the
 // stage.
 pub fn gains_of(unused: u64) -> [u64; 8]
     ensures { result ≡ gains_of unused }
