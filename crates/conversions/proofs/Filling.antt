@@ -1,17 +1,12 @@
 -- What both conversions need: a wait at a state's own clock is accepted just where the state is sound, and what an array is that calls make of
 -- its places. Assumes nothing.
-use Rattle.std.proofs.Common.{◌≡◌, ◌↔◌, ℕ, zero, suc, ◌+◌, ◌≤◌, ◌<◌, true, List, [], ◌∷◌, length, get_or, take, drop, map}
+use Rattle.std.proofs.Common.{◌≡◌, ◌↔◌, ℕ, zero, suc, ◌+◌, ◌≤◌, ◌<◌, true, List, ◌∷◌, length, get_or, take, drop}
 use Rattle.std.proofs.Common.{refl, sym, ap, ◌∙◌, arith, take_all}
 use mathlib.Core.Logic.{inl}
 use Rattle.std.specs.Fn.{Mut}
 use Rattle.std.specs.Iterator.{ActsAs}
-use Rattle.std.specs.Array.{MapsFrom, IsMapOf, IsFromFnResultFrom, IsFromFnResult}
-use Rattle.model.specs.declared.Parameters.{Parameters}
-use Rattle.model.specs.Types.{Process}
-use Rattle.model.specs.States.{entry}
+use Rattle.std.specs.Array.{IsFromFnResultFrom, IsFromFnResult}
 use Rattle.model.proofs.Lists.{drop_at}
-use Rattle.deadlines.specs.Types.{DeadlineProcess}
-use Rattle.deadlines.specs.Matching.{arrived_at, arrived_from}
 use Rattle.model.specs.Types.{State}
 use Rattle.model.specs.Acts.{wait_act}
 use Rattle.model.specs.States.{sound_of}
